@@ -1,0 +1,17 @@
+pub mod Examples
+pub mod Each
+pub mod Levels
+pub mod Rise
+pub mod Fits
+pub mod Scale
+pub mod Intervals
+pub mod Axes
+pub mod Scans
+pub mod Unique
+pub mod Bounds
+pub mod Owners
+pub mod Starts
+pub mod Mutual
+pub mod Order
+pub mod Lacks
+pub mod Siblings

@@ -1,0 +1,59 @@
+-- The location caches: the elements of depth 1 to 3, of the tree, and by the records alone.
+use Rattle.std.specs.Prelude.{ℕ, suc, ◌+◌, ◌*◌, ◌^◌, Bool, true, false, cond, ◌&&◌, List, [], ◌∷◌, ◌++◌, map, length, drop, nat_le, ◌==◌, Option, Some, None, filter, position, option_and_then}
+use Rattle.std.specs.Option.{unwrap_or}
+use Rattle.xml_model.specs.Records.{Token}
+use Rattle.xml_model.specs.Tree.{Thing, Entry, steps, is_child}
+
+abbrev pub is_element : Thing → Bool
+is_element (Thing.element t inside) = true
+is_element _ = false
+
+-- the elements of a depth, in document order
+abbrev pub at_depth : ℕ → List Entry → List Entry
+at_depth k es = filter (λ e. is_element e.what && length e.holders == k) es
+
+abbrev pub no_child : ℕ
+no_child = 0xFFFF_FFFF
+
+-- an element's place, and the position of its first child element among the elements one deeper
+abbrev pub first_child : List Entry → Entry → ℕ
+first_child deeper e = unwrap_or (position (λ c. is_child (steps e.path c.path)) deeper) no_child
+
+unfoldable pub level : ℕ → List Entry → List (ℕ × ℕ)
+level k es = map (λ e. (e.place, first_child (at_depth (suc k) es) e)) (at_depth k es)
+
+unfoldable pub last_level : List Entry → List ℕ
+last_level es = map (λ e. e.place) (at_depth 3 es)
+
+-- the same by the records alone
+abbrev pub is_tag : Token → Bool
+is_tag r = r.token == 0
+
+-- the indexes, from n on, of the tags of a depth
+abbrev pub if_tag_of : ℕ → ℕ → Token → List ℕ
+if_tag_of k n r = cond (is_tag r && r.depth == k) (n ∷ []) []
+
+abbrev pub tags_from : ℕ → ℕ → List Token → List ℕ
+tags_from k n [] = []
+tags_from k n (r ∷ rs) = if_tag_of k n r ++ tags_from k (suc n) rs
+
+-- the index, from n on, of the first tag before any of a depth of at most k
+abbrev pub child_here : ℕ → ℕ → Token → Option ℕ → Option ℕ
+child_here k n r o = cond (is_tag r) (cond (nat_le r.depth k) None (Some n)) o
+
+abbrev pub child_from : ℕ → ℕ → List Token → Option ℕ
+child_from k n [] = None
+child_from k n (r ∷ rs) = child_here k n r (child_from k (suc n) rs)
+
+abbrev pub child_position : ℕ → List Token → ℕ → ℕ
+child_position k rs r = unwrap_or (option_and_then (λ j. position (λ m. m == j) (tags_from (suc k) 0 rs)) (child_from k (suc r) (drop (suc r) rs))) no_child
+
+unfoldable pub record_level : ℕ → List Token → List (ℕ × ℕ)
+record_level k rs = map (λ r. (r, child_position k rs r)) (tags_from k 0 rs)
+
+unfoldable pub record_last_level : List Token → List ℕ
+record_last_level rs = tags_from 3 0 rs
+
+-- an entry as a word
+unfoldable pub level_word : ℕ × ℕ → ℕ
+level_word x = x.0 * 2 ^ 32 + x.1

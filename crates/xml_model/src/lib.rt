@@ -1,0 +1,151 @@
+//! What an XML document is: characters, items, nests, trees, records, contents, names and axes, as definitions that
+//! the contracts of every other crate cite, and the plain types that these crates share.
+//!
+//! The definitions stand in `specs/`; docs/DEFINITIONS.md reads them in plain words.
+#![tactic(auto)]
+
+use std::marker::Model;
+
+/// The kinds of node of the tree (XPath 1.0, section 5; namespace nodes are left out).
+#[derive(Clone, Copy, Debug, PartialEq, Eq)]
+pub enum Kind {
+    Root,
+    Element,
+    Attribute,
+    Text,
+    Comment,
+    Instruction,
+}
+
+/// The axes along which nodes are found (XPath 1.0, section 2.2; the namespace axis is left out). `Itself` is the
+/// axis `self`.
+#[derive(Clone, Copy, Debug, PartialEq, Eq)]
+pub enum Axis {
+    Child,
+    Descendant,
+    Parent,
+    Ancestor,
+    FollowingSibling,
+    PrecedingSibling,
+    Following,
+    Preceding,
+    Attribute,
+    Itself,
+    DescendantOrSelf,
+    AncestorOrSelf,
+}
+
+/// A test of an expanded name (XPath 1.0, section 2.3). An empty `uri` is no namespace.
+#[derive(Clone, Copy, Debug, PartialEq, Eq)]
+pub enum NameTest<'b> {
+    /// `*`
+    Any,
+    /// `prefix:*`, with the URI that the prefix is bound to.
+    AnyIn { uri: &'b str },
+    /// A name, with the URI of its prefix.
+    Named { uri: &'b str, local: &'b str },
+}
+
+/// A node test (XPath 1.0, section 2.3). `Target` passes the instructions of that target.
+#[derive(Clone, Copy, Debug, PartialEq, Eq)]
+pub enum NodeTest<'b> {
+    Node,
+    Text,
+    Comment,
+    Instruction,
+    Target(&'b str),
+    Name(NameTest<'b>),
+}
+
+/// The part of a record that is too wide for its field.
+#[derive(Clone, Copy, Debug, PartialEq, Eq)]
+pub enum Field {
+    Token,
+    Name,
+    Prefix,
+}
+
+/// Why a document is refused. `at` is a place: bytes from the start of the document, a byte order mark included.
+#[derive(Clone, Copy, Debug, PartialEq, Eq)]
+pub enum DocFault {
+    /// The bytes are not UTF-8; `at` is the length of the longest prefix that is.
+    Utf8 { at: u32 },
+    /// At `at` whole items end and no item begins (XML 1.0, productions 14 to 44).
+    Syntax { at: u32 },
+    /// The reference at `at` names no built-in entity (XML 1.0, section 4.6).
+    Entity { at: u32 },
+    /// The declared encoding, whose first letter stands at `at`, is neither `UTF-8` nor `US-ASCII`.
+    Encoding { at: u32 },
+    /// The items do not nest (XML 1.0, productions 1, 22, 27 and 39).
+    Nesting { at: u32 },
+    /// The element at `at` would stand inside 255 others.
+    Depth { at: u32 },
+    /// The record of the token at `at` has no room for it.
+    Width { field: Field, at: u32 },
+    /// The name at `at` repeats an earlier one of its tag (XML 1.0, section 3.1).
+    Twice { at: u32 },
+    /// The name at `at` offends Namespaces in XML 1.0.
+    Namespace { at: u32 },
+}
+
+/// A node of a document, by the index of its first record.
+#[derive(Clone, Copy, Debug, PartialEq, Eq)]
+pub struct Node {
+    pub kind: Kind,
+    pub at: u32,
+}
+
+/// A range of the document's bytes, from `start` up to `end`, which is left out.
+#[derive(Clone, Copy, Debug, PartialEq, Eq)]
+pub struct Span {
+    pub start: u32,
+    pub end: u32,
+}
+
+/// Memory was not to be had.
+#[derive(Clone, Copy, Debug, PartialEq, Eq)]
+pub struct NoMemory;
+
+/// A text, which contracts see as the list of its code points.
+#[derive(Drop)]
+pub struct Text {
+    pub held: String,
+}
+
+impl Model for Text {
+    ghost use Rattle.std.specs.Prelude.{List, ℕ, string_bytes};
+    ghost use Rattle.std.specs.Str.{chars};
+
+    ghost Value = { List ℕ };
+
+    ghost view = { λ t. chars (string_bytes t.held) };
+}
+
+/// Bytes, which contracts see as a list.
+#[derive(Drop)]
+pub struct Bytes {
+    pub held: Vec<u8>,
+}
+
+impl Model for Bytes {
+    ghost use Rattle.std.specs.Prelude.{List, ℕ};
+
+    ghost Value = { List ℕ };
+
+    ghost view = { λ b. b.held.items };
+}
+
+/// Nodes of one document, which contracts see as a list.
+#[derive(Drop)]
+pub struct NodeList {
+    pub held: Vec<Node>,
+}
+
+impl Model for NodeList {
+    ghost use Rattle.std.specs.Prelude.{List};
+    ghost use Rattle.xml_model.specs.declared.Node.{Node};
+
+    ghost Value = { List Node };
+
+    ghost view = { λ n. n.held.items };
+}
