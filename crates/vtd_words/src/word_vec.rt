@@ -1,0 +1,185 @@
+//! The words of a document: the trait through which they are read, and the lists that hold them.
+
+ghost use Rattle.std.specs.Prelude.{◌≡◌, ℕ, ◌+◌, ◌-◌, ◌^◌, ◌<◌, ◌≤◌, List, [], ◌∷◌, ◌++◌, length, slice_index, vec_len, vec_capacity, OnOk, OnErr};
+ghost use Rattle.vtd_words.specs.Lists.{Lists, list_of, with_word, HasRoom, room_of, less_one, TakesWord, none};
+
+use std::alloc::Global;
+use std::marker::Model;
+use xml_model::NoMemory;
+
+/// The lists of a document's words: its records, and the elements of depth 1, 2 and 3.
+#[derive(Clone, Copy, Debug, PartialEq, Eq)]
+pub enum Part {
+    Records,
+    Level1,
+    Level2,
+    Level3,
+}
+
+/// How many words each part has, or is to have room for.
+#[derive(Clone, Copy, Debug, PartialEq, Eq)]
+pub struct Counts {
+    pub records: u32,
+    pub level1: u32,
+    pub level2: u32,
+    pub level3: u32,
+}
+
+/// Words that can be read: those of a document in memory, or of an index file.
+pub trait Words {
+    ghost lists: { Self → Lists };
+
+    /// The number of words of a part.
+    fn len(&self, part: Part) -> u32
+        ensures { result ≡ length (list_of part (lists self.now)) };
+
+    /// The word of a part at an index, which is below the part's length.
+    fn word(&self, part: Part, at: u32) -> u64
+        requires { at < length (list_of part (lists self.now)) }
+        ensures { result ≡ slice_index (list_of part (lists self.now)) at };
+}
+
+/// A list that keeps room for further words.
+#[derive(Drop)]
+struct Lane<T> {
+    items: Vec<T>,
+    room: usize,
+    ghost has_room: { vec_len items + room ≤ vec_capacity items },
+    ghost few: { vec_len items < 2 ^ 32 },
+}
+
+impl<T: Drop> Lane<T> {
+    fn new(alloc: Global) -> Lane<T>
+        ensures items { result.items.items ≡ [] }
+        ensures room { result.room ≡ 0 }
+    {
+        Lane {
+            items: Vec::new(alloc),
+            room: 0,
+        }
+    }
+
+    /// Takes the memory for further words, without counting it as room yet.
+    fn grow(&mut self, count: u32) -> Result<(), NoMemory>
+        ensures items { self.new.items.items ≡ self.old.items.items }
+        ensures room { self.new.room ≡ self.old.room }
+        ensures ok { OnOk result (vec_len self.new.items + count ≤ vec_capacity self.new.items) }
+    {
+        if self.items.reserve(count as usize).is_err() {
+            return Err(NoMemory);
+        }
+        Ok(())
+    }
+
+    /// Counts memory that was taken as room.
+    fn settle(&mut self, count: u32)
+        requires { vec_len self.old.items + count ≤ vec_capacity self.old.items }
+        ensures items { self.new.items.items ≡ self.old.items.items }
+        ensures kept { self.old.room ≤ self.new.room }
+        ensures counted { count ≤ self.new.room }
+    {
+        self.room = self.room.max(count as usize);
+    }
+
+    fn push(&mut self, word: T)
+        requires room { 0 < self.old.room }
+        requires few { vec_len self.old.items < 2 ^ 32 - 1 }
+        ensures items { self.new.items.items ≡ self.old.items.items ++ word ∷ [] }
+        ensures room { self.new.room ≡ self.old.room - 1 }
+    {
+        if self.items.push(word).is_err() {
+            unreachable!()
+        }
+        self.room -= 1;
+    }
+}
+
+/// The words of a document in memory. Contracts see its lists and the spare room of each.
+#[derive(Drop)]
+pub struct WordVec {
+    records: Lane<u64>,
+    level1: Lane<u64>,
+    level2: Lane<u64>,
+    level3: Lane<u32>,
+}
+
+impl Model for WordVec {
+    ghost use Rattle.vtd_words.specs.Lists.{Growing};
+
+    ghost Value = { Growing };
+
+    ghost view = { λ w. record {
+        lists = record { records = w.records.items.items; level1 = w.level1.items.items; level2 = w.level2.items.items; level3 = w.level3.items.items };
+        room = record { records = w.records.room; level1 = w.level1.room; level2 = w.level2.room; level3 = w.level3.room } } };
+}
+
+impl WordVec {
+    /// No words, and no room for any. It takes no memory.
+    pub fn new(alloc: Global) -> WordVec
+        ensures { result.lists ≡ none }
+    {
+        WordVec {
+            records: Lane::new(alloc),
+            level1: Lane::new(alloc),
+            level2: Lane::new(alloc),
+            level3: Lane::new(alloc),
+        }
+    }
+
+    /// Makes room for so many further words of each part. After `NoMemory` the lists and their room are as before.
+    pub fn reserve(&mut self, counts: Counts) -> Result<(), NoMemory>
+        ensures lists { self.new.lists ≡ self.old.lists }
+        ensures room { OnOk result (HasRoom counts self.new.room) }
+        ensures err { OnErr result (self.new ≡ self.old) }
+    {
+        self.records.grow(counts.records)?;
+        self.level1.grow(counts.level1)?;
+        self.level2.grow(counts.level2)?;
+        self.level3.grow(counts.level3)?;
+        self.records.settle(counts.records);
+        self.level1.settle(counts.level1);
+        self.level2.settle(counts.level2);
+        self.level3.settle(counts.level3);
+        Ok(())
+    }
+
+    /// Appends a word to a part and takes one from its room. It cannot fail: the part has room, and fewer than
+    /// `u32::MAX` words; a word of the third level is below 2 to the power 32.
+    pub fn push(&mut self, part: Part, word: u64)
+        requires room { 0 < room_of part self.old.room }
+        requires few { length (list_of part self.old.lists) < 2 ^ 32 - 1 }
+        requires small { TakesWord part word }
+        ensures lists { self.new.lists ≡ with_word part word self.old.lists }
+        ensures room { self.new.room ≡ less_one part self.old.room }
+    {
+        match part {
+            Part::Records => self.records.push(word),
+            Part::Level1 => self.level1.push(word),
+            Part::Level2 => self.level2.push(word),
+            Part::Level3 => self.level3.push(word as u32),
+        }
+    }
+}
+
+impl Words for WordVec {
+    ghost lists = { λ w. w.lists };
+
+    fn len(&self, part: Part) -> u32 {
+        match part {
+            Part::Records => self.records.items.len() as u32,
+            Part::Level1 => self.level1.items.len() as u32,
+            Part::Level2 => self.level2.items.len() as u32,
+            Part::Level3 => self.level3.items.len() as u32,
+        }
+    }
+
+    fn word(&self, part: Part, at: u32) -> u64 {
+        let at = at as usize;
+        match part {
+            Part::Records => self.records.items[at],
+            Part::Level1 => self.level1.items[at],
+            Part::Level2 => self.level2.items[at],
+            Part::Level3 => self.level3.items[at] as u64,
+        }
+    }
+}
