@@ -1,5 +1,5 @@
 -- Each node's records are one part of all records, and where that part ends is seen from the levels of the records.
-use Rattle.std.proofs.Common.{◌≡◌, ℕ, zero, suc, ◌+◌, ◌<◌, ◌≤◌, Bool, true, false, cond, List, [], ◌∷◌, ◌++◌, map, refl, ap, sym, ◌∙◌, arith, subst, length, append_assoc, append-nil, add-one, add-zero, length-append, IfSome, ◌&&◌, ◌||◌, ◌==◌, eq-eqb, ne_eqb}
+use Rattle.std.proofs.Common.{◌≡◌, ℕ, zero, suc, ◌+◌, ◌<◌, ◌≤◌, true, false, cond, List, [], ◌∷◌, ◌++◌, map, refl, ap, sym, ◌∙◌, arith, subst, length, append_assoc, append-nil, add-one, add-zero, length-append, IfSome, ◌||◌, ◌==◌, eq-eqb, ne_eqb}
 use Rattle.std.proofs.lemmas.Bool.{and_right}
 use Rattle.std.specs.Prelude.{⊤}
 use Rattle.std.specs.List.{AllByRecursion as Each}
@@ -9,26 +9,16 @@ use Rattle.xml_model.specs.Nest.{Forest, done, single, empty, element}
 use Rattle.xml_model.specs.Records.{Token, declares, declaration_attributes, attribute_tokens, attributes_tokens, attributes_place, tag_tokens, leaf_tokens, run_tokens, depth_at, tokens, past_run, past_leaf, past_empty, past_start, past_element, document, records}
 use Rattle.xml_model.specs.Tree.{Holder, held, Step, Entry, Here, Thing, attributes, attribute_entry, nodes, all, at_first, leaf_node, text_node, begins_run, run, after_leaf, inside_of, behind, element_past, element_entry, tag_attributes, under}
 use Rattle.xml_model.proofs.Each.{each_append, each_option, each_map, if_some_cond, if_some_second}
+pub use Rattle.xml_model.specs.Scan.{is_run}
+pub use Rattle.xml_model.specs.Laws.{records_of}
 use Rattle.xml_model.proofs.Levels.{level_of, level_at, Shallow, FromLevel, forest_from, attributes_from}
-
--- the records of what stands at a level and at a place
-abbrev pub own : Thing → ℕ → ℕ → List Token
-own (Thing.root first f) l at = document ∷ tokens 0 first f
-own (Thing.element t inside) l at = tag_tokens l at t ++ tokens (suc l) (past_start at t) inside
-own (Thing.attribute a) l at = attribute_tokens (depth_at l) at a
-own (Thing.text xs) l at = run_tokens l at xs
-own (Thing.comment cs) l at = leaf_tokens l at (Leaf.comment cs)
-own (Thing.instruction i) l at = leaf_tokens l at (Leaf.instruction i)
 
 -- the list is empty, or its first record is below the level
 abbrev pub Below : ℕ → List Token → Type 0
 Below l [] = ⊤
 Below l (r ∷ rs) = level_of r < l
 
--- a record of a text or a CDATA section at a level, and a list that begins with none
-abbrev pub is_run : ℕ → Token → Bool
-is_run l r = (r.token == 5 || r.token == 11) && level_of r == l
-
+-- a list that begins with no record of a run at a level
 abbrev pub NoRun : ℕ → List Token → Type 0
 NoRun l [] = ⊤
 NoRun l (r ∷ rs) = is_run l r ≡ false
@@ -42,9 +32,9 @@ Ends _ l at rest = ⊤
 pub record Fits (whole : List Token) (what : Thing) (l at place past : ℕ) : Type 0 where
   pub front : List Token
   pub rest : List Token
-  pub split : whole ≡ front ++ own what l at ++ rest
+  pub split : whole ≡ front ++ records_of what l at ++ rest
   pub begins : length front ≡ place
-  pub stops : place + length (own what l at) ≡ past
+  pub stops : place + length (records_of what l at) ≡ past
   pub ends : Ends what l at rest
 
 abbrev pub FitsIn : List Token → Entry → Type 0

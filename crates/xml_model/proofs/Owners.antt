@@ -6,20 +6,14 @@ use Rattle.xml_model.specs.Items.{Attribute, Tag, Leaf, written_attribute}
 use Rattle.xml_model.specs.Nest.{Forest, done, single, empty, element}
 use Rattle.xml_model.specs.Records.{Token, named, document, records, declares, attribute_tokens, attributes_tokens, attributes_place, tag_tokens, leaf_tokens, tokens, past_leaf, past_empty, past_start, past_element}
 use Rattle.xml_model.specs.Tree.{Step, Entry, Holder, Here, attributes, attribute_entry, nodes, all, at_first, leaf_node, begins_run, run, after_leaf, inside_of, behind, element_entry, tag_attributes, under, held}
+pub use Rattle.xml_model.specs.Scan.{tag_or, last_tag}
+pub use Rattle.xml_model.specs.Laws.{holder_place}
 use Rattle.xml_model.proofs.Each.{each_append, each_option, each_map, each_left, if_some_cond, if_some_second}
 use Rattle.xml_model.proofs.Levels.{level_of, Shallow, FromLevel, leaf_from, forest_from, attributes_from, deeper}
 use Rattle.xml_model.proofs.Fits.{first_part, second_part, behind_length}
 use Rattle.xml_model.proofs.Intervals.{own_nodes, empty_as_element}
 
--- the index, from n on, of the last starting tag of a depth below l, or else d
-abbrev pub tag_or : ℕ → ℕ → ℕ → Token → ℕ
-tag_or l n d r = cond (r.token == 0 && nat_lt r.depth l) n d
-
-abbrev pub last_tag : ℕ → ℕ → ℕ → List Token → ℕ
-last_tag l n d [] = d
-last_tag l n d (r ∷ rs) = last_tag l (suc n) (tag_or l n d r) rs
-
-last_tag_append : (a b : List Token) (l n d : ℕ) → last_tag l n d (a ++ b) ≡ last_tag l (n + length a) (last_tag l n d a) b
+pub last_tag_append : (a b : List Token) (l n d : ℕ) → last_tag l n d (a ++ b) ≡ last_tag l (n + length a) (last_tag l n d a) b
 last_tag_append [] b l n d = ap (λ m. last_tag l m d b) (sym (add-zero n))
 last_tag_append (r ∷ a) b l n d = last_tag_append a b l (suc n) (tag_or l n d r) ∙ ap (λ m. last_tag l m (last_tag l (suc n) (tag_or l n d r) a) b) (omega arith)
 
@@ -37,10 +31,6 @@ last_tag_from (r ∷ rs) l n d h = ap (λ m. last_tag l (suc n) m rs) (no_tag l 
 
 past_from : (front more : List Token) (l o : ℕ) → last_tag l 0 0 front ≡ o → FromLevel l more → last_tag l 0 0 (front ++ more) ≡ o
 past_from front more l o e h = last_tag_append front more l 0 0 ∙ last_tag_from more l (0 + length front) (last_tag l 0 0 front) h ∙ e
-
-abbrev pub holder_place : List Holder → ℕ
-holder_place [] = 0
-holder_place (x ∷ xs) = x.place
 
 pub record Owned (whole : List Token) (holders : List Holder) (place : ℕ) : Type 0 where
   pub front : List Token

@@ -5,15 +5,10 @@ use Rattle.std.specs.List.{AllByRecursion as Each}
 use Rattle.xml_model.specs.Nest.{Forest}
 use Rattle.xml_model.specs.Records.{Token, records, tokens, named, attributes_tokens, attributes_place, past_start, run_tokens}
 use Rattle.xml_model.specs.Tree.{Thing, all}
-pub use Rattle.xml_model.specs.Scan.{end_from}
+pub use Rattle.xml_model.specs.Scan.{end_from, run_from}
 use Rattle.xml_model.proofs.Each.{each_more}
 use Rattle.xml_model.proofs.Levels.{level_of, FromLevel, Shallow}
-use Rattle.xml_model.proofs.Fits.{Fits, FitsIn, Below, is_run, NoRun, own, second_part, each_fits}
-
--- the index, from n on, of the first record that is not of a run
-abbrev pub run_from : ℕ → ℕ → List Token → ℕ
-run_from l n [] = n
-run_from l n (r ∷ rs) = cond (is_run l r) (run_from l (suc n) rs) n
+use Rattle.xml_model.proofs.Fits.{Fits, FitsIn, Below, is_run, NoRun, records_of, second_part, each_fits}
 
 end_past : (l n : ℕ) (body rest : List Token) → FromLevel (suc l) body → Below (suc l) rest → end_from l n (body ++ rest) ≡ n + length body
 end_past l n [] [] h b = omega arith
@@ -33,7 +28,7 @@ EndIs whole (Thing.text xs) l place past = past ≡ run_from l place (drop place
 EndIs whole (Thing.attribute a) l place past = past ≡ place + 2
 EndIs whole (Thing.instruction i) l place past = past ≡ place + 2
 EndIs whole (Thing.comment cs) l place past = past ≡ place + 1
-EndIs whole (Thing.root first f) l place past = past ≡ place + length (own (Thing.root first f) l 0)
+EndIs whole (Thing.root first f) l place past = past ≡ place + length (records_of (Thing.root first f) l 0)
 
 end_is : (whole : List Token) (what : Thing) (l at place past : ℕ) → Fits whole what l at place past → EndIs whole what l place past
 end_is whole (Thing.element t inside) l at place past h =

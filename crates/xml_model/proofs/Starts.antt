@@ -1,5 +1,5 @@
 -- The places of the nodes, by a scan of the records.
-use Rattle.std.proofs.Common.{◌≡◌, ℕ, zero, suc, ◌+◌, ◌<◌, ◌≤◌, Bool, true, false, cond, List, [], ◌∷◌, ◌++◌, map, refl, ap, ap₂, sym, ◌∙◌, arith, le_refl, length, length-append, append_assoc, append-nil, add-one, add-zero, Option, Some, None, not, ◌&&◌, ◌||◌, ◌==◌, nat_lt, lt-ltb, eq-eqb, ne_eqb}
+use Rattle.std.proofs.Common.{◌≡◌, ℕ, zero, suc, ◌+◌, ◌<◌, ◌≤◌, Bool, true, false, cond, List, [], ◌∷◌, ◌++◌, map, refl, ap, ap₂, sym, ◌∙◌, arith, le_refl, length, length-append, append_assoc, append-nil, add-one, add-zero, Option, Some, None, not, ◌&&◌, ◌||◌, nat_lt, lt-ltb, eq-eqb, ne_eqb}
 use Rattle.std.specs.Prelude.{⊤, option_to_list}
 use Rattle.std.specs.List.{cons_option, list_any}
 use Rattle.std.proofs.lemmas.List.{map-append}
@@ -8,36 +8,11 @@ use Rattle.xml_model.specs.Items.{Attribute, Tag, Leaf, written_attribute, befor
 use Rattle.xml_model.specs.Nest.{Forest, done, single, empty, element}
 use Rattle.xml_model.specs.Records.{Token, plain, named, declares, declaration_attributes, attributes_tokens, attributes_place, declaration_part_tokens, tag_tokens, leaf_tokens, depth_at, tokens, past_leaf, past_empty, past_start, past_element}
 use Rattle.xml_model.specs.Tree.{Step, Entry, Holder, Here, Thing, attributes, nodes, all, at_first, leaf_node, text_node, begins_run, has_content, is_text, run, after_leaf, inside_of, behind, element_past, element_entry, tag_attributes, under, held, one_if}
+pub use Rattle.xml_model.specs.Scan.{is_start_token, is_text_token, run_has, joins_prev, begins_node, next_prev, starts}
 use Rattle.xml_model.proofs.Levels.{level_of, level_at, Shallow}
-use Rattle.xml_model.proofs.Fits.{Below, is_run, below_no_run, pieces_below}
+use Rattle.xml_model.proofs.Fits.{Below, below_no_run, pieces_below}
 use Rattle.xml_model.proofs.Rise.{place}
 use Rattle.xml_model.proofs.Intervals.{own_nodes}
-
-abbrev pub is_start_token : ℕ → Bool
-is_start_token n = n == 0 || n == 2 || n == 6 || n == 7
-
-abbrev pub is_text_token : ℕ → Bool
-is_text_token n = n == 5 || n == 11
-
--- whether the run that the records begin with has a byte
-abbrev pub run_has : ℕ → List Token → Bool
-run_has l [] = false
-run_has l (r ∷ rs) = is_run l r && (nat_lt 0 r.len || run_has l rs)
-
--- The level of the record before, where it is of a text or a CDATA section.
-abbrev pub joins_prev : Option ℕ → ℕ → Bool
-joins_prev None l = false
-joins_prev (Some m) l = m == l
-
-abbrev pub begins_node : Option ℕ → Token → List Token → Bool
-begins_node prev r rs = is_start_token r.token || (is_text_token r.token && not (joins_prev prev (level_of r)) && run_has (level_of r) (r ∷ rs))
-
-abbrev pub next_prev : Token → Option ℕ
-next_prev r = cond (is_text_token r.token) (Some (level_of r)) None
-
-abbrev pub starts : ℕ → Option ℕ → List Token → List ℕ
-starts n prev [] = []
-starts n prev (r ∷ rs) = cond (begins_node prev r rs) (n ∷ []) [] ++ starts (suc n) (next_prev r) rs
 
 -- a text has a byte, and no CDATA section stands outside the root element
 abbrev pub ProperLeaf : ℕ → Leaf → Type 0

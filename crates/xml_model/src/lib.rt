@@ -6,6 +6,8 @@
 
 use std::marker::Model;
 
+pub mod laws;
+
 /// The kinds of node of the tree (XPath 1.0, section 5; namespace nodes are left out).
 #[derive(Clone, Copy, Debug, PartialEq, Eq)]
 pub enum Kind {

@@ -1,0 +1,119 @@
+-- What the public functions of module `laws` promise: laws over the definitions, each of every nest or of every two of its nodes.
+-- These words are this project's own.
+use Rattle.std.specs.Prelude.{◌≡◌, ℕ, suc, ◌+◌, ◌<◌, Bool, true, false, ◌&&◌, ◌||◌, List, [], ◌∷◌, ◌++◌, length, nat_lt, nat_le, filter, ◌==◌, Some, Contains}
+use Rattle.xml_model.specs.declared.Axis.{Axis}
+use Rattle.xml_model.specs.declared.Axis.TheVariants as axes
+use Rattle.xml_model.specs.Items.{Leaf, Item, begins_at}
+use Rattle.xml_model.specs.Nest.{Forest}
+use Rattle.xml_model.specs.Records.{Token, document, records, depth_at, tag_tokens, attribute_tokens, run_tokens, leaf_tokens, tokens, past_start}
+use Rattle.xml_model.specs.Tree.{Thing, Entry, is_reverse, reverse_if, Holder, kind_of, all, before, steps, is_self, is_some_steps, on_axis}
+use Rattle.xml_model.specs.Scan.{level_of, record_at, holder_by_scan, kind_of_token}
+
+-- a node of the tree of a nest whose first item stands at first
+abbrev pub IsNode : Forest → ℕ → Entry → Type 0
+IsNode nest first e = Contains (all nest first) e
+
+-- the records of what stands at a level and at a place: its own, and those of all that is in it
+abbrev pub records_of : Thing → ℕ → ℕ → List Token
+records_of (Thing.root first f) l at = document ∷ tokens 0 first f
+records_of (Thing.element t inside) l at = tag_tokens l at t ++ tokens (suc l) (past_start at t) inside
+records_of (Thing.attribute a) l at = attribute_tokens (depth_at l) at a
+records_of (Thing.text xs) l at = run_tokens l at xs
+records_of (Thing.comment cs) l at = leaf_tokens l at (Leaf.comment cs)
+records_of (Thing.instruction i) l at = leaf_tokens l at (Leaf.instruction i)
+
+-- all records are those before the node's, the node's, and those behind them; and the node's places say so
+pub record RecordsStand (whole : List Token) (e : Entry) : Type 0 where
+  pub front : List Token
+  pub rest : List Token
+  pub split : whole ≡ front ++ records_of e.what (length e.holders) e.start ++ rest
+  pub begins : length front ≡ e.place
+  pub stops : e.place + length (records_of e.what (length e.holders) e.start) ≡ e.past
+
+-- what the first record of a node shows: its level is the number of elements that hold the node, its type tells the kind
+pub record FirstRecordShows (whole : List Token) (e : Entry) : Type 0 where
+  pub within : e.place < length whole
+  pub level : level_of (record_at e.place whole) ≡ length e.holders
+  pub kind : kind_of_token (record_at e.place whole).token ≡ Some (kind_of e.what)
+
+-- the node y stands under x: its first record is one of those of x, but not the first
+abbrev pub is_under : Entry → Entry → Bool
+is_under x y = nat_lt x.place y.place && nat_lt y.place x.past
+
+-- of two nodes, whether y is under x, behind x, or x itself, by paths on the left and by places on the right
+pub record PlacesTell (x y : Entry) : Type 0 where
+  pub under : is_some_steps (steps x.path y.path) ≡ is_under x y
+  pub order : before x.path y.path ≡ nat_lt x.place y.place
+  pub same : is_self (steps x.path y.path) ≡ (x.place == y.place)
+
+-- what is a child where it stands: all but the root and the attributes
+abbrev pub is_child_thing : Thing → Bool
+is_child_thing (Thing.root first f) = false
+is_child_thing (Thing.attribute a) = false
+is_child_thing _ = true
+
+-- an attribute
+abbrev pub is_attribute_thing : Thing → Bool
+is_attribute_thing (Thing.attribute a) = true
+is_attribute_thing _ = false
+
+-- the root
+abbrev pub is_root_thing : Thing → Bool
+is_root_thing (Thing.root first f) = true
+is_root_thing _ = false
+
+-- how many nodes a node stands under: the root, and the elements that hold it
+abbrev pub nodes_above : Entry → ℕ
+nodes_above e = above e.what (length e.holders)
+  where
+    above : Thing → ℕ → ℕ
+    above (Thing.root first f) n = 0
+    above _ n = suc n
+
+-- the node y stands directly under x
+abbrev pub is_one_under : Entry → Entry → Bool
+is_one_under x y = is_under x y && nodes_above y == suc (nodes_above x)
+
+-- the place of the nearest element that holds a node, and 0, the root's, where none does
+abbrev pub holder_place : List Holder → ℕ
+holder_place [] = 0
+holder_place (x ∷ xs) = x.place
+
+-- two children of one parent
+abbrev pub same_parent : Entry → Entry → Bool
+same_parent x y = is_child_thing x.what && is_child_thing y.what && holder_place x.holders == holder_place y.holders
+
+-- whether y is on an axis of x, by places
+abbrev pub by_places : Axis → Entry → Entry → Bool
+by_places axes.Itself x y = x.place == y.place
+by_places axes.Parent x y = is_one_under y x
+by_places axes.Ancestor x y = is_under y x
+by_places axes.AncestorOrSelf x y = y.place == x.place || is_under y x
+by_places axes.Child x y = is_one_under x y && is_child_thing y.what
+by_places axes.Attribute x y = is_one_under x y && is_attribute_thing y.what
+by_places axes.Descendant x y = is_under x y && is_child_thing y.what
+by_places axes.DescendantOrSelf x y = x.place == y.place || (is_under x y && is_child_thing y.what)
+by_places axes.Following x y = nat_le x.past y.place && is_child_thing y.what
+by_places axes.Preceding x y = nat_le y.past x.place && is_child_thing y.what
+by_places axes.FollowingSibling x y = same_parent x y && nat_lt x.place y.place
+by_places axes.PrecedingSibling x y = same_parent x y && nat_lt y.place x.place
+
+-- of a child x of z, whether y is a later sibling, or an earlier one: a child of z too, with a higher place, or a lower one
+pub record SiblingsTell (z x y : Entry) : Type 0 where
+  pub following : on_axis axes.FollowingSibling x.path y.path ≡ (by_places axes.Child z y && nat_lt x.place y.place)
+  pub preceding : on_axis axes.PrecedingSibling x.path y.path ≡ (by_places axes.Child z y && nat_lt y.place x.place)
+
+-- a node other than the root has a parent, whose first record the scan backwards finds
+pub record HasParent (nest : Forest) (first : ℕ) (x : Entry) : Type 0 where
+  pub parent : Entry
+  pub there : IsNode nest first parent
+  pub above : on_axis axes.Parent x.path parent.path ≡ true
+  pub place : parent.place ≡ holder_by_scan x.place (records nest first)
+
+-- the nodes on an axis of x, in axis order, by places
+abbrev pub list_by_places : Axis → Entry → List Entry → List Entry
+list_by_places axis x es = reverse_if (is_reverse axis) (filter (by_places axis x) es)
+
+-- at most one item begins at a place
+abbrev pub OneItem : List ℕ → Type 0
+OneItem bytes = (p : ℕ) (i j : Item) → begins_at bytes p i ≡ true → begins_at bytes p j ≡ true → i ≡ j

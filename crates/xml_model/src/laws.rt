@@ -1,0 +1,133 @@
+//! Laws over the definitions. Each function does nothing; its contract is the law, which the check proves. Other crates
+//! cite the lemmas of `proofs/NodeLaws.antt`, which say the same. `first` is the place of the first item.
+
+ghost use Rattle.std.specs.Prelude.{◌≡◌, ℕ, List, true, false, map, not, ◌&&◌, ◌==◌, ◌≤◌, is_some, IsUtf8};
+ghost use Rattle.std.specs.List.{list_all};
+ghost use Rattle.std.specs.List.Sorted.{IsStrictlyIncreasing};
+ghost use Rattle.std.specs.Option.{option_map};
+ghost use Rattle.xml_model.specs.declared.Axis.{Axis};
+ghost use Rattle.xml_model.specs.declared.Axis.TheVariants as axes;
+ghost use Rattle.xml_model.specs.Items.{Item, meets, walk, walk_to_end};
+ghost use Rattle.xml_model.specs.Nest.{Forest, flat, is_nest};
+ghost use Rattle.xml_model.specs.Records.{records};
+ghost use Rattle.xml_model.specs.Tree.{Entry, all, at_place, axis_list, kind_of, on_axis};
+ghost use Rattle.xml_model.specs.Scan.{begins_by_scan, end_by_scan, holder_by_scan, kind_by_scan, past_by_scan, starts_by_scan, EndsAt};
+ghost use Rattle.xml_model.specs.Accepted.{Accepted, AcceptedTo, IsDocument};
+ghost use Rattle.xml_model.specs.Laws.{by_places, is_root_thing, list_by_places, FirstRecordShows, HasParent, IsNode, OneItem, PlacesTell, RecordsStand, SiblingsTell};
+
+/// A list of items is the print of at most one nest.
+pub fn one_nest()
+    ensures { (f g : Forest) → flat f ≡ flat g → f ≡ g }
+{}
+
+/// Each item of a walk meets its row of the item table, so that no text is empty.
+pub fn items_meet()
+    ensures { (bytes : List ℕ) (items : List Item) → walk bytes items ≡ true → list_all meets items ≡ true }
+{}
+
+/// The same of the items of a document.
+pub fn document_items_meet()
+    ensures { (bytes : List ℕ) (nest : Forest) → IsDocument bytes nest → list_all meets (flat nest) ≡ true }
+{}
+
+/// Where at most one item begins at a place, bytes are walked to their end by at most one list of items.
+pub fn one_walk()
+    ensures { (bytes : List ℕ) → OneItem bytes →
+        (is js : List Item) → walk_to_end bytes is ≡ true → walk_to_end bytes js ≡ true → is ≡ js }
+{}
+
+/// Where none of the first k layers refuses, a document with a nest is accepted so far with this nest.
+pub fn accepted_where_none_refuses()
+    ensures { (k : ℕ) (bytes : List ℕ) (nest : Forest) → 6 ≤ k → IsUtf8 bytes → IsDocument bytes nest →
+        AcceptedTo bytes k → Accepted k bytes nest }
+{}
+
+/// Where at most one item begins at a place, none of the first k layers refuses what is accepted so far.
+pub fn none_refuses_accepted()
+    ensures { (k : ℕ) (bytes : List ℕ) (nest : Forest) → OneItem bytes → Accepted k bytes nest → AcceptedTo bytes k }
+{}
+
+/// Along the tree, in document order, the places rise strictly.
+pub fn places_rise()
+    ensures { (nest : Forest) (first : ℕ) → IsStrictlyIncreasing (map (λ e. e.place) (all nest first)) }
+{}
+
+/// The records of a node are a part of all records, which begins at its place.
+pub fn records_stand()
+    ensures { (nest : Forest) (first : ℕ) → is_nest nest ≡ true →
+        (e : Entry) → IsNode nest first e → RecordsStand (records nest first) e }
+{}
+
+/// The first record of a node shows its kind and how many elements hold it.
+pub fn first_record_shows()
+    ensures { (nest : Forest) (first : ℕ) → is_nest nest ≡ true →
+        (e : Entry) → IsNode nest first e → FirstRecordShows (records nest first) e }
+{}
+
+/// The records of a node end where a scan of the records from its place ends.
+pub fn ends_by_scan()
+    ensures { (nest : Forest) (first : ℕ) → is_nest nest ≡ true →
+        (e : Entry) → IsNode nest first e → e.past ≡ past_by_scan (kind_of e.what) e.place (records nest first) }
+{}
+
+/// The same of the element whose first record has an index.
+pub fn element_ends_by_scan()
+    ensures { (nest : Forest) (first : ℕ) → is_nest nest ≡ true →
+        (at : ℕ) → EndsAt nest first at (end_by_scan at (records nest first)) }
+{}
+
+/// Of two nodes one stands under the other exactly where its place lies in the other's range, and it is before the other
+/// in document order exactly where its place is lower.
+pub fn places_tell()
+    ensures { (nest : Forest) (first : ℕ) (x y : Entry) → IsNode nest first x → IsNode nest first y → PlacesTell x y }
+{}
+
+/// A node is on an axis of another exactly where their places say so.
+pub fn axes_by_places()
+    ensures { (nest : Forest) (first : ℕ) → is_nest nest ≡ true →
+        (axis : Axis) (x y : Entry) → IsNode nest first x → IsNode nest first y → on_axis axis x.path y.path ≡ by_places axis x y }
+{}
+
+/// The nodes on an axis, in axis order, are those that the places tell.
+pub fn axis_lists_by_places()
+    ensures { (nest : Forest) (first : ℕ) → is_nest nest ≡ true →
+        (axis : Axis) (x : Entry) → IsNode nest first x → axis_list axis x.path (all nest first) ≡ list_by_places axis x (all nest first) }
+{}
+
+/// The siblings of a child are the other children of its parent, the later ones behind it.
+pub fn siblings_by_parent()
+    ensures { (nest : Forest) (first : ℕ) → is_nest nest ≡ true →
+        (z x y : Entry) → IsNode nest first z → IsNode nest first x → IsNode nest first y →
+        on_axis axes.Child z.path x.path ≡ true → SiblingsTell z x y }
+{}
+
+/// The parent of a node is the one whose first record a scan backwards finds; the root has none.
+pub fn parent_by_scan()
+    ensures { (nest : Forest) (first : ℕ) → is_nest nest ≡ true →
+        (x y : Entry) → IsNode nest first x → IsNode nest first y →
+        on_axis axes.Parent x.path y.path ≡ (not (is_root_thing x.what) && y.place == holder_by_scan x.place (records nest first)) }
+{}
+
+/// Every node but the root has a parent.
+pub fn parent_exists()
+    ensures { (nest : Forest) (first : ℕ) → is_nest nest ≡ true →
+        (x : Entry) → IsNode nest first x → is_root_thing x.what ≡ false → HasParent nest first x }
+{}
+
+/// The places of the nodes are the indexes of the records that begin a node.
+pub fn places_by_scan()
+    ensures { (nest : Forest) (first : ℕ) → is_nest nest ≡ true → list_all meets (flat nest) ≡ true →
+        map (λ e. e.place) (all nest first) ≡ starts_by_scan (records nest first) }
+{}
+
+/// There is a node at a place exactly where the record with that index begins one, by the records round it.
+pub fn begins_by_scan_tells()
+    ensures { (nest : Forest) (first : ℕ) → is_nest nest ≡ true → list_all meets (flat nest) ≡ true →
+        (n : ℕ) → is_some (at_place n (all nest first)) ≡ begins_by_scan n (records nest first) }
+{}
+
+/// The same with the kind of the node.
+pub fn kind_by_scan_tells()
+    ensures { (nest : Forest) (first : ℕ) → is_nest nest ≡ true → list_all meets (flat nest) ≡ true →
+        (n : ℕ) → option_map (λ e. kind_of e.what) (at_place n (all nest first)) ≡ kind_by_scan n (records nest first) }
+{}
