@@ -1,0 +1,4 @@
+pub mod Causes
+pub mod Gathers
+pub mod Held
+pub mod Sends

@@ -1,0 +1,308 @@
+-- How each ending of a run meets what the run means.
+use Rattle.std.proofs.Common.{◌≡◌, ℕ, ◌+◌, ◌<◌, ◌≤◌, cond, inl, inr, List, [], ◌∷◌, ◌++◌, length, drop, codes, Option, Some, None, Ok, Err, refl, sym, ap, ◌∙◌, subst, arith}
+use Rattle.std.proofs.lemmas.List.{append-nil, append_cancel_left}
+use Rattle.std.proofs.lemmas.Bool.{cases_lt, lt-ltb, le-ltb}
+use Rattle.std.proofs.lemmas.Option.{same_Some}
+use Rattle.vtd_outside.specs.Told.{NameMap}
+use Rattle.vtd_outside.specs.Gathered.{GathersAll, GathersFront}
+use Rattle.vtd_outside.specs.declared.GatherFault.{GatherFault}
+use Rattle.vtd_outside.specs.declared.GatherFault.TheVariants as gather
+use Rattle.xml_model.specs.Nest.{Forest}
+use Rattle.vtd_builder.proofs.Walks.{one_plain_nest}
+use Rattle.vtd_builder.specs.Plain.{IsPlain, IsNotPlain, Document, words_of}
+use Rattle.vtd_program.specs.declared.commands.Command.{Command}
+use Rattle.vtd_program.specs.declared.commands.Command.TheVariants.{Skip, Elements, Unknown}
+use Rattle.vtd_program.specs.declared.running.Status.{Status}
+use Rattle.vtd_program.specs.declared.running.Status.TheVariants as statuses
+use Rattle.vtd_program.specs.Lines.{lines, command}
+use Rattle.vtd_program.specs.Listing.{listed}
+use Rattle.vtd_program.specs.Meaning.{Outcome, Means, MeansName, MeansFile, MeansDocument, too_long, not_plain, plain, document_name, document_limit, script_limit, scripted, carried_out, step, refused, refused_line, usage_line, SendsAll, SendsFront, SendsAs, EndsAs, Ran, RanScript, Carries, CarriesTo, IsBuilt, ReadsDocument}
+use Rattle.vtd_program.specs.declared.running.NoDocument.{NoDocument}
+use Rattle.vtd_program.specs.declared.running.NoDocument.TheVariants as no
+
+-- ---- scripts
+
+-- one line keeps what does not depend on it
+step_keeps : {T : Type 0} (part : Outcome → T) (listing : List ℕ) (c : Command) (rest : Outcome) (x : T) → ((out : List ℕ) → part (record rest { out = out }) ≡ x) → part (refused (codes "command") []) ≡ x → part (step listing c rest) ≡ x
+step_keeps part listing Skip rest x h k = h rest.out
+step_keeps part listing Elements rest x h k = h (listing ++ rest.out)
+step_keeps part listing Unknown rest x h k = k
+
+carried_err : (listing : List ℕ) (ls : List (List ℕ)) → (carried_out listing ls).err ≡ []
+carried_err listing [] = refl
+carried_err listing (line ∷ others) = let h = carried_err listing others in step_keeps (λ (m : Outcome). m.err) listing (command line) (carried_out listing others) [] (λ out. h) refl
+
+carried_left : (listing : List ℕ) (ls : List (List ℕ)) → (carried_out listing ls).left ≡ []
+carried_left listing [] = refl
+carried_left listing (line ∷ others) = let h = carried_left listing others in step_keeps (λ (m : Outcome). m.left) listing (command line) (carried_out listing others) [] (λ out. h) refl
+
+ends_carried : (m : Outcome) (out : List ℕ) (status : Status) → m.err ≡ [] → m.left ≡ [] → CarriesTo m out status → EndsAs m out [] [] status
+ends_carried m out statuses.Done e l h = record { same_status = h.0; same_out = h.1; same_err = sym e; same_left = sym l }
+ends_carried m out statuses.Refused e l h = record { same_status = h.0; same_out = h.1; same_err = sym e; same_left = sym l }
+ends_carried m out statuses.WriteFault e l h = (h, record { more = []; split = e })
+ends_carried m out statuses.NoMemory e l h = (h, refl)
+ends_carried m out statuses.Usage e l h = absurd h
+ends_carried m out statuses.ReadFault e l h = absurd h
+ends_carried m out statuses.FileFault e l h = absurd h
+
+-- a script within the limit
+scripted_within : (nest : Forest) (script : List ℕ) → length script ≤ script_limit → scripted nest script ≡ carried_out (listed nest 0) (lines script)
+scripted_within nest script h = ap (λ b. cond b (refused (codes "script-long") (drop (script_limit + 1) script)) (carried_out (listed nest 0) (lines script))) (le-ltb _ _ h)
+
+scripted_long : (nest : Forest) (script : List ℕ) → script_limit < length script → scripted nest script ≡ refused (codes "script-long") (drop (script_limit + 1) script)
+scripted_long nest script h = ap (λ b. cond b (refused (codes "script-long") (drop (script_limit + 1) script)) (carried_out (listed nest 0) (lines script))) (lt-ltb _ _ h)
+
+pub script_carried : (nest : Forest) (script bytes before : List ℕ) (left_before left_after after : Option (List ℕ)) (status : Status) → left_before ≡ Some script
+    → GathersAll script_limit left_before left_after bytes → Carries (carried_out (listed nest 0) (lines bytes)) before after status → RanScript nest script before left_after after status
+script_carried nest script bytes before lb la after status e h c =
+    let P : Option (List ℕ) → Type 0 = λ o. GathersAll script_limit o la bytes in
+    by la (subst P e h)
+  where
+    by : (la : Option (List ℕ)) → GathersAll script_limit (Some script) la bytes → RanScript nest script before la after status
+    by None h = absurd h
+    by (Some left) h =
+        let m : scripted nest script ≡ carried_out (listed nest 0) (lines bytes) = scripted_within nest script h.2 ∙ ap (λ (s : List ℕ). carried_out (listed nest 0) (lines s)) (sym h.0) in
+        let P : Outcome → Type 0 = λ o. EndsAs o c.out [] left status in
+        let Q : List ℕ → Type 0 = λ l. EndsAs (carried_out (listed nest 0) (lines bytes)) c.out [] l status in
+        record {
+          out = c.out;
+          left = left;
+          taken = c.taken;
+          script_left = refl;
+          ends = subst P (sym m) (subst Q (sym h.1) (ends_carried _ c.out status (carried_err (listed nest 0) (lines bytes)) (carried_left (listed nest 0) (lines bytes)) c.carries));
+        }
+
+-- ---- refusals
+
+-- what was sent of the only line of a refusal
+ends_refused : (m : Outcome) (text left before : List ℕ) (after : Option (List ℕ)) (faults_before faults : ℕ) (status : Status) → SendsAs (Some before) after (refused_line text) faults_before faults statuses.Refused status
+    → (out : List ℕ) × (after ≡ Some (before ++ out)) × (m ≡ refused text left → EndsAs m out [] left status)
+ends_refused m text left before after fb fa status h =
+    elim h [
+      | inl q ↦
+          let P : Status → Type 0 = λ s. (out : List ℕ) × (after ≡ Some (before ++ out)) × (m ≡ refused text left → EndsAs m out [] left s) in
+          subst P (sym q.0) (all after q.1)
+      | inr q ↦
+          let P : Status → Type 0 = λ s. (out : List ℕ) × (after ≡ Some (before ++ out)) × (m ≡ refused text left → EndsAs m out [] left s) in
+          subst P (sym q.0) (fronts after q.1)
+    ]
+  where
+    all : (after : Option (List ℕ)) → SendsAll (Some before) after (refused_line text) → (out : List ℕ) × (after ≡ Some (before ++ out)) × (m ≡ refused text left → EndsAs m out [] left statuses.Refused)
+    all None f = absurd f
+    all (Some a) f = (refused_line text, ap (λ (xs : List ℕ). Some xs) f, λ e. record { same_status = ap (λ (o : Outcome). o.status) (sym e); same_out = ap (λ (o : Outcome). o.out) (sym e); same_err = ap (λ (o : Outcome). o.err) (sym e); same_left = ap (λ (o : Outcome). o.left) (sym e) })
+
+    fronts : (after : Option (List ℕ)) → SendsFront (Some before) after (refused_line text) → (out : List ℕ) × (after ≡ Some (before ++ out)) × (m ≡ refused text left → EndsAs m out [] left statuses.WriteFault)
+    fronts None f = absurd f
+    fronts (Some a) f = (f.0, ap (λ (xs : List ℕ). Some xs) f.1, λ e. (record { more = f.2.more; split = ap (λ (o : Outcome). o.out) e ∙ f.2.split }, record { more = []; split = ap (λ (o : Outcome). o.err) e }))
+
+-- nothing was sent
+abbrev pub EndsEmpty : Status → Type 0
+EndsEmpty statuses.ReadFault = Unit {0}
+EndsEmpty statuses.FileFault = Unit {0}
+EndsEmpty statuses.NoMemory = Unit {0}
+EndsEmpty _ = ⊥
+
+ends_empty : (m : Outcome) (left : List ℕ) (status : Status) → EndsEmpty status → EndsAs m [] [] left status
+ends_empty m left statuses.Done h = absurd h
+ends_empty m left statuses.Refused h = absurd h
+ends_empty m left statuses.Usage h = absurd h
+ends_empty m left statuses.ReadFault h = (refl, refl)
+ends_empty m left statuses.WriteFault h = absurd h
+ends_empty m left statuses.FileFault h = (refl, refl)
+ends_empty m left statuses.NoMemory h = (record { more = m.out; split = refl }, refl)
+
+same_taken : (before : List ℕ) (o : Option (List ℕ)) → o ≡ Some before → o ≡ Some (before ++ [])
+same_taken before o e = e ∙ ap (λ (xs : List ℕ). Some xs) (sym (append-nil before))
+
+-- a script that could not be read to its end, or for which there was no memory
+pub script_unread : (nest : Forest) (script before : List ℕ) (left_before left_after after : Option (List ℕ)) (status : Status) (fault : GatherFault) → left_before ≡ Some script → after ≡ Some before
+    → GathersFront script_limit left_before left_after fault → (fault ≡ gather.Long → ⊥) → EndsEmpty status → RanScript nest script before left_after after status
+script_unread nest script before lb la after status fault e k h n s =
+    let P : Option (List ℕ) → Type 0 = λ o. GathersFront script_limit o la fault in
+    by la fault (subst P e h) n
+  where
+    by : (la : Option (List ℕ)) (fault : GatherFault) → GathersFront script_limit (Some script) la fault → (fault ≡ gather.Long → ⊥) → RanScript nest script before la after status
+    by None gather.Failed h n = absurd h
+    by None gather.Long h n = absurd h
+    by None gather.NoMemory h n = absurd h
+    by (Some left) gather.Failed h n = record { out = []; left = left; taken = same_taken before after k; script_left = refl; ends = ends_empty (scripted nest script) left status s }
+    by (Some left) gather.Long h n = absurd (n refl)
+    by (Some left) gather.NoMemory h n = record { out = []; left = left; taken = same_taken before after k; script_left = refl; ends = ends_empty (scripted nest script) left status s }
+
+-- a script that is too long
+pub script_too_long : (nest : Forest) (script before : List ℕ) (left_before left_after out_before after : Option (List ℕ)) (faults_before faults : ℕ) (status : Status) (fault : GatherFault) → left_before ≡ Some script → out_before ≡ Some before
+    → GathersFront script_limit left_before left_after fault → fault ≡ gather.Long → SendsAs out_before after (refused_line (codes "script-long")) faults_before faults statuses.Refused status
+    → RanScript nest script before left_after after status
+script_too_long nest script before lb la ob after fb fa status fault e k h is s =
+    let P : Option (List ℕ) → Type 0 = λ o. GathersFront script_limit o la gather.Long in
+    let F : GatherFault → Type 0 = λ f. GathersFront script_limit lb la f in
+    let Q : Option (List ℕ) → Type 0 = λ o. SendsAs o after (refused_line (codes "script-long")) fb fa statuses.Refused status in
+    by la (subst P e (subst F is h)) (subst Q k s)
+  where
+    by : (la : Option (List ℕ)) → GathersFront script_limit (Some script) la gather.Long → SendsAs (Some before) after (refused_line (codes "script-long")) fb fa statuses.Refused status → RanScript nest script before la after status
+    by None h s = absurd h
+    by (Some left) h s =
+        let r = ends_refused (scripted nest script) (codes "script-long") left before after fb fa status s in
+        let m : scripted nest script ≡ refused (codes "script-long") left = scripted_long nest script (omega (arith, h.0)) ∙ ap (refused (codes "script-long")) (sym h.1) in
+        record { out = r.0; left = left; taken = r.1; script_left = refl; ends = r.2 m }
+
+-- ---- what a run means, by what is known
+
+means_file : (words : List (List ℕ)) (name : List ℕ) (files : NameMap) (script : List ℕ) (m : Outcome) → document_name words ≡ Some name → Means words files script m → MeansFile (files name) script m
+means_file words name files script m e h = let P : Option (List ℕ) → Type 0 = λ o. MeansName o files script m in subst P e h
+
+means_document : (words : List (List ℕ)) (name bytes : List ℕ) (files : NameMap) (script : List ℕ) (m : Outcome) → document_name words ≡ Some name → files name ≡ Some bytes → Means words files script m → MeansDocument bytes script m
+means_document words name bytes files script m e f h = let P : Option (List ℕ) → Type 0 = λ o. MeansFile o script m in subst P f (means_file words name files script m e h)
+
+means_long : (bytes script : List ℕ) (m : Outcome) → document_limit < length bytes → MeansDocument bytes script m → m ≡ refused (codes "file-long") script
+means_long bytes script m l (too_long b s h) = refl
+means_long bytes script m l (not_plain b s h n) = absurd (omega arith)
+means_long bytes script m l (plain b s h nest p) = absurd (omega arith)
+
+means_not_plain : (bytes script : List ℕ) (m : Outcome) → length bytes ≤ document_limit → IsNotPlain bytes → MeansDocument bytes script m → m ≡ refused (codes "not-plain") script
+means_not_plain bytes script m l n (too_long b s h) = absurd (omega arith)
+means_not_plain bytes script m l n (not_plain b s h k) = refl
+means_not_plain bytes script m l n (plain b s h nest p) = absurd (n nest p)
+
+means_plain : (bytes script : List ℕ) (m : Outcome) → length bytes ≤ document_limit → (nest : Forest) → IsPlain bytes nest → MeansDocument bytes script m → (other : Forest) × IsPlain bytes other × (m ≡ scripted other script)
+means_plain bytes script m l nest p (too_long b s h) = absurd (omega arith)
+means_plain bytes script m l nest p (not_plain b s h k) = absurd (k nest p)
+means_plain bytes script m l nest p (plain b s h other q) = (other, q, refl)
+
+-- ---- the endings of a run
+
+pub ran_empty : (words : List (List ℕ)) (files : NameMap) (script out err : List ℕ) (left_now out_now err_now : Option (List ℕ)) (status : Status) → left_now ≡ Some script → out_now ≡ Some out → err_now ≡ Some err → EndsEmpty status
+    → Ran words files script out err left_now out_now err_now status
+ran_empty words files script out err l o e status el eo ee s =
+    record { out = []; err = []; left = script; out_taken = same_taken out o eo; err_taken = same_taken err e ee; script_left = el; ends = λ m h. ends_empty m script status s }
+
+pub ran_refused : (words : List (List ℕ)) (files : NameMap) (text script out err : List ℕ) (left_now out_before out_now err_now : Option (List ℕ)) (faults_before faults : ℕ) (status : Status)
+    → ((m : Outcome) → Means words files script m → m ≡ refused text script) → left_now ≡ Some script → out_before ≡ Some out → err_now ≡ Some err
+    → SendsAs out_before out_now (refused_line text) faults_before faults statuses.Refused status → Ran words files script out err left_now out_now err_now status
+ran_refused words files text script out err ln ob on en fb fa status means el eo ee s =
+    let Q : Option (List ℕ) → Type 0 = λ o. SendsAs o on (refused_line text) fb fa statuses.Refused status in
+    let r = ends_refused (refused text script) text script out on fb fa status (subst Q eo s) in
+    let P : Outcome → Type 0 = λ o. EndsAs o r.0 [] script status in
+    record { out = r.0; err = []; left = script; out_taken = r.1; err_taken = same_taken err en ee; script_left = el; ends = λ m h. subst P (sym (means m h)) (r.2 refl) }
+
+pub ran_long : (words : List (List ℕ)) (name bytes : List ℕ) (files : NameMap) (script : List ℕ) → document_name words ≡ Some name → files name ≡ Some bytes → document_limit < length bytes
+    → (m : Outcome) → Means words files script m → m ≡ refused (codes "file-long") script
+ran_long words name bytes files script d f l m h = means_long bytes script m l (means_document words name bytes files script m d f h)
+
+pub ran_not_plain : (words : List (List ℕ)) (name bytes : List ℕ) (files : NameMap) (script : List ℕ) → document_name words ≡ Some name → files name ≡ Some bytes → length bytes ≤ document_limit → IsNotPlain bytes
+    → (m : Outcome) → Means words files script m → m ≡ refused (codes "not-plain") script
+ran_not_plain words name bytes files script d f l n m h = means_not_plain bytes script m l n (means_document words name bytes files script m d f h)
+
+-- no document is named
+pub ran_usage : (words : List (List ℕ)) (files : NameMap) (script out err : List ℕ) (left_now out_now err_before err_now : Option (List ℕ)) (faults_before faults : ℕ) (status : Status)
+    → document_name words ≡ None → left_now ≡ Some script → out_now ≡ Some out → err_before ≡ Some err
+    → SendsAs err_before err_now usage_line faults_before faults statuses.Usage status → Ran words files script out err left_now out_now err_now status
+ran_usage words files script out err ln on eb en fb fa status d el eo ee s =
+    let Q : Option (List ℕ) → Type 0 = λ o. SendsAs o en usage_line fb fa statuses.Usage status in
+    by en (subst Q ee s)
+  where
+    means : (m : Outcome) → Means words files script m → m ≡ record { out = []; err = usage_line; status = statuses.Usage; left = script }
+    means m h = let P : Option (List ℕ) → Type 0 = λ o. MeansName o files script m in subst P d h
+
+    by : (en : Option (List ℕ)) → SendsAs (Some err) en usage_line fb fa statuses.Usage status → Ran words files script out err ln on en status
+    by None s = elim s [ inl q ↦ absurd q.1 | inr q ↦ absurd q.1 ]
+    by (Some a) s = elim s [
+      | inl q ↦
+          let P : Status → Type 0 = λ x. Ran words files script out err ln on (Some a) x in
+          subst P (sym q.0) (record {
+            out = [];
+            err = usage_line;
+            left = script;
+            out_taken = same_taken out on eo;
+            err_taken = ap (λ (xs : List ℕ). Some xs) q.1;
+            script_left = el;
+            ends = λ m h. let e = sym (means m h) in record { same_status = ap (λ (o : Outcome). o.status) e; same_out = ap (λ (o : Outcome). o.out) e; same_err = ap (λ (o : Outcome). o.err) e; same_left = ap (λ (o : Outcome). o.left) e };
+          })
+      | inr q ↦
+          let P : Status → Type 0 = λ x. Ran words files script out err ln on (Some a) x in
+          subst P (sym q.0) (record {
+            out = [];
+            err = q.1.0;
+            left = script;
+            out_taken = same_taken out on eo;
+            err_taken = ap (λ (xs : List ℕ). Some xs) q.1.1;
+            script_left = el;
+            ends = λ m h. (record { more = m.out; split = refl }, record { more = q.1.2.more; split = ap (λ (o : Outcome). o.err) (means m h) ∙ q.1.2.split });
+          })
+    ]
+
+-- the script was run over the document of that name
+pub ran_script : (words : List (List ℕ)) (name : List ℕ) (files : NameMap) (doc : Document) (script out err : List ℕ) (left_now out_now err_now : Option (List ℕ)) (status : Status)
+    → document_name words ≡ Some name → files name ≡ Some doc.bytes → length doc.bytes ≤ document_limit → IsBuilt doc → err_now ≡ Some err
+    → ((nest : Forest) → IsPlain doc.bytes nest → doc.words ≡ words_of doc.bytes nest → RanScript nest script out left_now out_now status)
+    → Ran words files script out err left_now out_now err_now status
+ran_script words name files doc script out err ln on en status d f l b ee ran =
+    let r = ran b.nest b.plain (b.words b.nest b.plain) in
+    record {
+      out = r.out;
+      err = [];
+      left = r.left;
+      out_taken = r.taken;
+      err_taken = same_taken err en ee;
+      script_left = r.script_left;
+      ends = λ m h. ends r m (means_plain doc.bytes script m l b.nest b.plain (means_document words name doc.bytes files script m d f h));
+    }
+  where
+    ends : (r : RanScript b.nest script out ln on status) (m : Outcome) → ((other : Forest) × IsPlain doc.bytes other × (m ≡ scripted other script)) → EndsAs m r.out [] r.left status
+    ends r m o =
+        let q = ran o.0 o.1 (b.words o.0 o.1) in
+        let same_out : q.out ≡ r.out = append_cancel_left out q.out r.out (same_Some (out ++ q.out) (out ++ r.out) (sym q.taken ∙ r.taken)) in
+        let same_left : q.left ≡ r.left = same_Some q.left r.left (sym q.script_left ∙ r.script_left) in
+        let P : Outcome → Type 0 = λ x. EndsAs x r.out [] r.left status in
+        let Q : List ℕ → Type 0 = λ x. EndsAs (scripted o.0 script) x [] r.left status in
+        let R : List ℕ → Type 0 = λ x. EndsAs (scripted o.0 script) q.out [] x status in
+        subst P (sym o.2) (subst Q same_out (subst R same_left q.ends))
+
+-- ---- what was read, where the files are told
+
+pub reads_ok : (o : Option NameMap) (files : NameMap) (name : List ℕ) (doc : Document) → o ≡ Some files → ReadsDocument o name (Ok doc) → (files name ≡ Some doc.bytes) × (length doc.bytes ≤ document_limit) × IsBuilt doc
+reads_ok o files name doc e h = let P : Option NameMap → Type 0 = λ x. ReadsDocument x name (Ok doc) in subst P e h
+
+pub reads_long : (o : Option NameMap) (files : NameMap) (name : List ℕ) (fault : NoDocument) → o ≡ Some files → fault ≡ no.Long → ReadsDocument o name (Err fault) → (bytes : List ℕ) × (files name ≡ Some bytes) × (document_limit < length bytes)
+reads_long o files name fault e f h =
+    let P : Option NameMap → Type 0 = λ x. ReadsDocument x name (Err no.Long) in
+    let Q : NoDocument → Type 0 = λ x. ReadsDocument o name (Err x) in
+    subst P e (subst Q f h)
+
+pub reads_not_plain : (o : Option NameMap) (files : NameMap) (name : List ℕ) (fault : NoDocument) → o ≡ Some files → fault ≡ no.NotPlain → ReadsDocument o name (Err fault)
+    → (bytes : List ℕ) × (files name ≡ Some bytes) × (length bytes ≤ document_limit) × IsNotPlain bytes
+reads_not_plain o files name fault e f h =
+    let P : Option NameMap → Type 0 = λ x. ReadsDocument x name (Err no.NotPlain) in
+    let Q : NoDocument → Type 0 = λ x. ReadsDocument o name (Err x) in
+    subst P e (subst Q f h)
+
+-- ---- one meaning
+
+same_document : (bytes script : List ℕ) (m n : Outcome) → MeansDocument bytes script m → MeansDocument bytes script n → m ≡ n
+same_document bytes script m n (too_long b s h) y = sym (means_long bytes script n h y)
+same_document bytes script m n (not_plain b s h k) y = sym (means_not_plain bytes script n h k y)
+same_document bytes script m n (plain b s h nest p) y =
+    let o = means_plain bytes script n h nest p y in
+    ap (λ (f : Forest). scripted f script) (one_plain_nest bytes nest o.0 p o.1) ∙ sym o.2
+
+same_file : (file : Option (List ℕ)) (script : List ℕ) (m n : Outcome) → MeansFile file script m → MeansFile file script n → m ≡ n
+same_file None script m n x y = x ∙ sym y
+same_file (Some bytes) script m n x y = same_document bytes script m n x y
+
+pub same_meaning : (name : Option (List ℕ)) (files : NameMap) (script : List ℕ) (m n : Outcome) → MeansName name files script m → MeansName name files script n → m ≡ n
+same_meaning None files script m n x y = x ∙ sym y
+same_meaning (Some name) files script m n x y = same_file (files name) script m n x y
+
+none_document : (bytes script : List ℕ) → ((m : Outcome) → MeansDocument bytes script m → ⊥) → ⊥
+none_document bytes script none = elim (cases_lt document_limit (length bytes)) [
+  | inl h ↦ none _ (too_long bytes script h)
+  | inr h ↦ none _ (not_plain bytes script h (λ nest p. none _ (plain bytes script h nest p)))
+]
+
+none_file : (file : Option (List ℕ)) (script : List ℕ) → ((m : Outcome) → MeansFile file script m → ⊥) → ⊥
+none_file None script none = none _ refl
+none_file (Some bytes) script none = none_document bytes script none
+
+pub no_run_without_meaning : (name : Option (List ℕ)) (files : NameMap) (script : List ℕ) → ((m : Outcome) → MeansName name files script m → ⊥) → ⊥
+no_run_without_meaning None files script none = none _ refl
+no_run_without_meaning (Some name) files script none = none_file (files name) script none

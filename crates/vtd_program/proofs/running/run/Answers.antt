@@ -1,0 +1,63 @@
+use Rattle.std.proofs.Common.{sym, codes, map, Global}
+use Rattle.std.specs.String.{string_bytes}
+use Rattle.vtd_program.proofs.MeaningLemmas.{ran_empty, ran_refused, ran_long, ran_not_plain, ran_usage, ran_script, reads_ok, reads_long, reads_not_plain, same_meaning, no_run_without_meaning}
+use Rattle.vtd_program.specs.Meaning.{document_name}
+use Rattle.vtd_program.proofs.running.run.Goals as goal
+
+pub returns-in_default-clause-meaning : goal.returns-in_default-clause-meaning
+returns-in_default-clause-meaning g c = λ contents left taken told files from to errs.
+    ran_usage _ contents left taken told _ _ _ _ _ _ c.end_with.result (sym c.in_default.ensures) from to errs c.end_with.ensures
+
+pub returns-in-Ok-clause-meaning : goal.returns-in-Ok-clause-meaning
+returns-in-Ok-clause-meaning g c = λ contents left taken told files from to errs.
+    let r = reads_ok _ contents c.in-Some.name.now c.in-Ok.doc files c.in-Ok.ensures.reads in
+    ran_script _ c.in-Some.name.now contents c.in-Ok.doc left taken told _ _ _ c.run_script.result (sym c.in-Some.ensures) r.0 r.1 r.2 errs (λ nest plain words. c.run_script.ensures.runs nest plain words left taken from to)
+
+pub returns-in-Err-Failed-clause-meaning : goal.returns-in-Err-Failed-clause-meaning
+returns-in-Err-Failed-clause-meaning g c = λ contents left taken told files from to errs. ran_empty _ contents left taken told _ _ _ _ from to errs tt
+
+pub returns-in-Err-NoMemory-clause-meaning : goal.returns-in-Err-NoMemory-clause-meaning
+returns-in-Err-NoMemory-clause-meaning g c = λ contents left taken told files from to errs. ran_empty _ contents left taken told _ _ _ _ from to errs tt
+
+pub returns-in-Err-Long-clause-meaning : goal.returns-in-Err-Long-clause-meaning
+returns-in-Err-Long-clause-meaning g c = λ contents left taken told files from to errs.
+    let r = reads_long _ contents c.in-Some.name.now c.in-Err-Long.field-0 files c.in-Err-Long.field-0-is c.in-Err-Long.ensures.reads in
+    ran_refused _ contents (codes "file-long") left taken told _ _ _ _ _ _ c.end_with-in-Err-Long.result (ran_long (map (string_bytes {Z = Global}) c.args.words.now) c.in-Some.name.now r.0 contents left (sym c.in-Some.ensures) r.1 r.2) from to errs c.end_with-in-Err-Long.ensures
+
+pub returns-in-Err-NotPlain-clause-meaning : goal.returns-in-Err-NotPlain-clause-meaning
+returns-in-Err-NotPlain-clause-meaning g c = λ contents left taken told files from to errs.
+    let r = reads_not_plain _ contents c.in-Some.name.now c.in-Err-NotPlain.field-0 files c.in-Err-NotPlain.field-0-is c.in-Err-NotPlain.ensures.reads in
+    ran_refused _ contents (codes "not-plain") left taken told _ _ _ _ _ _ c.end_with-in-Err-NotPlain.result (ran_not_plain (map (string_bytes {Z = Global}) c.args.words.now) c.in-Some.name.now r.0 contents left (sym c.in-Some.ensures) r.1 r.2 r.3) from to errs c.end_with-in-Err-NotPlain.ensures
+
+pub returns-in_default-clause-some_meaning : goal.returns-in_default-clause-some_meaning
+returns-in_default-clause-some_meaning g c = λ contents left. no_run_without_meaning (document_name (map (string_bytes {Z = Global}) c.args.words.now)) contents left
+
+pub returns-in-Ok-clause-one_meaning : goal.returns-in-Ok-clause-one_meaning
+returns-in-Ok-clause-one_meaning g c = λ contents left m n. same_meaning (document_name (map (string_bytes {Z = Global}) c.args.words.now)) contents left m n
+
+pub returns-in-Ok-clause-some_meaning : goal.returns-in-Ok-clause-some_meaning
+returns-in-Ok-clause-some_meaning g c = λ contents left. no_run_without_meaning (document_name (map (string_bytes {Z = Global}) c.args.words.now)) contents left
+
+pub returns-in-Err-Failed-clause-one_meaning : goal.returns-in-Err-Failed-clause-one_meaning
+returns-in-Err-Failed-clause-one_meaning g c = λ contents left m n. same_meaning (document_name (map (string_bytes {Z = Global}) c.args.words.now)) contents left m n
+
+pub returns-in-Err-Failed-clause-some_meaning : goal.returns-in-Err-Failed-clause-some_meaning
+returns-in-Err-Failed-clause-some_meaning g c = λ contents left. no_run_without_meaning (document_name (map (string_bytes {Z = Global}) c.args.words.now)) contents left
+
+pub returns-in-Err-NoMemory-clause-one_meaning : goal.returns-in-Err-NoMemory-clause-one_meaning
+returns-in-Err-NoMemory-clause-one_meaning g c = λ contents left m n. same_meaning (document_name (map (string_bytes {Z = Global}) c.args.words.now)) contents left m n
+
+pub returns-in-Err-NoMemory-clause-some_meaning : goal.returns-in-Err-NoMemory-clause-some_meaning
+returns-in-Err-NoMemory-clause-some_meaning g c = λ contents left. no_run_without_meaning (document_name (map (string_bytes {Z = Global}) c.args.words.now)) contents left
+
+pub returns-in-Err-Long-clause-one_meaning : goal.returns-in-Err-Long-clause-one_meaning
+returns-in-Err-Long-clause-one_meaning g c = λ contents left m n. same_meaning (document_name (map (string_bytes {Z = Global}) c.args.words.now)) contents left m n
+
+pub returns-in-Err-Long-clause-some_meaning : goal.returns-in-Err-Long-clause-some_meaning
+returns-in-Err-Long-clause-some_meaning g c = λ contents left. no_run_without_meaning (document_name (map (string_bytes {Z = Global}) c.args.words.now)) contents left
+
+pub returns-in-Err-NotPlain-clause-one_meaning : goal.returns-in-Err-NotPlain-clause-one_meaning
+returns-in-Err-NotPlain-clause-one_meaning g c = λ contents left m n. same_meaning (document_name (map (string_bytes {Z = Global}) c.args.words.now)) contents left m n
+
+pub returns-in-Err-NotPlain-clause-some_meaning : goal.returns-in-Err-NotPlain-clause-some_meaning
+returns-in-Err-NotPlain-clause-some_meaning g c = λ contents left. no_run_without_meaning (document_name (map (string_bytes {Z = Global}) c.args.words.now)) contents left

@@ -1,0 +1,5 @@
+pub mod Lines
+pub mod Listing
+pub mod Spans
+pub mod Standing
+pub mod Meaning

@@ -1,0 +1,90 @@
+//! The lines of a script, and what they ask for.
+
+ghost use Rattle.std.specs.Prelude.{◌≡◌, ℕ, ◌+◌, ◌-◌, ◌^◌, ◌<◌, ◌≤◌, ◌↔◌, length, IsNone, IfSome, IfNone};
+ghost use Rattle.vtd_program.specs.Lines.{IsLine, EndsLine, IsUnended, IsBeforeReturn, command};
+
+use memchr::memchr;
+
+/// A line of a script: its bytes from `start` to `end`, and where the next line begins. The line end belongs to
+/// neither.
+#[derive(Clone, Copy, Debug, PartialEq, Eq)]
+pub struct Line {
+    pub start: u32,
+    pub end: u32,
+    pub next: u32,
+}
+
+/// What a line asks for.
+#[derive(Clone, Copy, Debug, PartialEq, Eq)]
+pub enum Command {
+    /// Nothing: an empty line.
+    Skip,
+    /// The list of all elements.
+    Elements,
+    /// What no command is.
+    Unknown,
+}
+
+/// The place of the line feed that ends the line at `from`, or `None` where the script ends first.
+fn line_feed(script: &[u8], from: usize) -> Option<usize>
+    requires { from ≤ length script.now }
+    ensures found { IfSome result (λ end. EndsLine script.now from end) }
+    ensures none { IfNone result (IsUnended script.now from) }
+{
+    match memchr(b'\n', &script[from..]) {
+        Some(length) => Some(from + length),
+        None => None,
+    }
+}
+
+/// Where a line ends whose line feed stands at `end`: a carriage return directly before it belongs to the line end.
+fn before_return(script: &[u8], from: usize, end: usize) -> usize
+    requires { EndsLine script.now from end }
+    ensures { IsBeforeReturn script.now from end result }
+{
+    if from < end && script[end - 1] == b'\r' {
+        end - 1
+    } else {
+        end
+    }
+}
+
+/// The line that begins at `at`, or `None` exactly at the end of the script.
+pub fn next_line(script: &[u8], at: u32) -> Option<Line>
+    requires place { at ≤ length script.now }
+    requires size { length script.now ≤ 16777216 }
+    ensures end { IsNone result ↔ (at ≡ length script.now) }
+    ensures line { IfSome result (IsLine script.now at) }
+{
+    let from = at as usize;
+    if from == script.len() {
+        return None;
+    }
+    let Some(end) = line_feed(script, from) else {
+        let end = script.len() as u32;
+        return Some(Line {
+            start: at,
+            end,
+            next: end,
+        });
+    };
+    Some(Line {
+        start: at,
+        end: before_return(script, from, end) as u32,
+        next: end as u32 + 1,
+    })
+}
+
+/// What a line asks for.
+#[tactic(auto, unfolding(crate::specs::Lines::command))]
+pub fn command_of(line: &[u8]) -> Command
+    ensures { result ≡ command line.now }
+{
+    if line.is_empty() {
+        Command::Skip
+    } else if line == b"elements".as_slice() {
+        Command::Elements
+    } else {
+        Command::Unknown
+    }
+}

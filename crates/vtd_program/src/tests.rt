@@ -1,0 +1,148 @@
+//! What no clause says: that a run succeeds where memory is ample, and how the edge to the system behaves.
+
+use crate::adapters::{Input, Output, SystemFiles};
+use crate::running::{Status, run};
+use std::alloc::{AllocError, Global};
+use std::io;
+use std::test::Fail;
+use vtd_outside::{Failed, Files, MemoryFiles, MemorySink, MemorySource, Sink, Source};
+
+/// The trait calls that fail: on the files, the script and standard output.
+type Failing = (Option<u32>, Option<u32>, Option<u32>);
+
+const NO_FAULT: Failing = (None, None, None);
+
+/// What a run took and how it ended.
+#[derive(Drop)]
+struct Answer {
+    status: Status,
+    out: MemorySink,
+    err: MemorySink,
+}
+
+fn listed(alloc: Global, call: Option<u32>) -> Result<Vec<u32>, AllocError> {
+    match call {
+        Some(call) => [call].to_vec(alloc),
+        None => Ok(Vec::new(alloc)),
+    }
+}
+
+/// Runs over a file `doc` with these bytes.
+fn run_over(
+    alloc: Global,
+    words: &[&str],
+    doc: &str,
+    script: &str,
+    failing: Failing,
+) -> Result<Answer, Fail> {
+    let mut files = MemoryFiles::new(alloc, listed(alloc, failing.0)?, 7);
+    files.put("doc", doc.as_bytes().to_vec(alloc)?)?;
+    let mut script = MemorySource::new(
+        script.as_bytes().to_vec(alloc)?,
+        listed(alloc, failing.1)?,
+        4,
+    );
+    let mut out = MemorySink::new(alloc, listed(alloc, failing.2)?, 11);
+    let mut err = MemorySink::new(alloc, Vec::new(alloc), 100);
+    out.reserve(1000)?;
+    err.reserve(1000)?;
+    let mut texts = Vec::new(alloc);
+    for word in words {
+        texts.push(String::from_str(alloc, word)?)?;
+    }
+    let status = run(alloc, &texts, &mut files, &mut script, &mut out, &mut err);
+    Ok(Answer { status, out, err })
+}
+
+const TWO: &str = "nodes 2\nelement 0 11\nelement 3 4\n";
+
+#[test]
+fn runs(rt: HostRuntime) -> Result<(), Fail> {
+    let rows = [
+        ("<a><b/></a>", "elements", TWO, Status::Done),
+        ("<a>x</a>", "", "", Status::Done),
+        (
+            "<a b=\"1\"/>",
+            "elements",
+            "refused not-plain\n",
+            Status::Refused,
+        ),
+        (
+            "<a/>",
+            "elements\nfrob\nelements\n",
+            "nodes 1\nelement 0 4\nrefused command\n",
+            Status::Refused,
+        ),
+        ("<a><b/></a>", "\nelements\r\n\n", TWO, Status::Done),
+        ("<a/>", "elements\r", "refused command\n", Status::Refused),
+        ("", "elements", "refused not-plain\n", Status::Refused),
+        (
+            "<a>x<b><c/>y</b><d></d></a>",
+            "elements",
+            "nodes 4\nelement 0 27\nelement 4 12\nelement 7 4\nelement 16 7\n",
+            Status::Done,
+        ),
+    ];
+    for (doc, script, out, status) in rows {
+        let got = run_over(rt.alloc(), &["doc"], doc, script, NO_FAULT)?;
+        assert_eq!(rt; got.out.taken(), out.as_bytes());
+        assert_eq!(rt; got.status, status);
+        assert!(rt; got.err.taken().is_empty());
+    }
+    Ok(())
+}
+
+#[test]
+fn words(rt: HostRuntime) -> Result<(), Fail> {
+    let usage = "usage: vtd [-k] [-x] DOC | vtd -g N\n";
+    let forms: [(&[&str], &str, Status); 5] = [
+        (&[], usage, Status::Usage),
+        (&["-k"], usage, Status::Usage),
+        (&["doc", "doc"], usage, Status::Usage),
+        (&["gone"], "", Status::FileFault),
+        (&[""], "", Status::FileFault),
+    ];
+    for (words, err, status) in forms {
+        let got = run_over(rt.alloc(), words, "<a/>", "elements", NO_FAULT)?;
+        assert_eq!(rt; got.err.taken(), err.as_bytes());
+        assert_eq!(rt; got.status, status);
+        assert!(rt; got.out.taken().is_empty());
+    }
+    Ok(())
+}
+
+#[test]
+fn faults(rt: HostRuntime) -> Result<(), Fail> {
+    let rows = [
+        ((Some(1), None, None), "", Status::FileFault),
+        ((None, Some(1), None), "", Status::ReadFault),
+        (
+            (None, None, Some(2)),
+            "nodes 2\nelement 0 11\ne",
+            Status::WriteFault,
+        ),
+    ];
+    for (failing, out, status) in rows {
+        let got = run_over(rt.alloc(), &["doc"], "<a><b/></a>", "elements", failing)?;
+        assert_eq!(rt; got.out.taken(), out.as_bytes());
+        assert_eq!(rt; got.status, status);
+    }
+    Ok(())
+}
+
+#[test]
+fn adapters(rt: HostRuntime) -> Result<(), Fail> {
+    let mut piece = [0u8; 2];
+    let mut input = Input::new(io::Cursor::new(b"abc".as_slice()));
+    assert!(rt; input.read(&mut piece) == Ok(2));
+    assert_eq!(rt; piece, *b"ab");
+    assert!(rt; input.read(&mut piece) == Ok(1));
+    assert!(rt; input.read(&mut piece) == Ok(0));
+    let mut room = [0u8; 2];
+    let mut output = Output::new(room.as_mut_slice());
+    assert!(rt; output.write(b"abc") == Ok(2));
+    assert!(rt; output.write(b"c") == Err(Failed));
+    let mut files = SystemFiles::new(&rt);
+    assert!(rt; files.begin_read("there is no such file").is_err());
+    Ok(())
+}
