@@ -1,6 +1,6 @@
 //! Documents with their records, built from bytes.
 
-ghost use Rattle.std.specs.Prelude.{◌≡◌, ℕ, ◌+◌, ◌-◌, ◌^◌, ◌<◌, ◌≤◌, length, take, drop, vec_len, IfErr, IfOk, ◌↔◌, List, IfSome, IsNone, option_to_list};
+ghost use Rattle.std.specs.Prelude.{◌≡◌, ◌+◌, ◌-◌, ◌^◌, ◌<◌, ◌≤◌, length, vec_len, IfErr, IfOk, ◌↔◌, List, IfSome, IsNone, option_to_list};
 ghost use Rattle.xml_model.specs.Items.{Item};
 ghost use Rattle.xml_model.specs.Nest.{Forest};
 ghost use Rattle.vtd_builder.specs.Plain.{IsPlain, IsNotPlain, IsRecorded, words_of};

@@ -1,7 +1,7 @@
 //! Laws over plain documents and over nesting. Each function does nothing; its contract is the law, which the check
 //! proves.
 
-ghost use Rattle.std.specs.Prelude.{◌≡◌, ℕ, List, [], Option, Some, true, ◌↔◌};
+ghost use Rattle.std.specs.Prelude.{◌≡◌, ℕ, List, [], Some, true, ◌↔◌};
 ghost use Rattle.xml_model.specs.Items.{Item};
 ghost use Rattle.xml_model.specs.Nest.{Forest, flat, is_nest};
 ghost use Rattle.xml_model.specs.Accepted.{BeginsNest};

@@ -1,6 +1,6 @@
 //! Which items nest: the elements that stand open.
 
-ghost use Rattle.std.specs.Prelude.{◌≡◌, ℕ, ◌+◌, ◌-◌, ◌<◌, ◌≤◌, ◌==◌, ◌&&◌, List, [], length, take, drop, slice_index_or, Option, Some, IsTrue, ◌↔◌};
+ghost use Rattle.std.specs.Prelude.{◌≡◌, ℕ, ◌+◌, ◌-◌, ◌<◌, ◌≤◌, ◌==◌, ◌&&◌, List, [], length, take, drop, slice_index_or, Some, IsTrue, ◌↔◌};
 ghost use Rattle.std.specs.Str.{bytes_eq};
 ghost use Rattle.xml_model.specs.Items.{Tag, start_tag, empty_tag, end_tag};
 ghost use Rattle.vtd_builder.specs.Machine.{Phase, alone, step};

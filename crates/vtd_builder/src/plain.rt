@@ -1,6 +1,6 @@
 //! The items of a plain document, read at the front of some bytes.
 
-ghost use Rattle.std.specs.Prelude.{◌≡◌, ℕ, ◌+◌, ◌<◌, ◌≤◌, length, slice_index, ◌&&◌, not};
+ghost use Rattle.std.specs.Prelude.{◌≡◌, ◌≤◌, length, slice_index, ◌&&◌, not};
 ghost use Rattle.std.specs.List.{prefix_len};
 ghost use Rattle.vtd_builder.specs.PlainBytes.{is_plain_start, is_plain_name_byte, is_plain_text_byte};
 ghost use Rattle.vtd_builder.specs.Reading.{name_len, begins_end, text_len, read, read_text, read_end, read_start, is_narrow, next};

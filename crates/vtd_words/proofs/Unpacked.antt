@@ -49,7 +49,7 @@ same_parts parts w p l wide m e f =
     same (w / 2 ^ 60) (bit_and (w / 2 ^ 52) 255) p l (bit_and w 1073741823) parts.token parts.depth parts.prefix parts.length parts.offset a b e f d
   where
     same : (t d p l o t' d' p' l' o' : ℕ) → t ≡ t' → d ≡ d' → p ≡ p' → l ≡ l' → o ≡ o' →
-      ◌≡◌ {A = Parts} (record { token = t; depth = d; prefix = p; length = l; offset = o }) (record { token = t'; depth = d'; prefix = p'; length = l'; offset = o' })
+        ◌≡◌ {A = Parts} (record { token = t; depth = d; prefix = p; length = l; offset = o }) (record { token = t'; depth = d'; prefix = p'; length = l'; offset = o' })
     same t d p l o t' d' p' l' o' a b c e f = cc
 
 -- what fits is made of its fields: a name's prefix stands above eleven bits
@@ -90,6 +90,7 @@ name_unpacked w parts n h e = elim (is_name_token parts.token) as (λ b. is_name
         let v = made_wide parts w (parts.prefix * 2 ^ 11 + parts.length) m.0 in
         let s : parts.length < 2 ^ 11 = m.1 in
         same_parts parts w (wide_of w / 2048) (bit_and (wide_of w) 2047) (parts.prefix * 2 ^ 11 + parts.length) m.0 (omega (arith, v)) (omega (arith, v, and_mask (wide_of w) 11))
+
     other : is_name_token parts.token ≡ false → parts_of w (wide_of w / 2048) (bit_and (wide_of w) 2047) ≡ parts
     other k = let m = other_made parts w h k e in absurd (false≢true (sym k ∙ ap is_name_token (sym (made_token parts w parts.length m.0)) ∙ n))
 
@@ -98,5 +99,6 @@ other_unpacked w parts n h e = elim (is_name_token parts.token) as (λ b. is_nam
   where
     named : is_name_token parts.token ≡ true → parts_of w 0 (wide_of w) ≡ parts
     named k = let m = name_made parts w h k e in absurd (false≢true (sym n ∙ ap is_name_token (made_token parts w (parts.prefix * 2 ^ 11 + parts.length) m.0) ∙ k))
+
     other : is_name_token parts.token ≡ false → parts_of w 0 (wide_of w) ≡ parts
     other k = let m = other_made parts w h k e in same_parts parts w 0 (wide_of w) parts.length m.0 (sym m.1) (made_wide parts w parts.length m.0)

@@ -109,8 +109,9 @@ impl Model for WordVec {
     ghost Value = { Growing };
 
     ghost view = { λ w. record {
-        lists = record { records = w.records.items.items; level1 = w.level1.items.items; level2 = w.level2.items.items; level3 = w.level3.items.items };
-        room = record { records = w.records.room; level1 = w.level1.room; level2 = w.level2.room; level3 = w.level3.room } } };
+      lists = record { records = w.records.items.items; level1 = w.level1.items.items; level2 = w.level2.items.items; level3 = w.level3.items.items };
+      room = record { records = w.records.room; level1 = w.level1.room; level2 = w.level2.room; level3 = w.level3.room };
+    } };
 }
 
 impl WordVec {
