@@ -1,8 +1,10 @@
 #!/usr/bin/env bash
-# Writes a document of about so many megabytes (100 if no number is given) with a record every four bytes, the densest
-# that there is.
+# Writes a document of about so many megabytes to standard output that repeats a short piece inside one element:
+# bench/dense_document.sh MEGABYTES PIECE. With `<b/>` it is densest in elements, with `<b/>x` in records.
 set -eu
-megabytes=${1:-100}
+megabytes=$1
+piece=$2
+count=$((megabytes * 1000000 / ${#piece}))
 printf '<a>'
-yes '<b/>' | tr -d '\n' | head -c "$((megabytes * 250000 * 4))"
+yes "$piece" | tr -d '\n' | head -c "$((count * ${#piece}))"
 printf '</a>'

@@ -6,13 +6,14 @@ megabytes=${1:-100}
 folder=$(mktemp -d)
 trap 'rm -rf "$folder"' EXIT
 "$top/bench/plain_document.sh" "$megabytes" > "$folder/plain.xml"
-"$top/bench/dense_document.sh" "$megabytes" > "$folder/dense.xml"
+"$top/bench/dense_document.sh" "$megabytes" '<b/>' > "$folder/elements.xml"
+"$top/bench/dense_document.sh" "$megabytes" '<b/>x' > "$folder/records.xml"
 "$top/vtd" "$folder/plain.xml" < /dev/null
-printf 'elements\n' > "$folder/elements"
+printf 'elements\n' > "$folder/listing"
 : > "$folder/empty"
-for name in plain dense; do
+for name in plain elements records; do
     document=$folder/$name.xml
-    for script in empty elements; do
+    for script in empty listing; do
         python3 - "$top/crates/vtd_program/out/vtd_program" "$document" "$folder/$script" <<'PY'
 import os, resource, subprocess, sys, time
 program, document, script = sys.argv[1:]

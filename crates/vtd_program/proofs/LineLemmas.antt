@@ -119,8 +119,8 @@ unfolding lines
 unended_line script at h u =
     let whole : slice_range script at (length script) ≡ drop at script = take_rest script at in
     let rest : drop (length script) script ≡ [] = drop_all (length script) script (omega arith) in
-    record { first = u h ∙ ap₂ (λ (a b : List ℕ). a ∷ lines b) (sym whole) (sym rest); in_order = omega arith; within = omega arith; goes_on = h; ends = omega arith }
+    record { begins = refl; first = u h ∙ ap₂ (λ (a b : List ℕ). a ∷ lines b) (sym whole) (sym rest); in_order = omega arith; within = omega arith; goes_on = h; ends = omega arith }
 
 pub ended_line : (script : List ℕ) (at end before : ℕ) → EndsLine script at end → IsBeforeReturn script at end before → IsLine script at (record { start = at; end = before; next = end + 1 })
 ended_line script at end before e b =
-    record { first = e.whole ∙ ap (λ (l : List ℕ). l ∷ lines (drop (end + 1) script)) b.same; in_order = b.low; within = (let l = e.high in let m = b.high in omega arith); goes_on = (let l = e.low in omega arith); ends = (let l = e.high in omega arith) }
+    record { begins = refl; first = e.whole ∙ ap (λ (l : List ℕ). l ∷ lines (drop (end + 1) script)) b.same; in_order = b.low; within = (let l = e.high in let m = b.high in omega arith); goes_on = (let l = e.low in omega arith); ends = (let l = e.high in omega arith) }

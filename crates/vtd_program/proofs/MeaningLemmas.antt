@@ -1,8 +1,10 @@
 -- How each ending of a run meets what the run means.
-use Rattle.std.proofs.Common.{◌≡◌, ℕ, ◌+◌, ◌<◌, ◌≤◌, cond, inl, inr, List, [], ◌∷◌, ◌++◌, length, drop, codes, Option, Some, None, Ok, Err, refl, sym, ap, ◌∙◌, subst, arith}
+use Rattle.std.proofs.Common.{◌≡◌, ℕ, ◌+◌, ◌<◌, ◌≤◌, cond, inl, inr, List, [], ◌∷◌, ◌++◌, length, drop, codes, Option, Some, None, Ok, Err, refl, sym, ap, ◌∙◌, subst, arith, true, false, Bool, nat_lt, ◌⊎◌}
 use Rattle.std.proofs.lemmas.List.{append-nil, append_cancel_left}
 use Rattle.std.proofs.lemmas.Bool.{cases_lt, lt-ltb, le-ltb}
 use Rattle.std.proofs.lemmas.Option.{same_Some}
+use Rattle.std.specs.Prelude.{is_none}
+use Rattle.vtd_outside.specs.Causes.{Rose, RoseAlone, is_missing}
 use Rattle.vtd_outside.specs.Told.{NameMap}
 use Rattle.vtd_outside.specs.Gathered.{GathersAll, GathersFront}
 use Rattle.vtd_outside.specs.declared.GatherFault.{GatherFault}
@@ -16,14 +18,14 @@ use Rattle.vtd_program.specs.declared.running.Status.{Status}
 use Rattle.vtd_program.specs.declared.running.Status.TheVariants as statuses
 use Rattle.vtd_program.specs.Lines.{lines, command}
 use Rattle.vtd_program.specs.Listing.{listed}
-use Rattle.vtd_program.specs.Meaning.{Outcome, Means, MeansName, MeansFile, MeansDocument, too_long, not_plain, plain, document_name, document_limit, script_limit, scripted, carried_out, step, refused, refused_line, usage_line, SendsAll, SendsFront, SendsAs, EndsAs, Ran, RanScript, Carries, CarriesTo, IsBuilt, ReadsDocument}
+use Rattle.vtd_program.specs.Meaning.{Outcome, Means, MeansName, MeansFile, MeansDocument, too_long, not_plain, plain, document_name, document_limit, script_limit, scripted, carried_out, step, refused, refused_line, usage_line, SendsAll, SendsFront, SendsAs, EndsAs, Ran, RanScript, Carries, CarriesTo, IsBuilt, ReadsDocument, IsFront, IsEnd, IsMeant, RanExactly, DocumentCause}
 use Rattle.vtd_program.specs.declared.running.NoDocument.{NoDocument}
 use Rattle.vtd_program.specs.declared.running.NoDocument.TheVariants as no
 
 -- ---- scripts
 
 -- one line keeps what does not depend on it
-step_keeps : {T : Type 0} (part : Outcome → T) (listing : List ℕ) (c : Command) (rest : Outcome) (x : T) → ((out : List ℕ) → part (record rest { out = out }) ≡ x) → part (refused (codes "command") []) ≡ x → part (step listing c rest) ≡ x
+step_keeps : {T : Type 0} (part : Outcome → T) (listing : List ℕ) (c : Command) (rest : Outcome) (x : T) → ((out : List ℕ) → part (record rest { out = out }) ≡ x) → part (refused (codes "command") true []) ≡ x → part (step listing c rest) ≡ x
 step_keeps part listing Skip rest x h k = h rest.out
 step_keeps part listing Elements rest x h k = h (listing ++ rest.out)
 step_keeps part listing Unknown rest x h k = k
@@ -36,21 +38,32 @@ carried_left : (listing : List ℕ) (ls : List (List ℕ)) → (carried_out list
 carried_left listing [] = refl
 carried_left listing (line ∷ others) = let h = carried_left listing others in step_keeps (λ (m : Outcome). m.left) listing (command line) (carried_out listing others) [] (λ out. h) refl
 
-ends_carried : (m : Outcome) (out : List ℕ) (status : Status) → m.err ≡ [] → m.left ≡ [] → CarriesTo m out status → EndsAs m out [] [] status
-ends_carried m out statuses.Done e l h = record { same_status = h.0; same_out = h.1; same_err = sym e; same_left = sym l }
-ends_carried m out statuses.Refused e l h = record { same_status = h.0; same_out = h.1; same_err = sym e; same_left = sym l }
-ends_carried m out statuses.WriteFault e l h = (h, record { more = []; split = e })
-ends_carried m out statuses.NoMemory e l h = (h, refl)
-ends_carried m out statuses.Usage e l h = absurd h
-ends_carried m out statuses.ReadFault e l h = absurd h
-ends_carried m out statuses.FileFault e l h = absurd h
+carried_reads : (listing : List ℕ) (ls : List (List ℕ)) → (carried_out listing ls).reads ≡ true
+carried_reads listing [] = refl
+carried_reads listing (line ∷ others) = let h = carried_reads listing others in step_keeps (λ (m : Outcome). m.reads) listing (command line) (carried_out listing others) true (λ out. h) refl
+
+ends_carried : (m : Outcome) (script out : List ℕ) (status : Status) → m.err ≡ [] → m.left ≡ [] → CarriesTo m out status → EndsAs m script out [] [] status
+ends_carried m script out statuses.Done e l h = record { same_status = h.0; same_out = h.1; same_err = sym e; same_left = sym l }
+ends_carried m script out statuses.Refused e l h = record { same_status = h.0; same_out = h.1; same_err = sym e; same_left = sym l }
+ends_carried m script out statuses.WriteFault e l h = (h, record { more = []; split = e }, sym l)
+ends_carried m script out statuses.NoMemory e l h = (h, refl)
+ends_carried m script out statuses.Usage e l h = absurd h
+ends_carried m script out statuses.ReadFault e l h = absurd h
+ends_carried m script out statuses.FileFault e l h = absurd h
 
 -- a script within the limit
 scripted_within : (nest : Forest) (script : List ℕ) → length script ≤ script_limit → scripted nest script ≡ carried_out (listed nest 0) (lines script)
-scripted_within nest script h = ap (λ b. cond b (refused (codes "script-long") (drop (script_limit + 1) script)) (carried_out (listed nest 0) (lines script))) (le-ltb _ _ h)
+scripted_within nest script h = ap (λ b. cond b (refused (codes "script-long") true (drop (script_limit + 1) script)) (carried_out (listed nest 0) (lines script))) (le-ltb _ _ h)
 
-scripted_long : (nest : Forest) (script : List ℕ) → script_limit < length script → scripted nest script ≡ refused (codes "script-long") (drop (script_limit + 1) script)
-scripted_long nest script h = ap (λ b. cond b (refused (codes "script-long") (drop (script_limit + 1) script)) (carried_out (listed nest 0) (lines script))) (lt-ltb _ _ h)
+scripted_long : (nest : Forest) (script : List ℕ) → script_limit < length script → scripted nest script ≡ refused (codes "script-long") true (drop (script_limit + 1) script)
+scripted_long nest script h = ap (λ b. cond b (refused (codes "script-long") true (drop (script_limit + 1) script)) (carried_out (listed nest 0) (lines script))) (lt-ltb _ _ h)
+
+scripted_reads : (nest : Forest) (script : List ℕ) → (scripted nest script).reads ≡ true
+scripted_reads nest script = by (nat_lt script_limit (length script)) (carried_reads (listed nest 0) (lines script))
+  where
+    by : (b : Bool) → (carried_out (listed nest 0) (lines script)).reads ≡ true → (cond b (refused (codes "script-long") true (drop (script_limit + 1) script)) (carried_out (listed nest 0) (lines script))).reads ≡ true
+    by true h = refl
+    by false h = h
 
 pub script_carried : (nest : Forest) (script bytes before : List ℕ) (left_before left_after after : Option (List ℕ)) (status : Status) → left_before ≡ Some script
     → GathersAll script_limit left_before left_after bytes → Carries (carried_out (listed nest 0) (lines bytes)) before after status → RanScript nest script before left_after after status
@@ -62,61 +75,87 @@ script_carried nest script bytes before lb la after status e h c =
     by None h = absurd h
     by (Some left) h =
         let m : scripted nest script ≡ carried_out (listed nest 0) (lines bytes) = scripted_within nest script h.2 ∙ ap (λ (s : List ℕ). carried_out (listed nest 0) (lines s)) (sym h.0) in
-        let P : Outcome → Type 0 = λ o. EndsAs o c.out [] left status in
-        let Q : List ℕ → Type 0 = λ l. EndsAs (carried_out (listed nest 0) (lines bytes)) c.out [] l status in
+        let P : Outcome → Type 0 = λ o. EndsAs o script c.out [] left status in
+        let Q : List ℕ → Type 0 = λ l. EndsAs (carried_out (listed nest 0) (lines bytes)) script c.out [] l status in
         record {
           out = c.out;
           left = left;
           taken = c.taken;
           script_left = refl;
-          ends = subst P (sym m) (subst Q (sym h.1) (ends_carried _ c.out status (carried_err (listed nest 0) (lines bytes)) (carried_left (listed nest 0) (lines bytes)) c.carries));
+          ends = subst P (sym m) (subst Q (sym h.1) (ends_carried _ script c.out status (carried_err (listed nest 0) (lines bytes)) (carried_left (listed nest 0) (lines bytes)) c.carries));
         }
 
 -- ---- refusals
 
 -- what was sent of the only line of a refusal
-ends_refused : (m : Outcome) (text left before : List ℕ) (after : Option (List ℕ)) (faults_before faults : ℕ) (status : Status) → SendsAs (Some before) after (refused_line text) faults_before faults statuses.Refused status
-    → (out : List ℕ) × (after ≡ Some (before ++ out)) × (m ≡ refused text left → EndsAs m out [] left status)
-ends_refused m text left before after fb fa status h =
+ends_refused : (m : Outcome) (text : List ℕ) (reads : Bool) (script left before : List ℕ) (after : Option (List ℕ)) (faults_before faults : ℕ) (status : Status) → SendsAs (Some before) after (refused_line text) faults_before faults statuses.Refused status
+    → (out : List ℕ) × (after ≡ Some (before ++ out)) × (m ≡ refused text reads left → EndsAs m script out [] left status)
+ends_refused m text reads script left before after fb fa status h =
     elim h [
       | inl q ↦
-          let P : Status → Type 0 = λ s. (out : List ℕ) × (after ≡ Some (before ++ out)) × (m ≡ refused text left → EndsAs m out [] left s) in
+          let P : Status → Type 0 = λ s. (out : List ℕ) × (after ≡ Some (before ++ out)) × (m ≡ refused text reads left → EndsAs m script out [] left s) in
           subst P (sym q.0) (all after q.1)
       | inr q ↦
-          let P : Status → Type 0 = λ s. (out : List ℕ) × (after ≡ Some (before ++ out)) × (m ≡ refused text left → EndsAs m out [] left s) in
+          let P : Status → Type 0 = λ s. (out : List ℕ) × (after ≡ Some (before ++ out)) × (m ≡ refused text reads left → EndsAs m script out [] left s) in
           subst P (sym q.0) (fronts after q.1)
     ]
   where
-    all : (after : Option (List ℕ)) → SendsAll (Some before) after (refused_line text) → (out : List ℕ) × (after ≡ Some (before ++ out)) × (m ≡ refused text left → EndsAs m out [] left statuses.Refused)
+    all : (after : Option (List ℕ)) → SendsAll (Some before) after (refused_line text) → (out : List ℕ) × (after ≡ Some (before ++ out)) × (m ≡ refused text reads left → EndsAs m script out [] left statuses.Refused)
     all None f = absurd f
     all (Some a) f = (refused_line text, ap (λ (xs : List ℕ). Some xs) f, λ e. record { same_status = ap (λ (o : Outcome). o.status) (sym e); same_out = ap (λ (o : Outcome). o.out) (sym e); same_err = ap (λ (o : Outcome). o.err) (sym e); same_left = ap (λ (o : Outcome). o.left) (sym e) })
 
-    fronts : (after : Option (List ℕ)) → SendsFront (Some before) after (refused_line text) → (out : List ℕ) × (after ≡ Some (before ++ out)) × (m ≡ refused text left → EndsAs m out [] left statuses.WriteFault)
+    fronts : (after : Option (List ℕ)) → SendsFront (Some before) after (refused_line text) → (out : List ℕ) × (after ≡ Some (before ++ out)) × (m ≡ refused text reads left → EndsAs m script out [] left statuses.WriteFault)
     fronts None f = absurd f
-    fronts (Some a) f = (f.0, ap (λ (xs : List ℕ). Some xs) f.1, λ e. (record { more = f.2.more; split = ap (λ (o : Outcome). o.out) e ∙ f.2.split }, record { more = []; split = ap (λ (o : Outcome). o.err) e }))
+    fronts (Some a) f = (f.0, ap (λ (xs : List ℕ). Some xs) f.1, λ e. (record { more = f.2.more; split = ap (λ (o : Outcome). o.out) e ∙ f.2.split }, record { more = []; split = ap (λ (o : Outcome). o.err) e }, sym (ap (λ (o : Outcome). o.left) e)))
 
--- nothing was sent
+-- nothing was sent: the document could not be read, or there was no memory
 abbrev pub EndsEmpty : Status → Type 0
-EndsEmpty statuses.ReadFault = Unit {0}
 EndsEmpty statuses.FileFault = Unit {0}
 EndsEmpty statuses.NoMemory = Unit {0}
 EndsEmpty _ = ⊥
 
-ends_empty : (m : Outcome) (left : List ℕ) (status : Status) → EndsEmpty status → EndsAs m [] [] left status
-ends_empty m left statuses.Done h = absurd h
-ends_empty m left statuses.Refused h = absurd h
-ends_empty m left statuses.Usage h = absurd h
-ends_empty m left statuses.ReadFault h = (refl, refl)
-ends_empty m left statuses.WriteFault h = absurd h
-ends_empty m left statuses.FileFault h = (refl, refl)
-ends_empty m left statuses.NoMemory h = (record { more = m.out; split = refl }, refl)
+-- nothing was sent: the script could not be read, or there was no memory
+abbrev pub EndsUnread : Status → Type 0
+EndsUnread statuses.ReadFault = Unit {0}
+EndsUnread statuses.NoMemory = Unit {0}
+EndsUnread _ = ⊥
+
+no_output : (m : Outcome) → IsFront [] m.out
+no_output m = record { more = m.out; split = refl }
+
+ends_empty : (m : Outcome) (script : List ℕ) (status : Status) → EndsEmpty status → EndsAs m script [] [] script status
+ends_empty m script statuses.Done h = absurd h
+ends_empty m script statuses.Refused h = absurd h
+ends_empty m script statuses.Usage h = absurd h
+ends_empty m script statuses.ReadFault h = absurd h
+ends_empty m script statuses.WriteFault h = absurd h
+ends_empty m script statuses.FileFault h = (refl, refl, refl)
+ends_empty m script statuses.NoMemory h = (no_output m, refl)
+
+ends_unread : (m : Outcome) (script left : List ℕ) (status : Status) → m.reads ≡ true → EndsUnread status → EndsAs m script [] [] left status
+ends_unread m script left statuses.Done r h = absurd h
+ends_unread m script left statuses.Refused r h = absurd h
+ends_unread m script left statuses.Usage r h = absurd h
+ends_unread m script left statuses.ReadFault r h = (refl, refl, r)
+ends_unread m script left statuses.WriteFault r h = absurd h
+ends_unread m script left statuses.FileFault r h = absurd h
+ends_unread m script left statuses.NoMemory r h = (no_output m, refl)
+
+no_end : (status : Status) → EndsEmpty status → IsEnd status → ⊥
+no_end statuses.Done h e = h
+no_end statuses.Refused h e = h
+no_end statuses.Usage h e = h
+no_end statuses.ReadFault h e = e
+no_end statuses.WriteFault h e = e
+no_end statuses.FileFault h e = e
+no_end statuses.NoMemory h e = e
 
 same_taken : (before : List ℕ) (o : Option (List ℕ)) → o ≡ Some before → o ≡ Some (before ++ [])
 same_taken before o e = e ∙ ap (λ (xs : List ℕ). Some xs) (sym (append-nil before))
 
 -- a script that could not be read to its end, or for which there was no memory
 pub script_unread : (nest : Forest) (script before : List ℕ) (left_before left_after after : Option (List ℕ)) (status : Status) (fault : GatherFault) → left_before ≡ Some script → after ≡ Some before
-    → GathersFront script_limit left_before left_after fault → (fault ≡ gather.Long → ⊥) → EndsEmpty status → RanScript nest script before left_after after status
+    → GathersFront script_limit left_before left_after fault → (fault ≡ gather.Long → ⊥) → EndsUnread status → RanScript nest script before left_after after status
 script_unread nest script before lb la after status fault e k h n s =
     let P : Option (List ℕ) → Type 0 = λ o. GathersFront script_limit o la fault in
     by la fault (subst P e h) n
@@ -125,9 +164,9 @@ script_unread nest script before lb la after status fault e k h n s =
     by None gather.Failed h n = absurd h
     by None gather.Long h n = absurd h
     by None gather.NoMemory h n = absurd h
-    by (Some left) gather.Failed h n = record { out = []; left = left; taken = same_taken before after k; script_left = refl; ends = ends_empty (scripted nest script) left status s }
+    by (Some left) gather.Failed h n = record { out = []; left = left; taken = same_taken before after k; script_left = refl; ends = ends_unread (scripted nest script) script left status (scripted_reads nest script) s }
     by (Some left) gather.Long h n = absurd (n refl)
-    by (Some left) gather.NoMemory h n = record { out = []; left = left; taken = same_taken before after k; script_left = refl; ends = ends_empty (scripted nest script) left status s }
+    by (Some left) gather.NoMemory h n = record { out = []; left = left; taken = same_taken before after k; script_left = refl; ends = ends_unread (scripted nest script) script left status (scripted_reads nest script) s }
 
 -- a script that is too long
 pub script_too_long : (nest : Forest) (script before : List ℕ) (left_before left_after out_before after : Option (List ℕ)) (faults_before faults : ℕ) (status : Status) (fault : GatherFault) → left_before ≡ Some script → out_before ≡ Some before
@@ -142,8 +181,8 @@ script_too_long nest script before lb la ob after fb fa status fault e k h is s 
     by : (la : Option (List ℕ)) → GathersFront script_limit (Some script) la gather.Long → SendsAs (Some before) after (refused_line (codes "script-long")) fb fa statuses.Refused status → RanScript nest script before la after status
     by None h s = absurd h
     by (Some left) h s =
-        let r = ends_refused (scripted nest script) (codes "script-long") left before after fb fa status s in
-        let m : scripted nest script ≡ refused (codes "script-long") left = scripted_long nest script (omega (arith, h.0)) ∙ ap (refused (codes "script-long")) (sym h.1) in
+        let r = ends_refused (scripted nest script) (codes "script-long") true script left before after fb fa status s in
+        let m : scripted nest script ≡ refused (codes "script-long") true left = scripted_long nest script (omega (arith, h.0)) ∙ ap (refused (codes "script-long") true) (sym h.1) in
         record { out = r.0; left = left; taken = r.1; script_left = refl; ends = r.2 m }
 
 -- ---- what a run means, by what is known
@@ -154,12 +193,19 @@ means_file words name files script m e h = let P : Option (List ℕ) → Type 0 
 means_document : (words : List (List ℕ)) (name bytes : List ℕ) (files : NameMap) (script : List ℕ) (m : Outcome) → document_name words ≡ Some name → files name ≡ Some bytes → Means words files script m → MeansDocument bytes script m
 means_document words name bytes files script m e f h = let P : Option (List ℕ) → Type 0 = λ o. MeansFile o script m in subst P f (means_file words name files script m e h)
 
-means_long : (bytes script : List ℕ) (m : Outcome) → document_limit < length bytes → MeansDocument bytes script m → m ≡ refused (codes "file-long") script
+-- and what it then means
+made_of : (words : List (List ℕ)) (name bytes : List ℕ) (files : NameMap) (script : List ℕ) (m : Outcome) → document_name words ≡ Some name → files name ≡ Some bytes → MeansDocument bytes script m → Means words files script m
+made_of words name bytes files script m e f h =
+    let P : Option (List ℕ) → Type 0 = λ o. MeansFile o script m in
+    let Q : Option (List ℕ) → Type 0 = λ o. MeansName o files script m in
+    subst Q (sym e) (subst P (sym f) h)
+
+means_long : (bytes script : List ℕ) (m : Outcome) → document_limit < length bytes → MeansDocument bytes script m → m ≡ refused (codes "file-long") false script
 means_long bytes script m l (too_long b s h) = refl
 means_long bytes script m l (not_plain b s h n) = absurd (omega arith)
 means_long bytes script m l (plain b s h nest p) = absurd (omega arith)
 
-means_not_plain : (bytes script : List ℕ) (m : Outcome) → length bytes ≤ document_limit → IsNotPlain bytes → MeansDocument bytes script m → m ≡ refused (codes "not-plain") script
+means_not_plain : (bytes script : List ℕ) (m : Outcome) → length bytes ≤ document_limit → IsNotPlain bytes → MeansDocument bytes script m → m ≡ refused (codes "not-plain") false script
 means_not_plain bytes script m l n (too_long b s h) = absurd (omega arith)
 means_not_plain bytes script m l n (not_plain b s h k) = refl
 means_not_plain bytes script m l n (plain b s h nest p) = absurd (n nest p)
@@ -174,24 +220,32 @@ means_plain bytes script m l nest p (plain b s h other q) = (other, q, refl)
 pub ran_empty : (words : List (List ℕ)) (files : NameMap) (script out err : List ℕ) (left_now out_now err_now : Option (List ℕ)) (status : Status) → left_now ≡ Some script → out_now ≡ Some out → err_now ≡ Some err → EndsEmpty status
     → Ran words files script out err left_now out_now err_now status
 ran_empty words files script out err l o e status el eo ee s =
-    record { out = []; err = []; left = script; out_taken = same_taken out o eo; err_taken = same_taken err e ee; script_left = el; ends = λ m h. ends_empty m script status s }
+    record { out = []; err = []; left = script; out_taken = same_taken out o eo; err_taken = same_taken err e ee; script_left = el; means = λ i. absurd (no_end status s i); ends = λ m h. ends_empty m script status s }
 
 pub ran_refused : (words : List (List ℕ)) (files : NameMap) (text script out err : List ℕ) (left_now out_before out_now err_now : Option (List ℕ)) (faults_before faults : ℕ) (status : Status)
-    → ((m : Outcome) → Means words files script m → m ≡ refused text script) → left_now ≡ Some script → out_before ≡ Some out → err_now ≡ Some err
+    → Means words files script (refused text false script) → ((m : Outcome) → Means words files script m → m ≡ refused text false script) → left_now ≡ Some script → out_before ≡ Some out → err_now ≡ Some err
     → SendsAs out_before out_now (refused_line text) faults_before faults statuses.Refused status → Ran words files script out err left_now out_now err_now status
-ran_refused words files text script out err ln ob on en fb fa status means el eo ee s =
+ran_refused words files text script out err ln ob on en fb fa status made means el eo ee s =
     let Q : Option (List ℕ) → Type 0 = λ o. SendsAs o on (refused_line text) fb fa statuses.Refused status in
-    let r = ends_refused (refused text script) text script out on fb fa status (subst Q eo s) in
-    let P : Outcome → Type 0 = λ o. EndsAs o r.0 [] script status in
-    record { out = r.0; err = []; left = script; out_taken = r.1; err_taken = same_taken err en ee; script_left = el; ends = λ m h. subst P (sym (means m h)) (r.2 refl) }
+    let r = ends_refused (refused text false script) text false script script out on fb fa status (subst Q eo s) in
+    let P : Outcome → Type 0 = λ o. EndsAs o script r.0 [] script status in
+    record { out = r.0; err = []; left = script; out_taken = r.1; err_taken = same_taken err en ee; script_left = el; means = λ i. (refused text false script, made); ends = λ m h. subst P (sym (means m h)) (r.2 refl) }
 
 pub ran_long : (words : List (List ℕ)) (name bytes : List ℕ) (files : NameMap) (script : List ℕ) → document_name words ≡ Some name → files name ≡ Some bytes → document_limit < length bytes
-    → (m : Outcome) → Means words files script m → m ≡ refused (codes "file-long") script
+    → (m : Outcome) → Means words files script m → m ≡ refused (codes "file-long") false script
 ran_long words name bytes files script d f l m h = means_long bytes script m l (means_document words name bytes files script m d f h)
 
 pub ran_not_plain : (words : List (List ℕ)) (name bytes : List ℕ) (files : NameMap) (script : List ℕ) → document_name words ≡ Some name → files name ≡ Some bytes → length bytes ≤ document_limit → IsNotPlain bytes
-    → (m : Outcome) → Means words files script m → m ≡ refused (codes "not-plain") script
+    → (m : Outcome) → Means words files script m → m ≡ refused (codes "not-plain") false script
 ran_not_plain words name bytes files script d f l n m h = means_not_plain bytes script m l n (means_document words name bytes files script m d f h)
+
+pub made_long : (words : List (List ℕ)) (name bytes : List ℕ) (files : NameMap) (script : List ℕ) → document_name words ≡ Some name → files name ≡ Some bytes → document_limit < length bytes
+    → Means words files script (refused (codes "file-long") false script)
+made_long words name bytes files script d f l = made_of words name bytes files script _ d f (too_long bytes script l)
+
+pub made_not_plain : (words : List (List ℕ)) (name bytes : List ℕ) (files : NameMap) (script : List ℕ) → document_name words ≡ Some name → files name ≡ Some bytes → length bytes ≤ document_limit → IsNotPlain bytes
+    → Means words files script (refused (codes "not-plain") false script)
+made_not_plain words name bytes files script d f l n = made_of words name bytes files script _ d f (not_plain bytes script l n)
 
 -- no document is named
 pub ran_usage : (words : List (List ℕ)) (files : NameMap) (script out err : List ℕ) (left_now out_now err_before err_now : Option (List ℕ)) (faults_before faults : ℕ) (status : Status)
@@ -201,8 +255,11 @@ ran_usage words files script out err ln on eb en fb fa status d el eo ee s =
     let Q : Option (List ℕ) → Type 0 = λ o. SendsAs o en usage_line fb fa statuses.Usage status in
     by en (subst Q ee s)
   where
-    means : (m : Outcome) → Means words files script m → m ≡ record { out = []; err = usage_line; status = statuses.Usage; left = script }
+    means : (m : Outcome) → Means words files script m → m ≡ record { out = []; err = usage_line; status = statuses.Usage; reads = false; left = script }
     means m h = let P : Option (List ℕ) → Type 0 = λ o. MeansName o files script m in subst P d h
+
+    made : Means words files script (record { out = []; err = usage_line; status = statuses.Usage; reads = false; left = script })
+    made = let P : Option (List ℕ) → Type 0 = λ o. MeansName o files script (record { out = []; err = usage_line; status = statuses.Usage; reads = false; left = script }) in subst P (sym d) refl
 
     by : (en : Option (List ℕ)) → SendsAs (Some err) en usage_line fb fa statuses.Usage status → Ran words files script out err ln on en status
     by None s = elim s [ inl q ↦ absurd q.1 | inr q ↦ absurd q.1 ]
@@ -216,6 +273,7 @@ ran_usage words files script out err ln on eb en fb fa status d el eo ee s =
             out_taken = same_taken out on eo;
             err_taken = ap (λ (xs : List ℕ). Some xs) q.1;
             script_left = el;
+            means = λ i. (record { out = []; err = usage_line; status = statuses.Usage; reads = false; left = script }, made);
             ends = λ m h. let e = sym (means m h) in record { same_status = ap (λ (o : Outcome). o.status) e; same_out = ap (λ (o : Outcome). o.out) e; same_err = ap (λ (o : Outcome). o.err) e; same_left = ap (λ (o : Outcome). o.left) e };
           })
       | inr q ↦
@@ -227,7 +285,8 @@ ran_usage words files script out err ln on eb en fb fa status d el eo ee s =
             out_taken = same_taken out on eo;
             err_taken = ap (λ (xs : List ℕ). Some xs) q.1.1;
             script_left = el;
-            ends = λ m h. (record { more = m.out; split = refl }, record { more = q.1.2.more; split = ap (λ (o : Outcome). o.err) (means m h) ∙ q.1.2.split });
+            means = λ i. (record { out = []; err = usage_line; status = statuses.Usage; reads = false; left = script }, made);
+            ends = λ m h. (record { more = m.out; split = refl }, record { more = q.1.2.more; split = ap (λ (o : Outcome). o.err) (means m h) ∙ q.1.2.split }, ap (λ (o : Outcome). o.left) (sym (means m h)));
           })
     ]
 
@@ -245,17 +304,18 @@ ran_script words name files doc script out err ln on en status d f l b ee ran =
       out_taken = r.taken;
       err_taken = same_taken err en ee;
       script_left = r.script_left;
+      means = λ i. (scripted b.nest script, made_of words name doc.bytes files script _ d f (plain doc.bytes script l b.nest b.plain));
       ends = λ m h. ends r m (means_plain doc.bytes script m l b.nest b.plain (means_document words name doc.bytes files script m d f h));
     }
   where
-    ends : (r : RanScript b.nest script out ln on status) (m : Outcome) → ((other : Forest) × IsPlain doc.bytes other × (m ≡ scripted other script)) → EndsAs m r.out [] r.left status
+    ends : (r : RanScript b.nest script out ln on status) (m : Outcome) → ((other : Forest) × IsPlain doc.bytes other × (m ≡ scripted other script)) → EndsAs m script r.out [] r.left status
     ends r m o =
         let q = ran o.0 o.1 (b.words o.0 o.1) in
         let same_out : q.out ≡ r.out = append_cancel_left out q.out r.out (same_Some (out ++ q.out) (out ++ r.out) (sym q.taken ∙ r.taken)) in
         let same_left : q.left ≡ r.left = same_Some q.left r.left (sym q.script_left ∙ r.script_left) in
-        let P : Outcome → Type 0 = λ x. EndsAs x r.out [] r.left status in
-        let Q : List ℕ → Type 0 = λ x. EndsAs (scripted o.0 script) x [] r.left status in
-        let R : List ℕ → Type 0 = λ x. EndsAs (scripted o.0 script) q.out [] x status in
+        let P : Outcome → Type 0 = λ x. EndsAs x script r.out [] r.left status in
+        let Q : List ℕ → Type 0 = λ x. EndsAs (scripted o.0 script) script x [] r.left status in
+        let R : List ℕ → Type 0 = λ x. EndsAs (scripted o.0 script) script q.out [] x status in
         subst P (sym o.2) (subst Q same_out (subst R same_left q.ends))
 
 -- ---- what was read, where the files are told
@@ -306,3 +366,62 @@ none_file (Some bytes) script none = none_document bytes script none
 pub no_run_without_meaning : (name : Option (List ℕ)) (files : NameMap) (script : List ℕ) → ((m : Outcome) → MeansName name files script m → ⊥) → ⊥
 no_run_without_meaning None files script none = none _ refl
 no_run_without_meaning (Some name) files script none = none_file (files name) script none
+
+-- ---- exactly the meaning
+
+made_exact : {words : List (List ℕ)} {files : NameMap} {script out err : List ℕ} {left_now out_now err_now : Option (List ℕ)} {status : Status} (r : Ran words files script out err left_now out_now err_now status)
+    (m : (o : Outcome) × Means words files script o) → IsMeant m.0 r.out r.err r.left status → RanExactly words files script out err left_now out_now err_now status
+made_exact {out = out} {err = err} r m i = record {
+  m = m.0;
+  means = m.1;
+  out_taken = r.out_taken ∙ ap (λ (xs : List ℕ). Some (out ++ xs)) i.same_out;
+  err_taken = r.err_taken ∙ ap (λ (xs : List ℕ). Some (err ++ xs)) i.same_err;
+  script_left = r.script_left ∙ ap (λ (xs : List ℕ). Some xs) i.same_left;
+  same_status = i.same_status;
+}
+
+pub ran_to_end : (words : List (List ℕ)) (files : NameMap) (script out err : List ℕ) (left_now out_now err_now : Option (List ℕ)) (status : Status) → Ran words files script out err left_now out_now err_now status → IsEnd status
+    → RanExactly words files script out err left_now out_now err_now status
+ran_to_end words files script out err ln on en statuses.Done r i = let m = r.means tt in made_exact r m (r.ends m.0 m.1)
+ran_to_end words files script out err ln on en statuses.Refused r i = let m = r.means tt in made_exact r m (r.ends m.0 m.1)
+ran_to_end words files script out err ln on en statuses.Usage r i = let m = r.means tt in made_exact r m (r.ends m.0 m.1)
+ran_to_end words files script out err ln on en statuses.ReadFault r i = absurd i
+ran_to_end words files script out err ln on en statuses.WriteFault r i = absurd i
+ran_to_end words files script out err ln on en statuses.FileFault r i = absurd i
+ran_to_end words files script out err ln on en statuses.NoMemory r i = absurd i
+
+sent_status : (before after : Option (List ℕ)) (piece : List ℕ) (faults_before faults : ℕ) (status result : Status) → SendsAs before after piece faults_before faults status result → (Rose faults_before faults → ⊥) → result ≡ status
+sent_status before after piece fb fa status result s n = elim s [ inl q ↦ q.0 | inr q ↦ absurd (n q.2) ]
+
+pub ran_sent : (words : List (List ℕ)) (files : NameMap) (script out err : List ℕ) (left_now out_now err_now before after : Option (List ℕ)) (piece : List ℕ) (faults_before faults : ℕ) (status result : Status)
+    → Ran words files script out err left_now out_now err_now result → SendsAs before after piece faults_before faults status result → (Rose faults_before faults → ⊥) → IsEnd status
+    → (result ≡ statuses.NoMemory) ⊎ RanExactly words files script out err left_now out_now err_now result
+ran_sent words files script out err ln on en before after piece fb fa status result r s n i = inr (ran_to_end words files script out err ln on en result r (subst IsEnd (sym (sent_status before after piece fb fa status result s n)) i))
+
+pub ran_through : (words : List (List ℕ)) (files : NameMap) (script out err : List ℕ) (left_now out_now err_now : Option (List ℕ)) (status : Status) → Ran words files script out err left_now out_now err_now status
+    → (status ≡ statuses.ReadFault → ⊥) → (status ≡ statuses.WriteFault → ⊥) → (status ≡ statuses.FileFault → ⊥) → (status ≡ statuses.NoMemory) ⊎ RanExactly words files script out err left_now out_now err_now status
+ran_through words files script out err ln on en statuses.Done r a b c = inr (ran_to_end words files script out err ln on en statuses.Done r tt)
+ran_through words files script out err ln on en statuses.Refused r a b c = inr (ran_to_end words files script out err ln on en statuses.Refused r tt)
+ran_through words files script out err ln on en statuses.Usage r a b c = inr (ran_to_end words files script out err ln on en statuses.Usage r tt)
+ran_through words files script out err ln on en statuses.ReadFault r a b c = absurd (a refl)
+ran_through words files script out err ln on en statuses.WriteFault r a b c = absurd (b refl)
+ran_through words files script out err ln on en statuses.FileFault r a b c = absurd (c refl)
+ran_through words files script out err ln on en statuses.NoMemory r a b c = inl refl
+
+-- the name is not there
+pub ran_missing : (words : List (List ℕ)) (name : List ℕ) (told : Option NameMap) (files : NameMap) (script out err : List ℕ) (left_now out_now err_now : Option (List ℕ)) (missed_before missed proper_before proper : ℕ)
+    → document_name words ≡ Some name → told ≡ Some files → RoseAlone (is_missing told name) missed_before missed proper_before proper → (Rose proper_before proper → ⊥) → left_now ≡ Some script → out_now ≡ Some out → err_now ≡ Some err
+    → RanExactly words files script out err left_now out_now err_now statuses.FileFault
+ran_missing words name told files script out err ln on en mb ma pb pa d e h n el eo ee =
+    let P : Option NameMap → Type 0 = λ o. RoseAlone (is_missing o name) mb ma pb pa in
+    by (files name) refl (subst P e h)
+  where
+    by : (file : Option (List ℕ)) → files name ≡ file → RoseAlone (is_none file) mb ma pb pa → RanExactly words files script out err ln on en statuses.FileFault
+    by None f h =
+        let P : Option (List ℕ) → Type 0 = λ o. MeansFile o script (record { out = []; err = []; status = statuses.FileFault; reads = false; left = script }) in
+        let Q : Option (List ℕ) → Type 0 = λ o. MeansName o files script (record { out = []; err = []; status = statuses.FileFault; reads = false; left = script }) in
+        record { m = record { out = []; err = []; status = statuses.FileFault; reads = false; left = script }; means = subst Q (sym d) (subst P (sym f) refl); out_taken = same_taken out on eo; err_taken = same_taken err en ee; script_left = el; same_status = refl }
+    by (Some bytes) f h = absurd (n h.1)
+
+pub failed_alone : (missing : Bool) (missed_before missed proper_before proper : ℕ) (fault : NoDocument) → fault ≡ no.Failed → DocumentCause missing missed_before missed proper_before proper (Err fault) → RoseAlone missing missed_before missed proper_before proper
+failed_alone missing mb ma pb pa fault e h = let P : NoDocument → Type 0 = λ x. DocumentCause missing mb ma pb pa (Err x) in subst P e h

@@ -48,6 +48,7 @@ pub record IsBeforeReturn (script : List ℕ) (from end result : ℕ) : Type 0 w
 
 -- the first line of those from a place on
 pub record IsLine (script : List ℕ) (at : ℕ) (line : Line) : Type 0 where
+  pub begins : line.start ≡ at
   pub first : lines (drop at script) ≡ slice_range script line.start line.end ∷ lines (drop line.next script)
   pub in_order : line.start ≤ line.end
   pub within : line.end ≤ length script

@@ -1,6 +1,6 @@
 -- What a run means (this project's own): what standard output and standard error take, the status, and what is left of the
 -- script, for each list of words behind the program's name, files and script. The files stay.
-use Rattle.std.specs.Prelude.{◌≡◌, ℕ, ◌+◌, ◌<◌, ◌≤◌, Bool, cond, List, [], ◌∷◌, ◌++◌, length, drop, nat_lt, codes, ◌⊎◌, Option, Some, None, Result, Ok, Err}
+use Rattle.std.specs.Prelude.{◌≡◌, ℕ, ◌+◌, ◌<◌, ◌≤◌, Bool, cond, List, [], ◌∷◌, ◌++◌, length, drop, nat_lt, codes, ◌⊎◌, Option, Some, None, Result, Ok, Err, true, false}
 use Rattle.vtd_outside.specs.Causes.{Rose, RoseAlone, is_missing}
 use Rattle.vtd_outside.specs.Told.{NameMap}
 use Rattle.xml_model.specs.Chars.{begins}
@@ -25,10 +25,12 @@ status_number statuses.WriteFault = 4
 status_number statuses.FileFault = 5
 status_number statuses.NoMemory = 6
 
+-- what standard output and standard error take, the status, whether the script is read, and what is left of it
 pub record Outcome : Type 0 where
   pub out : List ℕ
   pub err : List ℕ
   pub status : Status
+  pub reads : Bool
   pub left : List ℕ
 
 -- the name of the document, where the words are of the form: one word, which does not begin with a minus
@@ -42,19 +44,19 @@ usage_line = codes "usage: vtd [-k] [-x] DOC | vtd -g N" ++ line_feed
 abbrev pub refused_line : List ℕ → List ℕ
 refused_line words = codes "refused " ++ words ++ line_feed
 
--- an end with one line that refuses, and this left of the script
-abbrev pub refused : List ℕ → List ℕ → Outcome
-refused words left = record { out = refused_line words; err = []; status = statuses.Refused; left = left }
+-- an end with one line that refuses, where the script is read or not, and this is left of it
+abbrev pub refused : List ℕ → Bool → List ℕ → Outcome
+refused words reads left = record { out = refused_line words; err = []; status = statuses.Refused; reads = reads; left = left }
 
 -- One line before the rest of a script, with what the command `elements` prints.
 abbrev pub step : List ℕ → Command → Outcome → Outcome
 step listing Skip rest = rest
 step listing Elements rest = record rest { out = listing ++ rest.out }
-step listing Unknown rest = refused (codes "command") []
+step listing Unknown rest = refused (codes "command") true []
 
 -- The commands in turn. A refused one ends the run.
 abbrev pub carried_out : List ℕ → List (List ℕ) → Outcome
-carried_out listing [] = record { out = []; err = []; status = statuses.Done; left = [] }
+carried_out listing [] = record { out = []; err = []; status = statuses.Done; reads = true; left = [] }
 carried_out listing (line ∷ others) = step listing (command line) (carried_out listing others)
 
 abbrev pub document_limit : ℕ
@@ -66,22 +68,22 @@ script_limit = 16_777_216
 -- a script over a document with this nest: it is read whole before any command is carried out
 abbrev pub scripted : Forest → List ℕ → Outcome
 scripted nest script =
-    cond (nat_lt script_limit (length script)) (refused (codes "script-long") (drop (script_limit + 1) script))
+    cond (nat_lt script_limit (length script)) (refused (codes "script-long") true (drop (script_limit + 1) script))
     (carried_out (listed nest 0) (lines script))
 
 -- a document of these bytes, and a script, which is read only where the document is accepted
 pub data MeansDocument : List ℕ → List ℕ → Outcome → Type 0 where
-  too_long : (bytes script : List ℕ) → document_limit < length bytes → MeansDocument bytes script (refused (codes "file-long") script)
-  not_plain : (bytes script : List ℕ) → length bytes ≤ document_limit → IsNotPlain bytes → MeansDocument bytes script (refused (codes "not-plain") script)
+  too_long : (bytes script : List ℕ) → document_limit < length bytes → MeansDocument bytes script (refused (codes "file-long") false script)
+  not_plain : (bytes script : List ℕ) → length bytes ≤ document_limit → IsNotPlain bytes → MeansDocument bytes script (refused (codes "not-plain") false script)
   plain : (bytes script : List ℕ) → length bytes ≤ document_limit → (nest : Forest) → IsPlain bytes nest → MeansDocument bytes script (scripted nest script)
 
 -- a file that may not be there
 abbrev pub MeansFile : Option (List ℕ) → List ℕ → Outcome → Type 0
-MeansFile None script m = m ≡ record { out = []; err = []; status = statuses.FileFault; left = script }
+MeansFile None script m = m ≡ record { out = []; err = []; status = statuses.FileFault; reads = false; left = script }
 MeansFile (Some bytes) script m = MeansDocument bytes script m
 
 abbrev pub MeansName : Option (List ℕ) → NameMap → List ℕ → Outcome → Type 0
-MeansName None files script m = m ≡ record { out = []; err = usage_line; status = statuses.Usage; left = script }
+MeansName None files script m = m ≡ record { out = []; err = usage_line; status = statuses.Usage; reads = false; left = script }
 MeansName (Some name) files script m = MeansFile (files name) script m
 
 -- the words, files and script mean this outcome
@@ -99,16 +101,24 @@ pub record IsMeant (m : Outcome) (out err left : List ℕ) (status : Status) : T
   pub same_err : err ≡ m.err
   pub same_left : left ≡ m.left
 
--- How a run with this meaning ends, by its status, and by what was taken in it and what is left: exactly as it means, or
--- earlier, after a front of its output.
-abbrev pub EndsAs : Outcome → List ℕ → List ℕ → List ℕ → Status → Type 0
-EndsAs m out err left statuses.Done = IsMeant m out err left statuses.Done
-EndsAs m out err left statuses.Refused = IsMeant m out err left statuses.Refused
-EndsAs m out err left statuses.Usage = IsMeant m out err left statuses.Usage
-EndsAs m out err left statuses.ReadFault = (out ≡ []) × (err ≡ [])
-EndsAs m out err left statuses.WriteFault = IsFront out m.out × IsFront err m.err
-EndsAs m out err left statuses.FileFault = (out ≡ []) × (err ≡ [])
-EndsAs m out err left statuses.NoMemory = IsFront out m.out × (err ≡ [])
+-- How a run with this meaning ends, by its status, and by what was taken in it and what is left of the script: exactly as it
+-- means, or earlier, after a front of its output. A script that could not be read was to be read; where the document could not be
+-- read, the script was not touched.
+abbrev pub EndsAs : Outcome → List ℕ → List ℕ → List ℕ → List ℕ → Status → Type 0
+EndsAs m script out err left statuses.Done = IsMeant m out err left statuses.Done
+EndsAs m script out err left statuses.Refused = IsMeant m out err left statuses.Refused
+EndsAs m script out err left statuses.Usage = IsMeant m out err left statuses.Usage
+EndsAs m script out err left statuses.ReadFault = (out ≡ []) × (err ≡ []) × (m.reads ≡ true)
+EndsAs m script out err left statuses.WriteFault = IsFront out m.out × IsFront err m.err × (left ≡ m.left)
+EndsAs m script out err left statuses.FileFault = (out ≡ []) × (err ≡ []) × (left ≡ script)
+EndsAs m script out err left statuses.NoMemory = IsFront out m.out × (err ≡ [])
+
+-- the statuses of a run that was not cut short
+abbrev pub IsEnd : Status → Type 0
+IsEnd statuses.Done = Unit {0}
+IsEnd statuses.Refused = Unit {0}
+IsEnd statuses.Usage = Unit {0}
+IsEnd _ = ⊥
 
 -- a run over objects that tell their bytes: what was taken in it, what is left of the script, and how it ends
 pub record Ran (words : List (List ℕ)) (files : NameMap) (script out_before err_before : List ℕ) (left_after out_after err_after : Option (List ℕ)) (status : Status) : Type 0 where
@@ -118,7 +128,17 @@ pub record Ran (words : List (List ℕ)) (files : NameMap) (script out_before er
   pub out_taken : out_after ≡ Some (out_before ++ out)
   pub err_taken : err_after ≡ Some (err_before ++ err)
   pub script_left : left_after ≡ Some left
-  pub ends : (m : Outcome) → Means words files script m → EndsAs m out err left status
+  pub means : IsEnd status → (m : Outcome) × Means words files script m
+  pub ends : (m : Outcome) → Means words files script m → EndsAs m script out err left status
+
+-- a run that leaves exactly what the words, the files and the script mean
+pub record RanExactly (words : List (List ℕ)) (files : NameMap) (script out_before err_before : List ℕ) (left_after out_after err_after : Option (List ℕ)) (status : Status) : Type 0 where
+  pub m : Outcome
+  pub means : Means words files script m
+  pub out_taken : out_after ≡ Some (out_before ++ m.out)
+  pub err_taken : err_after ≡ Some (err_before ++ m.err)
+  pub script_left : left_after ≡ Some m.left
+  pub same_status : status ≡ m.status
 
 -- a document of a plain nest, whose words are those of each nest of its bytes
 pub record IsBuilt (doc : Document) : Type 0 where
@@ -203,7 +223,12 @@ pub record RanScript (nest : Forest) (script before : List ℕ) (left_after afte
   pub left : List ℕ
   pub taken : after ≡ Some (before ++ out)
   pub script_left : left_after ≡ Some left
-  pub ends : EndsAs (scripted nest script) out [] left status
+  pub ends : EndsAs (scripted nest script) script out [] left status
+
+-- The script could not be read: its count rose, and the words are of the form.
+abbrev pub ReadCause : Option (List ℕ) → ℕ → ℕ → Type 0
+ReadCause None faults_before faults = ⊥
+ReadCause (Some name) faults_before faults = Rose faults_before faults
 
 -- A line could not be sent: the count of standard error rose where the words are not of the form, and else that of
 -- standard output.

@@ -1,13 +1,13 @@
 //! The top call: what the words, the files and the script mean.
 
-ghost use Rattle.std.specs.Prelude.{◌≡◌, ℕ, ◌+◌, ◌-◌, ◌^◌, ◌<◌, ◌≤◌, List, length, map, false, Some, string_bytes, option_copied, Err, IsTrue};
+ghost use Rattle.std.specs.Prelude.{◌⊎◌, ◌≡◌, ℕ, ◌+◌, ◌-◌, ◌^◌, ◌<◌, ◌≤◌, List, length, map, false, Some, string_bytes, option_copied, Err, IsTrue};
 ghost use Rattle.vtd_outside.specs.Causes.{Rose, is_missing};
 ghost use Rattle.vtd_outside.specs.Told.{NameMap};
 ghost use Rattle.xml_model.specs.Nest.{Forest};
 ghost use Rattle.vtd_builder.specs.Plain.{IsPlain, words_of};
 ghost use Rattle.vtd_program.specs.Lines.{command, lines};
 ghost use Rattle.vtd_program.specs.Listing.{listed};
-ghost use Rattle.vtd_program.specs.Meaning.{document_name, carried_out, ReadsDocument, DocumentCause, SendsAs, CarriesLine, LineCause, Carries, EndsInScript, RanScript, Ran, WriteCause, FileCause, Outcome, Means};
+ghost use Rattle.vtd_program.specs.Meaning.{document_name, carried_out, ReadsDocument, DocumentCause, SendsAs, CarriesLine, LineCause, Carries, EndsInScript, RanScript, Ran, RanExactly, ReadCause, WriteCause, FileCause, Outcome, Means};
 
 use crate::commands::{Command, command_of, next_line};
 use crate::listing::element_lines;
@@ -84,6 +84,7 @@ fn read_document<F: Files>(alloc: Global, files: &mut F, name: &str) -> Result<D
     ensures cause { DocumentCause (is_missing (F.contents files.old) name.now) (F.missed files.old) (F.missed files.new) (F.proper files.old) (F.proper files.new) result }
     ensures missing { IsTrue (is_missing (F.contents files.old) name.now) → result ≡ Err NoDocument.Failed }
     ensures files_stay { F.contents files.new ≡ F.contents files.old }
+    ensures writing_stays { F.is_writing files.new ≡ false }
 {
     let bytes = match gather_file(alloc, files, name, DOCUMENT_LIMIT) {
         Ok(bytes) => bytes,
@@ -176,14 +177,20 @@ pub fn run<F: Files, S: Source, K: Sink, E: Sink>(
     ensures meaning { (contents : NameMap) (left taken told : List ℕ) → F.contents files.old ≡ Some contents → S.left script.old ≡ Some left
         → K.taken out.old ≡ Some taken → E.taken err.old ≡ Some told
         → Ran (map string_bytes words.now) contents left taken told (S.left script.new) (K.taken out.new) (E.taken err.new) result }
+    // It is exactly that, or there was no memory, where no count of faults rose but for a name that is not there.
+    ensures exact { (contents : NameMap) (left taken told : List ℕ) → F.contents files.old ≡ Some contents → S.left script.old ≡ Some left
+        → K.taken out.old ≡ Some taken → E.taken err.old ≡ Some told
+        → ¬ Rose (S.faults script.old) (S.faults script.new) → ¬ Rose (K.faults out.old) (K.faults out.new) → ¬ Rose (E.faults err.old) (E.faults err.new) → ¬ Rose (F.proper files.old) (F.proper files.new)
+        → (result ≡ Status.NoMemory) ⊎ RanExactly (map string_bytes words.now) contents left taken told (S.left script.new) (K.taken out.new) (E.taken err.new) result }
 
     // A fault comes only by its cause, whether the bytes are told or not.
-    ensures read_fault { result ≡ Status.ReadFault → Rose (S.faults script.old) (S.faults script.new) }
+    ensures read_fault { result ≡ Status.ReadFault → ReadCause (document_name (map string_bytes words.now)) (S.faults script.old) (S.faults script.new) }
     ensures write_fault { result ≡ Status.WriteFault
         → WriteCause (document_name (map string_bytes words.now)) (K.faults out.old) (K.faults out.new) (E.faults err.old) (E.faults err.new) }
     ensures file_fault { result ≡ Status.FileFault
         → FileCause (document_name (map string_bytes words.now)) (F.contents files.old) (F.missed files.old) (F.missed files.new) (F.proper files.old) (F.proper files.new) }
     ensures files_stay { F.contents files.new ≡ F.contents files.old }
+    ensures writing_stays { F.is_writing files.new ≡ false }
 {
     let Some(name) = document_name(words) else {
         let usage = b"usage: vtd [-k] [-x] DOC | vtd -g N\n";

@@ -1,7 +1,7 @@
 //! The words of a document: the trait through which they are read, and the lists that hold them.
 
 ghost use Rattle.std.specs.Prelude.{◌≡◌, ℕ, ◌+◌, ◌-◌, ◌^◌, ◌<◌, ◌≤◌, List, [], ◌∷◌, ◌++◌, length, slice_index, vec_len, vec_capacity, OnOk, OnErr};
-ghost use Rattle.vtd_words.specs.Lists.{Lists, list_of, with_word, HasRoom, room_of, less_one, TakesWord, none};
+ghost use Rattle.vtd_words.specs.Lists.{Lists, list_of, with_word, HasRoom, KeepsRoom, no_room, room_of, less_one, TakesWord, none};
 
 use std::alloc::Global;
 use std::marker::Model;
@@ -117,7 +117,8 @@ impl Model for WordVec {
 impl WordVec {
     /// No words, and no room for any. It takes no memory.
     pub fn new(alloc: Global) -> WordVec
-        ensures { result.lists ≡ none }
+        ensures lists { result.lists ≡ none }
+        ensures room { result.room ≡ no_room }
     {
         WordVec {
             records: Lane::new(alloc),
@@ -131,6 +132,7 @@ impl WordVec {
     pub fn reserve(&mut self, counts: Counts) -> Result<(), NoMemory>
         ensures lists { self.new.lists ≡ self.old.lists }
         ensures room { OnOk result (HasRoom counts self.new.room) }
+        ensures kept { KeepsRoom self.old.room self.new.room }
         ensures err { OnErr result (self.new ≡ self.old) }
     {
         self.records.grow(counts.records)?;

@@ -1,6 +1,6 @@
 -- 'Accepted with this nest' and 'no layer refuses': from the second to the first where a nest is there, and from the first to the
--- second where at most one item begins at a place, which the readers of items show.
-use Rattle.std.proofs.Common.{◌≡◌, ℕ, ◌+◌, ◌<◌, ◌≤◌, Bool, true, false, List, [], ◌∷◌, ◌++◌, refl, ap, ap₂, sym, ◌∙◌, arith, subst, length, append_assoc, append-nil, le_refl, not, Option, Some, None, eqb-true}
+-- second where at most one item begins at each place that a walk reaches, which the readers of items show.
+use Rattle.std.proofs.Common.{◌≡◌, ℕ, ◌+◌, ◌<◌, ◌≤◌, Bool, true, false, ◌&&◌, List, [], ◌∷◌, ◌++◌, refl, ap, ap₂, sym, ◌∙◌, arith, subst, length, append_assoc, append-nil, le_refl, not, Option, Some, None, eqb-true}
 use Rattle.std.specs.Prelude.{IsUtf8}
 use Rattle.std.proofs.Math.Seq.{take-length}
 use Rattle.std.proofs.lemmas.Bool.{and_parts, false≢true}
@@ -67,19 +67,30 @@ ends_behind : (p : ℕ) (is : List Item) → p ≤ end_of_items p is
 ends_behind p [] = le_refl p
 ends_behind p (i ∷ is) = omega (arith, ends_behind (p + length (spelling i)) is)
 
-one_walk_from : (bytes : List ℕ) → OneItem bytes → (p e : ℕ) (is js : List Item) → walk_from bytes p is ≡ true → walk_from bytes p js ≡ true → end_of_items p is ≡ e → end_of_items p js ≡ e → is ≡ js
-one_walk_from bytes one p e [] [] w v a b = refl
-one_walk_from bytes one p e [] (j ∷ js) w v a b =
+-- at most one item begins at each place that a walk from p reaches
+abbrev pub OneFrom : List ℕ → ℕ → Type 0
+OneFrom bytes p = (items : List Item) → walk_from bytes p items ≡ true → (i j : Item) → begins_at bytes (end_of_items p items) i ≡ true → begins_at bytes (end_of_items p items) j ≡ true → i ≡ j
+
+one_behind : (bytes : List ℕ) (p : ℕ) (i : Item) → OneFrom bytes p → begins_at bytes p i ≡ true → OneFrom bytes (p + length (spelling i))
+one_behind bytes p i one h items w = one (i ∷ items) (ap₂ (λ a b. a && b) h w)
+
+pub one_from : (bytes : List ℕ) → OneItem bytes → OneFrom bytes (first_place bytes)
+unfolding walk
+one_from bytes one = one
+
+one_walk_from : (bytes : List ℕ) (p e : ℕ) (is js : List Item) → OneFrom bytes p → walk_from bytes p is ≡ true → walk_from bytes p js ≡ true → end_of_items p is ≡ e → end_of_items p js ≡ e → is ≡ js
+one_walk_from bytes p e [] [] one w v a b = refl
+one_walk_from bytes p e [] (j ∷ js) one w v a b =
     let h = and_parts (begins_at bytes p j) _ v in absurd (omega (arith, a, b, spelling_some bytes p j h.0, ends_behind (p + length (spelling j)) js))
-one_walk_from bytes one p e (i ∷ is) [] w v a b =
+one_walk_from bytes p e (i ∷ is) [] one w v a b =
     let h = and_parts (begins_at bytes p i) _ w in absurd (omega (arith, a, b, spelling_some bytes p i h.0, ends_behind (p + length (spelling i)) is))
-one_walk_from bytes one p e (i ∷ is) (j ∷ js) w v a b =
+one_walk_from bytes p e (i ∷ is) (j ∷ js) one w v a b =
     let h = and_parts (begins_at bytes p i) _ w in
     let k = and_parts (begins_at bytes p j) _ v in
-    let same : j ≡ i = one p j i k.0 h.0 in
+    let same : j ≡ i = one [] refl j i k.0 h.0 in
     let next : ℕ → Type 0 = λ n. (walk_from bytes (p + n) js ≡ true) × (end_of_items (p + n) js ≡ e) in
     let moved = subst next (ap (λ x. length (spelling x)) same) (k.1, b) in
-    ap₂ (λ x xs. x ∷ xs) (sym same) (one_walk_from bytes one (p + length (spelling i)) e is js h.1 moved.0 a moved.1)
+    ap₂ (λ x xs. x ∷ xs) (sym same) (one_walk_from bytes (p + length (spelling i)) e is js (one_behind bytes p i one h.0) h.1 moved.0 a moved.1)
 
 -- two walks to the end are the same
 pub one_walk : (bytes : List ℕ) → OneItem bytes → (is js : List Item) → walk_to_end bytes is ≡ true → walk_to_end bytes js ≡ true → is ≡ js
@@ -87,22 +98,22 @@ unfolding walk_to_end walk
 one_walk bytes one is js w v =
     let h = and_parts (walk_from bytes (first_place bytes) is) _ w in
     let k = and_parts (walk_from bytes (first_place bytes) js) _ v in
-    one_walk_from bytes one (first_place bytes) (length bytes) is js h.0 k.0 (eqb-true _ _ h.1) (eqb-true _ _ k.1)
+    one_walk_from bytes (first_place bytes) (length bytes) is js (one_from bytes one) h.0 k.0 (eqb-true _ _ h.1) (eqb-true _ _ k.1)
 
 -- a walk that stops before the end of a walk to the end stops where an item begins
-item_there : (bytes : List ℕ) → OneItem bytes → (p e at : ℕ) (is js : List Item) → walk_from bytes p is ≡ true → end_of_items p is ≡ e → walk_from bytes p js ≡ true → end_of_items p js ≡ at → at < e → ((i : Item) → begins_at bytes at i ≡ false) → ⊥
-item_there bytes one p e at [] js w a v b l none = omega (arith, a, b, l, ends_behind p js)
-item_there bytes one p e at (i ∷ is) [] w a v b l none =
+pub item_there : (bytes : List ℕ) (p e at : ℕ) (is js : List Item) → OneFrom bytes p → walk_from bytes p is ≡ true → end_of_items p is ≡ e → walk_from bytes p js ≡ true → end_of_items p js ≡ at → at < e → ((i : Item) → begins_at bytes at i ≡ false) → ⊥
+item_there bytes p e at [] js one w a v b l none = omega (arith, a, b, l, ends_behind p js)
+item_there bytes p e at (i ∷ is) [] one w a v b l none =
     let h = and_parts (begins_at bytes p i) _ w in false≢true (sym (none i) ∙ ap (λ n. begins_at bytes n i) (sym b) ∙ h.0)
-item_there bytes one p e at (i ∷ is) (j ∷ js) w a v b l none =
+item_there bytes p e at (i ∷ is) (j ∷ js) one w a v b l none =
     let h = and_parts (begins_at bytes p i) _ w in
     let k = and_parts (begins_at bytes p j) _ v in
-    let same : j ≡ i = one p j i k.0 h.0 in
+    let same : j ≡ i = one [] refl j i k.0 h.0 in
     let next : ℕ → Type 0 = λ n. (walk_from bytes (p + n) js ≡ true) × (end_of_items (p + n) js ≡ at) in
     let moved = subst next (ap (λ x. length (spelling x)) same) (k.1, b) in
-    item_there bytes one (p + length (spelling i)) e at is js h.1 a moved.0 moved.1 l none
+    item_there bytes (p + length (spelling i)) e at is js (one_behind bytes p i one h.0) h.1 a moved.0 moved.1 l none
 
-same_nest : (bytes : List ℕ) → OneItem bytes → (f g : Forest) → IsDocument bytes f → IsDocument bytes g → g ≡ f
+pub same_nest : (bytes : List ℕ) → OneItem bytes → (f g : Forest) → IsDocument bytes f → IsDocument bytes g → g ≡ f
 same_nest bytes one f g d e = one_nest g f (one_walk bytes one (flat g) (flat f) e.walked d.walked)
 
 no_faulty_item : (f : ℕ → Item → List ℕ) (bytes : List ℕ) (nest : Forest) (at : ℕ) → OneItem bytes → IsDocument bytes nest → over_items f (first_place bytes) (flat nest) ≡ [] → RefusesItem f bytes at → ⊥
@@ -122,13 +133,13 @@ no_longest front (i ∷ is) nest n e h = h (record { nest = nest; rest = is; nes
 no_nesting : (bytes : List ℕ) (nest : Forest) (at : ℕ) (deep : Bool) → OneItem bytes → IsDocument bytes nest → RefusesNesting bytes at deep → ⊥
 no_nesting bytes nest at deep one d r = no_longest r.front r.rest nest d.nests (one_walk bytes one (flat nest) (r.front ++ r.rest) d.walked r.walked) r.longest
 
-no_syntax : (bytes : List ℕ) (nest : Forest) (at : ℕ) → OneItem bytes → IsDocument bytes nest → RefusesSyntax bytes at → ⊥
+pub no_syntax : (bytes : List ℕ) (items : List Item) (at : ℕ) → OneItem bytes → walk_to_end bytes items ≡ true → RefusesSyntax bytes at → ⊥
 unfolding walk_to_end walk
-no_syntax bytes nest at one d r =
-    let h = and_parts (walk_from bytes (first_place bytes) (flat nest)) _ d.walked in
-    item_there bytes one (first_place bytes) (length bytes) at (flat nest) r.items h.0 (eqb-true _ _ h.1) r.walked r.ends r.within r.none
+no_syntax bytes items at one w r =
+    let h = and_parts (walk_from bytes (first_place bytes) items) _ w in
+    item_there bytes (first_place bytes) (length bytes) at items r.items (one_from bytes one) h.0 (eqb-true _ _ h.1) r.walked r.ends r.within r.none
 
-no_utf8 : (bytes : List ℕ) (at : ℕ) → IsUtf8 bytes → RefusesUtf8 bytes at → ⊥
+pub no_utf8 : (bytes : List ℕ) (at : ℕ) → IsUtf8 bytes → RefusesUtf8 bytes at → ⊥
 no_utf8 bytes at u r = r.longest (length bytes) r.within (le_refl (length bytes)) (subst IsUtf8 (sym (take-length bytes)) u)
 
 no_wide : (bytes : List ℕ) (nest : Forest) (field : Field) (at : ℕ) → OneItem bytes → IsDocument bytes nest → first_wide (records nest (first_place bytes)) ≡ None → RefusesWidth bytes field at → ⊥
@@ -140,7 +151,7 @@ no_wide bytes nest field at one d e r =
 
 pub no_refusal_from_accepted : (k : ℕ) (bytes : List ℕ) (nest : Forest) → OneItem bytes → Accepted k bytes nest → AcceptedTo bytes k
 no_refusal_from_accepted k bytes nest one a (faults.Utf8 at) l = no_utf8 bytes at a.utf8
-no_refusal_from_accepted k bytes nest one a (faults.Syntax at) l = no_syntax bytes nest at one a.document
+no_refusal_from_accepted k bytes nest one a (faults.Syntax at) l = no_syntax bytes (flat nest) at one a.document.walked
 no_refusal_from_accepted k bytes nest one a (faults.Entity at) l = no_faulty_item unknown_item bytes nest at one a.document a.entities
 no_refusal_from_accepted k bytes nest one a (faults.Encoding at) l = no_faulty_item encoding_item bytes nest at one a.document a.encoding
 no_refusal_from_accepted k bytes nest one a (faults.Nesting at) l = no_nesting bytes nest at false one a.document

@@ -20,10 +20,10 @@ use Rattle.xml_model.proofs.ExamplesRecords.{two, lone}
 
 -- 1. <a and the byte FF: two bytes are UTF-8
 
-abbrev not_utf8 : List ℕ
+abbrev pub not_utf8 : List ℕ
 not_utf8 = 0x3C ∷ 0x61 ∷ 0xFF ∷ []
 
-utf8_at_two : Refuses not_utf8 (faults.Utf8 2)
+pub utf8_at_two : Refuses not_utf8 (faults.Utf8 2)
 unfolding encode_utf8 is_utf8 chars
 utf8_at_two = record {
   within = omega arith;
@@ -35,7 +35,7 @@ utf8_at_two = record {
 
 -- 3. the reference in <a>&x;</b> stands at 3, and that in <a b="&x;"/> at 6
 
-unknown_in_text : Refuses (codes "<a>&x;</b>") (faults.Entity 3)
+pub unknown_in_text : Refuses (codes "<a>&x;</b>") (faults.Entity 3)
 unfolding opened
 unknown_in_text = record { items = start_tag (tag (codes "a")) ∷ leaf (Leaf.text (entity (codes "x") ∷ [])) ∷ end_tag (codes "b") [] ∷ []; walked = refl; others = []; first = refl }
 
@@ -76,7 +76,7 @@ some_left : (xs : List Item) (y : Item) (ys : List Item) → xs ++ y ∷ ys ≡ 
 some_left [] y ys e = cc
 some_left (x ∷ xs) y ys e = cc
 
-abbrev a_opened : Item
+abbrev pub a_opened : Item
 a_opened = start_tag (tag (codes "a"))
 
 abbrev begins_open : BeginsNest (a_opened ∷ [])
@@ -234,7 +234,7 @@ name_too_wide = record { nest = hollow (replicate 2_048 97) done; document = rec
 
 -- 7. the second b in <a b="1" b="2"/> stands at 9
 
-abbrev with_attributes : List ℕ → List Attribute → Forest
+abbrev pub with_attributes : List ℕ → List Attribute → Forest
 with_attributes name others = empty (tag_with name others) done
 
 repeated_name : Refuses (codes "<a b=\"1\" b=\"2\"/>") (faults.Twice 9)

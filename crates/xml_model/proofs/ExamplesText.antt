@@ -4,7 +4,7 @@ use Rattle.xml_model.specs.Items.{literal, entity, decimal, hexadecimal, Quote, 
 use Rattle.xml_model.specs.Nest.{Forest, done, single, empty, element, flat}
 use Rattle.xml_model.specs.Tree.{Thing, all}
 use Rattle.xml_model.specs.Content.{content, text_content, value_content}
-use Rattle.xml_model.specs.Names.{Test, NameTest, Expanded, binding, expanded, passes, xml_uri}
+use Rattle.xml_model.specs.Names.{Test, NameTest, Expanded, binding, expanded, scope, passes, xml_uri}
 use Rattle.xml_model.proofs.ExampleParts.{opened, elem, hollow, words, tag_with, attr}
 use Rattle.xml_model.proofs.ExamplesTree.{merged, mixed}
 
@@ -63,7 +63,7 @@ instruction_content : content (Thing.instruction (record { target = codes "p"; s
 unfolding opened
 instruction_content = refl
 
--- <p:e xmlns:p="u" xmlns="d" x="1" p:y="2" xml:z="3"><e xmlns=""/></p:e>
+-- <p:e xmlns:p="u" xmlns="d" x="1" p:y="2" xml:z="3"><e xmlns=""/><e/></p:e>
 abbrev names : Forest
 names =
     element (tag_with (codes "p:e") (attr (codes "xmlns:p") (codes "u") ∷ attr (codes "xmlns") (codes "d") ∷ attr (codes "x") (codes "1") ∷ attr (codes "p:y") (codes "2") ∷ attr (codes "xml:z") (codes "3") ∷ []))
@@ -79,6 +79,12 @@ expanded_names : map expanded (all names 0)
     ≡ None ∷ Some (named_in (codes "u") (codes "e")) ∷ Some (named (codes "x")) ∷ Some (named_in (codes "u") (codes "y")) ∷ Some (named_in xml_uri (codes "z")) ∷ Some (named (codes "e")) ∷ Some (named_in (codes "d") (codes "e")) ∷ []
 unfolding opened
 expanded_names = refl
+
+-- the tags whose declarations reach each node: none the root, p:e's its attributes and itself, and of an element in it its own first
+reached : map (λ e. map (λ t. t.name) (scope e)) (all names 0)
+    ≡ [] ∷ (codes "p:e" ∷ []) ∷ (codes "p:e" ∷ []) ∷ (codes "p:e" ∷ []) ∷ (codes "p:e" ∷ []) ∷ (codes "e" ∷ codes "p:e" ∷ []) ∷ (codes "e" ∷ codes "p:e" ∷ []) ∷ []
+unfolding opened
+reached = refl
 
 -- a prefix that is declared empty is bound, to the empty text; the default is then taken away
 empty_prefix : binding (codes "p") (tag_with (codes "e") (attr (codes "xmlns:p") [] ∷ []) ∷ []) ≡ Some []

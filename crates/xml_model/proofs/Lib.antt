@@ -6,6 +6,7 @@ pub mod ExamplesLevels
 pub mod ExamplesItems
 pub mod ExamplesRefusals
 pub mod ExamplesSyntax
+pub mod ExamplesStops
 pub mod ExamplesOrder
 pub mod ExamplesLarge
 pub mod Each
@@ -26,6 +27,8 @@ pub mod AllAxes
 pub mod NodeAt
 pub mod NodeLaws
 pub mod Bridge
+pub mod OneRefusal
+pub mod ExamplesFirst
 pub mod Starts
 pub mod Lacks
 pub mod Siblings

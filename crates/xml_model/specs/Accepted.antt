@@ -176,7 +176,8 @@ repeated at seen (a ∷ others) = cond (list_any (bytes_eq a.name) seen) (name_p
 abbrev pub repeats : Faults
 repeats = record { instruction = λ at i. []; tag = λ at tags t. repeated (attributes_place at t) [] t.attributes }
 
--- 8. A name offends Namespaces in XML 1.0. Whether a prefix is bound (section 5, constraint 'Prefix Declared'); xml always is.
+-- 8. A name offends Namespaces in XML 1.0. Whether a prefix is bound (Namespaces in XML 1.0, section 5, constraint 'Prefix Declared'); xml
+-- always is.
 abbrev pub is_bound : List ℕ → List Tag → Bool
 is_bound prefix tags = is_nil prefix || bytes_eq prefix (codes "xml") || is_some (nearest prefix tags)
 
@@ -193,19 +194,20 @@ same_expanded x y = same_uri x.uri y.uri && bytes_eq x.name y.name
 abbrev pub expanded_of : List Tag → Attribute → Expanded
 expanded_of tags a = record { uri = attribute_uri (prefix_of a.name) tags; name = local_of a.name }
 
--- the two names that are bound to xml and xmlns for ever: section 3, constraint 'Reserved Prefixes and Namespace Names'
+-- whether a URI is one of the two that are bound to xml and xmlns for ever: Namespaces in XML 1.0, section 3, constraint 'Reserved
+-- Prefixes and Namespace Names'
 abbrev pub is_reserved : List ℕ → Bool
 is_reserved uri = bytes_eq uri xml_uri || bytes_eq uri xmlns_uri
 
--- of a declaration what it declares, and the value: constraints 'Reserved Prefixes and Namespace Names' (section 3) and 'No Prefix
--- Undeclaring' (section 5)
+-- whether a declaration offends, by its name and its value: Namespaces in XML 1.0, section 3, constraint 'Reserved Prefixes and Namespace
+-- Names', and section 5, constraint 'No Prefix Undeclaring'
 abbrev pub declaration_offends : List ℕ → List ℕ → Bool
 declaration_offends name uri =
     cond (bytes_eq name (codes "xmlns")) (is_reserved uri)
     (cond (bytes_eq name (codes "xmlns:xml")) (not (bytes_eq uri xml_uri)) (bytes_eq name (codes "xmlns:xmlns") || is_nil uri || is_reserved uri))
 
--- no qualified name, a bad declaration, an unbound prefix, or an expanded name that an earlier attribute has (section 6.3, constraint
--- 'Attributes Unique')
+-- whether an attribute offends: by no qualified name, a bad declaration, an unbound prefix, or an expanded name that an earlier attribute
+-- has (Namespaces in XML 1.0, section 6.3, constraint 'Attributes Unique')
 abbrev pub attribute_offends : List Tag → List Expanded → Attribute → Bool
 attribute_offends tags seen a =
     not (is_qname a.name)
@@ -220,7 +222,7 @@ abbrev pub offending_attributes : List Tag → ℕ → List Expanded → List At
 offending_attributes tags at seen [] = []
 offending_attributes tags at seen (a ∷ others) = cond (attribute_offends tags seen a) (name_place at a ∷ []) [] ++ offending_attributes tags (at + size (written_attribute a)) (seen_with tags a seen) others
 
--- of the name of a tag: no qualified name, the prefix xmlns, an unbound prefix
+-- whether the name of a tag offends: by being no qualified name, by the prefix xmlns, or by an unbound prefix
 abbrev pub tag_offends : List Tag → List ℕ → Bool
 tag_offends tags name = not (is_qname name) || bytes_eq (prefix_of name) (codes "xmlns") || not (is_bound (prefix_of name) tags)
 
@@ -228,7 +230,7 @@ tag_offends tags name = not (is_qname name) || bytes_eq (prefix_of name) (codes 
 abbrev pub offending_tag : ℕ → List Tag → Tag → List ℕ
 offending_tag at tags t = cond (tag_offends (t ∷ tags) t.name) ((at + 1) ∷ []) [] ++ offending_attributes (t ∷ tags) (attributes_place at t) [] t.attributes
 
--- 8. in a nest; the target of an instruction has no colon (section 7)
+-- 8. in a nest; the target of an instruction has no colon: Namespaces in XML 1.0, section 7
 abbrev pub offences : Faults
 offences = record { instruction = λ at i. cond (has_colon i.target) (at ∷ []) []; tag = offending_tag }
 

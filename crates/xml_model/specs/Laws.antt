@@ -3,7 +3,7 @@
 use Rattle.std.specs.Prelude.{◌≡◌, ℕ, suc, ◌+◌, ◌<◌, Bool, true, false, ◌&&◌, ◌||◌, List, [], ◌∷◌, ◌++◌, length, nat_lt, nat_le, filter, ◌==◌, Some, Contains}
 use Rattle.xml_model.specs.declared.Axis.{Axis}
 use Rattle.xml_model.specs.declared.Axis.TheVariants as axes
-use Rattle.xml_model.specs.Items.{Leaf, Item, begins_at}
+use Rattle.xml_model.specs.Items.{Leaf, Item, begins_at, walk, end_of_items, first_place}
 use Rattle.xml_model.specs.Nest.{Forest}
 use Rattle.xml_model.specs.Records.{Token, document, records, depth_at, tag_tokens, attribute_tokens, run_tokens, leaf_tokens, tokens, past_start}
 use Rattle.xml_model.specs.Tree.{Thing, Entry, is_reverse, reverse_if, Holder, kind_of, all, before, steps, is_self, is_some_steps, on_axis}
@@ -114,6 +114,6 @@ pub record HasParent (nest : Forest) (first : ℕ) (x : Entry) : Type 0 where
 abbrev pub list_by_places : Axis → Entry → List Entry → List Entry
 list_by_places axis x es = reverse_if (is_reverse axis) (filter (by_places axis x) es)
 
--- at most one item begins at a place
+-- at most one item begins at each place that a walk reaches: the first place, and each where whole items end
 abbrev pub OneItem : List ℕ → Type 0
-OneItem bytes = (p : ℕ) (i j : Item) → begins_at bytes p i ≡ true → begins_at bytes p j ≡ true → i ≡ j
+OneItem bytes = (items : List Item) → walk bytes items ≡ true → (i j : Item) → begins_at bytes (end_of_items (first_place bytes) items) i ≡ true → begins_at bytes (end_of_items (first_place bytes) items) j ≡ true → i ≡ j

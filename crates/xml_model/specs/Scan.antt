@@ -8,7 +8,7 @@ use Rattle.xml_model.specs.Nest.{Forest}
 use Rattle.xml_model.specs.Records.{Token, document}
 use Rattle.xml_model.specs.Tree.{Thing, all}
 
--- the level of a record: a starting tag's depth, none for what no element holds, and one more than the depth of anything else. It is the
+-- the level of a record: a starting tag's depth, 0 for what no element holds, and one more than the depth of anything else. It is the
 -- number of elements that hold what the record is of
 abbrev pub level_of : Token → ℕ
 level_of r = cond (r.token == 0) r.depth (cond (r.depth == 255) 0 (suc r.depth))

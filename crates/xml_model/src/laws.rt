@@ -7,13 +7,14 @@ ghost use Rattle.std.specs.List.Sorted.{IsStrictlyIncreasing};
 ghost use Rattle.std.specs.Option.{option_map};
 ghost use Rattle.xml_model.specs.declared.Axis.{Axis};
 ghost use Rattle.xml_model.specs.declared.Axis.TheVariants as axes;
+ghost use Rattle.xml_model.specs.declared.DocFault.{DocFault};
 ghost use Rattle.xml_model.specs.Items.{Item, meets, walk, walk_to_end};
 ghost use Rattle.xml_model.specs.Nest.{Forest, flat, is_nest};
 ghost use Rattle.xml_model.specs.Records.{records};
 ghost use Rattle.xml_model.specs.Tree.{Entry, all, at_place, axis_list, kind_of, on_axis};
 ghost use Rattle.xml_model.specs.Scan.{begins_by_scan, end_by_scan, holder_by_scan, kind_by_scan, past_by_scan, starts_by_scan, EndsAt};
-ghost use Rattle.xml_model.specs.Accepted.{Accepted, AcceptedTo, IsDocument};
-ghost use Rattle.xml_model.specs.Laws.{by_places, is_root_thing, list_by_places, FirstRecordShows, HasParent, IsNode, OneItem, PlacesTell, RecordsStand, SiblingsTell};
+ghost use Rattle.xml_model.specs.Accepted.{Accepted, AcceptedTo, IsDocument, IsRefusal};
+ghost use Rattle.xml_model.specs.Laws.{by_places, holder_place, is_root_thing, list_by_places, FirstRecordShows, HasParent, IsNode, OneItem, PlacesTell, RecordsStand, SiblingsTell};
 
 /// A list of items is the print of at most one nest.
 pub fn one_nest()
@@ -25,12 +26,12 @@ pub fn items_meet()
     ensures { (bytes : List ℕ) (items : List Item) → walk bytes items ≡ true → list_all meets items ≡ true }
 {}
 
-/// The same of the items of a document.
+/// Each item of a document meets its row of the item table, so that no text is empty.
 pub fn document_items_meet()
     ensures { (bytes : List ℕ) (nest : Forest) → IsDocument bytes nest → list_all meets (flat nest) ≡ true }
 {}
 
-/// Where at most one item begins at a place, bytes are walked to their end by at most one list of items.
+/// Where at most one item begins at each place that a walk reaches, bytes are walked to their end by at most one list of items.
 pub fn one_walk()
     ensures { (bytes : List ℕ) → OneItem bytes →
         (is js : List Item) → walk_to_end bytes is ≡ true → walk_to_end bytes js ≡ true → is ≡ js }
@@ -42,9 +43,16 @@ pub fn accepted_where_none_refuses()
         AcceptedTo bytes k → Accepted k bytes nest }
 {}
 
-/// Where at most one item begins at a place, none of the first k layers refuses what is accepted so far.
+/// Where at most one item begins at each place that a walk reaches, none of the first k layers refuses what is accepted so far.
 pub fn none_refuses_accepted()
     ensures { (k : ℕ) (bytes : List ℕ) (nest : Forest) → OneItem bytes → Accepted k bytes nest → AcceptedTo bytes k }
+{}
+
+/// Where at most one item begins at each place that a walk reaches, a document has at most one refusal: the first layer that
+/// refuses does so with one fault, at one place.
+pub fn one_refusal()
+    ensures { (bytes : List ℕ) → OneItem bytes →
+        (f g : DocFault) → IsRefusal bytes f → IsRefusal bytes g → f ≡ g }
 {}
 
 /// Along the tree, in document order, the places rise strictly.
@@ -70,7 +78,7 @@ pub fn ends_by_scan()
         (e : Entry) → IsNode nest first e → e.past ≡ past_by_scan (kind_of e.what) e.place (records nest first) }
 {}
 
-/// The same of the element whose first record has an index.
+/// The records of the element whose first record has an index end where a scan of the records from there ends.
 pub fn element_ends_by_scan()
     ensures { (nest : Forest) (first : ℕ) → is_nest nest ≡ true →
         (at : ℕ) → EndsAt nest first at (end_by_scan at (records nest first)) }
@@ -108,6 +116,13 @@ pub fn parent_by_scan()
         on_axis axes.Parent x.path y.path ≡ (not (is_root_thing x.what) && y.place == holder_by_scan x.place (records nest first)) }
 {}
 
+/// What a scan backwards from a node's first record finds is the first record of the nearest element that holds the node, and
+/// index 0, the root's, where no element does.
+pub fn holder_by_scan_tells()
+    ensures { (nest : Forest) (first : ℕ) → is_nest nest ≡ true →
+        (e : Entry) → IsNode nest first e → holder_by_scan e.place (records nest first) ≡ holder_place e.holders }
+{}
+
 /// Every node but the root has a parent.
 pub fn parent_exists()
     ensures { (nest : Forest) (first : ℕ) → is_nest nest ≡ true →
@@ -126,7 +141,8 @@ pub fn begins_by_scan_tells()
         (n : ℕ) → is_some (at_place n (all nest first)) ≡ begins_by_scan n (records nest first) }
 {}
 
-/// The same with the kind of the node.
+/// The kind of the node at a place is that which the record with that index begins, by the records round it; there is none where it
+/// begins none.
 pub fn kind_by_scan_tells()
     ensures { (nest : Forest) (first : ℕ) → is_nest nest ≡ true → list_all meets (flat nest) ≡ true →
         (n : ℕ) → option_map (λ e. kind_of e.what) (at_place n (all nest first)) ≡ kind_by_scan n (records nest first) }

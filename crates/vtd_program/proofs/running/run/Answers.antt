@@ -1,6 +1,6 @@
-use Rattle.std.proofs.Common.{sym, codes, map, Global}
+use Rattle.std.proofs.Common.{sym, codes, map, Global, inl, inr, refl}
 use Rattle.std.specs.String.{string_bytes}
-use Rattle.vtd_program.proofs.MeaningLemmas.{ran_empty, ran_refused, ran_long, ran_not_plain, ran_usage, ran_script, reads_ok, reads_long, reads_not_plain, same_meaning, no_run_without_meaning}
+use Rattle.vtd_program.proofs.MeaningLemmas.{ran_empty, ran_refused, ran_long, ran_not_plain, ran_usage, ran_sent, ran_through, ran_missing, failed_alone, ran_script, made_long, made_not_plain, reads_ok, reads_long, reads_not_plain, same_meaning, no_run_without_meaning}
 use Rattle.vtd_program.specs.Meaning.{document_name}
 use Rattle.vtd_program.proofs.running.run.Goals as goal
 
@@ -22,12 +22,12 @@ returns-in-Err-NoMemory-clause-meaning g c = λ contents left taken told files f
 pub returns-in-Err-Long-clause-meaning : goal.returns-in-Err-Long-clause-meaning
 returns-in-Err-Long-clause-meaning g c = λ contents left taken told files from to errs.
     let r = reads_long _ contents c.in-Some.name.now c.in-Err-Long.field-0 files c.in-Err-Long.field-0-is c.in-Err-Long.ensures.reads in
-    ran_refused _ contents (codes "file-long") left taken told _ _ _ _ _ _ c.end_with-in-Err-Long.result (ran_long (map (string_bytes {Z = Global}) c.args.words.now) c.in-Some.name.now r.0 contents left (sym c.in-Some.ensures) r.1 r.2) from to errs c.end_with-in-Err-Long.ensures
+    ran_refused _ contents (codes "file-long") left taken told _ _ _ _ _ _ c.end_with-in-Err-Long.result (made_long (map (string_bytes {Z = Global}) c.args.words.now) c.in-Some.name.now r.0 contents left (sym c.in-Some.ensures) r.1 r.2) (ran_long (map (string_bytes {Z = Global}) c.args.words.now) c.in-Some.name.now r.0 contents left (sym c.in-Some.ensures) r.1 r.2) from to errs c.end_with-in-Err-Long.ensures
 
 pub returns-in-Err-NotPlain-clause-meaning : goal.returns-in-Err-NotPlain-clause-meaning
 returns-in-Err-NotPlain-clause-meaning g c = λ contents left taken told files from to errs.
     let r = reads_not_plain _ contents c.in-Some.name.now c.in-Err-NotPlain.field-0 files c.in-Err-NotPlain.field-0-is c.in-Err-NotPlain.ensures.reads in
-    ran_refused _ contents (codes "not-plain") left taken told _ _ _ _ _ _ c.end_with-in-Err-NotPlain.result (ran_not_plain (map (string_bytes {Z = Global}) c.args.words.now) c.in-Some.name.now r.0 contents left (sym c.in-Some.ensures) r.1 r.2 r.3) from to errs c.end_with-in-Err-NotPlain.ensures
+    ran_refused _ contents (codes "not-plain") left taken told _ _ _ _ _ _ c.end_with-in-Err-NotPlain.result (made_not_plain (map (string_bytes {Z = Global}) c.args.words.now) c.in-Some.name.now r.0 contents left (sym c.in-Some.ensures) r.1 r.2 r.3) (ran_not_plain (map (string_bytes {Z = Global}) c.args.words.now) c.in-Some.name.now r.0 contents left (sym c.in-Some.ensures) r.1 r.2 r.3) from to errs c.end_with-in-Err-NotPlain.ensures
 
 pub returns-in_default-clause-some_meaning : goal.returns-in_default-clause-some_meaning
 returns-in_default-clause-some_meaning g c = λ contents left. no_run_without_meaning (document_name (map (string_bytes {Z = Global}) c.args.words.now)) contents left
@@ -61,3 +61,27 @@ returns-in-Err-NotPlain-clause-one_meaning g c = λ contents left m n. same_mean
 
 pub returns-in-Err-NotPlain-clause-some_meaning : goal.returns-in-Err-NotPlain-clause-some_meaning
 returns-in-Err-NotPlain-clause-some_meaning g c = λ contents left. no_run_without_meaning (document_name (map (string_bytes {Z = Global}) c.args.words.now)) contents left
+
+pub returns-in_default-clause-exact : goal.returns-in_default-clause-exact
+returns-in_default-clause-exact g c = λ contents left taken told files from to errs noread nowrite noerr nofile.
+    ran_sent _ contents left taken told _ _ _ _ _ _ _ _ _ c.end_with.result (returns-in_default-clause-meaning g c contents left taken told files from to errs) c.end_with.ensures noerr tt
+
+pub returns-in-Ok-clause-exact : goal.returns-in-Ok-clause-exact
+returns-in-Ok-clause-exact g c = λ contents left taken told files from to errs noread nowrite noerr nofile.
+    ran_through _ contents left taken told _ _ _ c.run_script.result (returns-in-Ok-clause-meaning g c contents left taken told files from to errs)
+    (λ e. noread (c.run_script.ensures.read_fault e)) (λ e. nowrite (c.run_script.ensures.write_fault e)) c.run_script.ensures.no_file_fault
+
+pub returns-in-Err-Failed-clause-exact : goal.returns-in-Err-Failed-clause-exact
+returns-in-Err-Failed-clause-exact g c = λ contents left taken told files from to errs noread nowrite noerr nofile.
+    inr (ran_missing _ c.in-Some.name.now _ contents left taken told _ _ _ _ _ _ _ (sym c.in-Some.ensures) files (failed_alone _ _ _ _ _ c.in-Err-Failed.field-0 c.in-Err-Failed.field-0-is c.in-Err-Failed.ensures.cause) nofile from to errs)
+
+pub returns-in-Err-NoMemory-clause-exact : goal.returns-in-Err-NoMemory-clause-exact
+returns-in-Err-NoMemory-clause-exact g c = λ contents left taken told files from to errs noread nowrite noerr nofile. inl refl
+
+pub returns-in-Err-Long-clause-exact : goal.returns-in-Err-Long-clause-exact
+returns-in-Err-Long-clause-exact g c = λ contents left taken told files from to errs noread nowrite noerr nofile.
+    ran_sent _ contents left taken told _ _ _ _ _ _ _ _ _ c.end_with-in-Err-Long.result (returns-in-Err-Long-clause-meaning g c contents left taken told files from to errs) c.end_with-in-Err-Long.ensures nowrite tt
+
+pub returns-in-Err-NotPlain-clause-exact : goal.returns-in-Err-NotPlain-clause-exact
+returns-in-Err-NotPlain-clause-exact g c = λ contents left taken told files from to errs noread nowrite noerr nofile.
+    ran_sent _ contents left taken told _ _ _ _ _ _ _ _ _ c.end_with-in-Err-NotPlain.result (returns-in-Err-NotPlain-clause-meaning g c contents left taken told files from to errs) c.end_with-in-Err-NotPlain.ensures nowrite tt

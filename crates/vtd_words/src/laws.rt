@@ -1,0 +1,27 @@
+//! Laws of tables. Each function does nothing; its contract is the law, which the check proves. Other crates cite the
+//! lemmas of `proofs/Fitting.antt` and `proofs/Same.antt`, which say the same.
+
+ghost use Rattle.std.specs.Prelude.{◌≡◌, ℕ, ◌<◌, ◌^◌, List, length};
+ghost use Rattle.xml_model.specs.declared.Node.{Node};
+ghost use Rattle.xml_model.specs.Items.{first_place};
+ghost use Rattle.xml_model.specs.Nest.{Forest};
+ghost use Rattle.xml_model.specs.Records.{records};
+ghost use Rattle.vtd_words.specs.Lists.{Lists};
+ghost use Rattle.vtd_words.specs.Table.{IsNestOf, IsNodeOf, Shows, StandsInEach};
+
+/// Each record of a table's nest fits into its word.
+pub fn records_fit()
+    ensures { (bytes : List ℕ) (lists : Lists) (nest : Forest) → length bytes < 2 ^ 30 → IsNestOf bytes lists nest →
+        Shows lists.records (records nest (first_place bytes)) }
+{}
+
+/// All nests of a table have the same records.
+pub fn same_records()
+    ensures { (bytes : List ℕ) (lists : Lists) → length bytes < 2 ^ 30 → (f g : Forest) → IsNestOf bytes lists f → IsNestOf bytes lists g →
+        records f (first_place bytes) ≡ records g (first_place bytes) }
+{}
+
+/// A node of a table stands in each nest of the table.
+pub fn node_in_each_nest()
+    ensures { (bytes : List ℕ) (lists : Lists) → length bytes < 2 ^ 30 → (node : Node) → IsNodeOf bytes lists node → StandsInEach bytes lists node }
+{}

@@ -1,0 +1,12 @@
+pub mod WideLemmas
+pub mod Readers
+pub mod Points
+pub mod TextLemmas
+pub mod Ranges
+pub mod Runs
+pub mod NumberLemmas
+pub mod ReferenceLemmas
+pub mod StandLemmas
+pub mod NameLaws
+pub mod PlaceLemmas
+pub mod ColonLemmas

@@ -1,0 +1,17 @@
+pub mod PieceLaws
+pub mod TagLaws
+pub mod MarkLaws
+pub mod DeclarationLaws
+pub mod DoctypeLaws
+pub mod TextLaws
+pub mod ItemLaws
+pub mod PlainLemmas
+pub mod StepLemmas
+pub mod SpanLemmas
+pub mod TagSpans
+pub mod FindLemmas
+pub mod MarkSpans
+pub mod UnitLemmas
+pub mod PartLemmas
+pub mod WalkLemmas
+pub mod AttributeLemmas

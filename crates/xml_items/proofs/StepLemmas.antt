@@ -1,0 +1,125 @@
+-- An attribute, step by step, and a list of attributes one by one.
+use Rattle.std.proofs.Common.{◌≡◌, ℕ, ◌<◌, true, false, List, [], ◌∷◌, ◌++◌, length, Option, Some, None, refl, sym, ap, ◌∙◌, arith}
+use Rattle.std.specs.Prelude.{codes, ◌==◌, option_map}
+use Rattle.std.specs.Str.{IsUtf8, chars}
+use Rattle.std.proofs.lemmas.Str.{chars-nil}
+use Rattle.std.proofs.lemmas.List.{nil_from_length}
+use Rattle.std.proofs.lemmas.Bool.{eqb-true, eqb-false}
+use Rattle.xml_model.specs.Items.{Quote, single, double, Attribute, quote_char, written_pieces, written_attribute, Piece}
+use Rattle.xml_chars.specs.Readers.{skip, word, mapped}
+use Rattle.xml_chars.specs.Reading.{read_name, read_space, ascii_head}
+use Rattle.xml_chars.proofs.Readers.{skip_some, skip_none, word_reads, many_more, many_stuck, many_done, map_some}
+use Rattle.xml_chars.proofs.NameLaws.{name_reads, space_reads}
+use Rattle.xml_chars.proofs.Points.{first_of}
+use Rattle.xml_items.specs.Reading.{quote_form, read_quote, read_value, some_space, read_attribute, begins_attribute, read_attributes}
+use Rattle.xml_items.specs.Suffixes.{Suffixes, suffixes}
+use Rattle.xml_items.proofs.PieceLaws.{quote_reads, value_reads}
+use Rattle.xml_items.proofs.TagLaws.{attribute_reads, attribute_pos, FitAttribute}
+
+-- ---- quotes
+
+pub single_quote : (text rest : List ℕ) → word (codes "'") text ≡ Some (tt, rest) → read_quote text ≡ Some (single, rest)
+unfolding read_quote quote_form ascii_head
+single_quote text rest e = rw ((word_reads (codes "'")).takes text tt rest e).0 refl
+
+pub double_quote : (text rest : List ℕ) → word (codes "\"") text ≡ Some (tt, rest) → read_quote text ≡ Some (double, rest)
+unfolding read_quote quote_form ascii_head
+double_quote text rest e = rw ((word_reads (codes "\"")).takes text tt rest e).0 refl
+
+pub no_quote : (text : List ℕ) → word (codes "'") text ≡ None → word (codes "\"") text ≡ None → read_quote text ≡ None
+unfolding read_quote
+no_quote text s d = go (quote_form text)
+  where
+    go : (q : Quote) → mapped (λ _. q) (word (quote_char q ∷ [])) text ≡ None
+    go single = rw s refl
+    go double = rw d refl
+
+-- ---- white space that is there
+
+pub space_there : (bs : List ℕ) → IsUtf8 bs → (length bs == 0) ≡ false → some_space (chars bs) ≡ true
+space_there bs u h =
+    let lt : 0 < length bs = omega (arith, eqb-false (length bs) 0 h) in
+    ap some_space (first_of bs u lt).points
+
+pub space_gone : (bs : List ℕ) → (length bs == 0) ≡ true → some_space (chars bs) ≡ false
+space_gone bs h = ap (λ (l : List ℕ). some_space (chars l)) (nil_from_length bs (eqb-true (length bs) 0 h)) ∙ ap some_space chars-nil
+
+-- ---- an attribute, step by step
+
+pub attribute_1 : (s space a : List ℕ) → read_space s ≡ Some (space, a) → some_space space ≡ false → read_attribute s ≡ None
+unfolding read_attribute
+attribute_1 s space a e1 f = rw (e1, f) refl
+
+pub attribute_2 : (s space a : List ℕ) → read_space s ≡ Some (space, a) → some_space space ≡ true → read_name a ≡ None → read_attribute s ≡ None
+unfolding read_attribute
+attribute_2 s space a e1 t e2 = rw (e1, t, e2) refl
+
+pub attribute_3 : (s space a name b left c : List ℕ) → read_space s ≡ Some (space, a) → some_space space ≡ true → read_name a ≡ Some (name, b) → read_space b ≡ Some (left, c) → word (codes "=") c ≡ None → read_attribute s ≡ None
+unfolding read_attribute
+attribute_3 s space a name b left c e1 t e2 e3 e4 = rw (e1, t, e2, e3, e4) refl
+
+pub attribute_4 : (s space a name b left c d right e : List ℕ) → read_space s ≡ Some (space, a) → some_space space ≡ true → read_name a ≡ Some (name, b) → read_space b ≡ Some (left, c) → word (codes "=") c ≡ Some (tt, d) → read_space d ≡ Some (right, e) → read_quote e ≡ None → read_attribute s ≡ None
+unfolding read_attribute
+attribute_4 s space a name b left c d right e e1 t e2 e3 e4 e5 e6 = rw (e1, t, e2, e3, e4, e5, e6) refl
+
+pub attribute_5 : (s space a name b left c d right e : List ℕ) (q : Quote) (f : List ℕ) → read_space s ≡ Some (space, a) → some_space space ≡ true → read_name a ≡ Some (name, b) → read_space b ≡ Some (left, c) → word (codes "=") c ≡ Some (tt, d) → read_space d ≡ Some (right, e) → read_quote e ≡ Some (q, f) → None ≡ skip (read_value q) f → read_attribute s ≡ None
+unfolding read_attribute
+attribute_5 s space a name b left c d right e q f e1 t e2 e3 e4 e5 e6 e7 = let none = skip_none (read_value q) f (sym e7) in rw (e1, t, e2, e3, e4, e5, e6, none) refl
+
+pub attribute_6 : (s space a name b left c d right e : List ℕ) (q : Quote) (f g : List ℕ) → read_space s ≡ Some (space, a) → some_space space ≡ true → read_name a ≡ Some (name, b) → read_space b ≡ Some (left, c) → word (codes "=") c ≡ Some (tt, d) → read_space d ≡ Some (right, e) → read_quote e ≡ Some (q, f) → Some g ≡ skip (read_value q) f → word (quote_char q ∷ []) g ≡ None → read_attribute s ≡ None
+unfolding read_attribute
+attribute_6 s space a name b left c d right e q f g e1 t e2 e3 e4 e5 e6 e7 e8 = let v = (skip_some (read_value q) f g (sym e7)).1 in rw (e1, t, e2, e3, e4, e5, e6, v, e8) refl
+
+attribute_by : (s space a name b left c d right e : List ℕ) (q : Quote) (f g h : List ℕ) (v : List Piece) → read_space s ≡ Some (space, a) → some_space space ≡ true → read_name a ≡ Some (name, b) → read_space b ≡ Some (left, c) → word (codes "=") c ≡ Some (tt, d) → read_space d ≡ Some (right, e) → read_quote e ≡ Some (q, f) → read_value q f ≡ Some (v, g) → word (quote_char q ∷ []) g ≡ Some (tt, h)
+    → read_attribute s ≡ Some (record { space = space; name = name; left = left; right = right; quote = q; value = v }, h)
+unfolding read_attribute
+attribute_by s space a name b left c d right e q f g h v e1 t e2 e3 e4 e5 e6 e7 e8 = rw (e1, t, e2, e3, e4, e5, e6, e7, e8) refl
+
+suffixes_are : (a b c d e f g h space name left right : List ℕ) (q : Quote) (v : List Piece) → a ≡ name ++ b → b ≡ left ++ c → c ≡ 61 ∷ d → d ≡ right ++ e → e ≡ quote_char q ∷ f → f ≡ written_pieces v ++ g → g ≡ quote_char q ∷ h
+    → Some (suffixes (record { space = space; name = name; left = left; right = right; quote = q; value = v }, h)) ≡ Some record { after_space = a; after_name = b; value = f; after_value = g; rest = h }
+suffixes_are a b c d e f g h space name left right q v a_is b_is c_is d_is e_is f_is g_is = rw (a_is, b_is, c_is, d_is, e_is, f_is, g_is) refl
+
+pub attribute_7 : (s space a name b left c d right e : List ℕ) (q : Quote) (f g h : List ℕ) → read_space s ≡ Some (space, a) → some_space space ≡ true → read_name a ≡ Some (name, b) → read_space b ≡ Some (left, c) → word (codes "=") c ≡ Some (tt, d) → read_space d ≡ Some (right, e) → read_quote e ≡ Some (q, f) → Some g ≡ skip (read_value q) f → word (quote_char q ∷ []) g ≡ Some (tt, h)
+    → option_map suffixes (read_attribute s) ≡ Some record { after_space = a; after_name = b; value = f; after_value = g; rest = h }
+attribute_7 s space a name b left c d right e q f g h e1 t e2 e3 e4 e5 e6 e7 e8 =
+    let v = skip_some (read_value q) f g (sym e7) in
+    let a_is : a ≡ name ++ b = (name_reads.takes a name b e2).0 in
+    let b_is : b ≡ left ++ c = (space_reads.takes b left c e3).0 in
+    let c_is : c ≡ 61 ∷ d = ((word_reads (codes "=")).takes c tt d e4).0 in
+    let d_is : d ≡ right ++ e = (space_reads.takes d right e e5).0 in
+    let e_is : e ≡ quote_char q ∷ f = (quote_reads.takes e q f e6).0 in
+    let f_is : f ≡ written_pieces v.0 ++ g = ((value_reads q).takes f v.0 g v.1).0 in
+    let g_is : g ≡ quote_char q ∷ h = ((word_reads (quote_char q ∷ [])).takes g tt h e8).0 in
+    ap (option_map suffixes) (attribute_by s space a name b left c d right e q f g h v.0 e1 t e2 e3 e4 e5 e6 v.1 e8) ∙ suffixes_are a b c d e f g h space name left right q v.0 a_is b_is c_is d_is e_is f_is g_is
+
+-- ---- the attributes one by one
+
+pub suffixes_some : (o : Option (Attribute × List ℕ)) (f : Suffixes) → option_map suffixes o ≡ Some f → (a : Attribute) × (o ≡ Some (a, f.rest)) × (suffixes (a, f.rest) ≡ f)
+suffixes_some o f e =
+    let m = map_some suffixes o f e in
+    let same : m.0.1 ≡ f.rest = ap (λ (z : Suffixes). z.rest) m.2 in
+    (m.0.0, m.1 ∙ ap (λ (r : List ℕ). Some (m.0.0, r)) same, ap (λ (r : List ℕ). suffixes (m.0.0, r)) (sym same) ∙ m.2)
+
+pub suffixes_none : (o : Option (Attribute × List ℕ)) → option_map suffixes o ≡ None → o ≡ None
+suffixes_none None e = refl
+suffixes_none (Some p) e = absurd (cc)
+
+pub attributes_more : (text rest : List ℕ) → begins_attribute text ≡ true → skip read_attribute text ≡ Some rest → skip read_attributes text ≡ skip read_attributes rest
+unfolding read_attributes
+attributes_more text rest go e = (many_more begins_attribute read_attribute written_attribute FitAttribute attribute_pos attribute_reads text rest go e).0
+
+pub attributes_stuck : (text : List ℕ) → begins_attribute text ≡ true → skip read_attribute text ≡ None → skip read_attributes text ≡ None
+unfolding read_attributes
+attributes_stuck text go e = many_stuck begins_attribute read_attribute text go e
+
+pub attributes_done : (text : List ℕ) → begins_attribute text ≡ false → skip read_attributes text ≡ Some text
+unfolding read_attributes
+attributes_done text h = many_done begins_attribute read_attribute text h
+
+pub attribute_rest : (text rest : List ℕ) (f : Suffixes) → option_map suffixes (read_attribute text) ≡ Some f → rest ≡ f.rest → skip read_attribute text ≡ Some rest
+attribute_rest text rest f e r =
+    let m = suffixes_some (read_attribute text) f e in
+    ap (option_map (λ (p : Attribute × List ℕ). p.1)) m.1 ∙ ap Some (sym r)
+
+pub attribute_gone : (text : List ℕ) → option_map suffixes (read_attribute text) ≡ None → skip read_attribute text ≡ None
+attribute_gone text e = ap (option_map (λ (p : Attribute × List ℕ). p.1)) (suffixes_none (read_attribute text) e)

@@ -1,0 +1,158 @@
+//! The items of a document: texts, tags, comments and the rest (XML 1.0, productions 14 to 44).
+#![tactic(auto)]
+
+ghost use Rattle.std.specs.Prelude.{◌≡◌, ◌<◌, ◌+◌, ◌^◌, ◌↔◌, List, ℕ, drop, true, length, option_map, codes, IfOk, IfErr, IfSome};
+ghost use Rattle.std.specs.Str.{chars, IsUtf8, IsCharBoundary};
+ghost use Rattle.xml_model.specs.Items.{first_place};
+ghost use Rattle.xml_chars.specs.Reading.{read_name};
+ghost use Rattle.xml_items.specs.Reading.{is_name_read, read_item};
+ghost use Rattle.xml_items.specs.Shown.{item_shown, IsItemAt, HasNoItem};
+
+mod attributes;
+mod classes;
+mod declarations;
+mod doctypes;
+pub mod laws;
+mod marks;
+mod pieces;
+mod spans;
+mod tags;
+mod texts;
+
+pub use attributes::Attributes;
+use declarations::{declaration_at, is_same};
+use doctypes::doctype_at;
+use marks::{cdata_at, comment_at, instruction_at};
+use tags::{end_tag_at, tag_at};
+use texts::text_item_at;
+use xml_chars::names::name_of;
+use xml_chars::text::{head, step, text_at, word_of};
+use xml_model::Span;
+
+/// The kinds of items.
+#[derive(Clone, Copy, Debug, PartialEq, Eq)]
+pub enum ItemKind {
+    Text,
+    StartTag,
+    EmptyTag,
+    EndTag,
+    Comment,
+    Instruction,
+    Cdata,
+    Declaration,
+    Doctype,
+}
+
+/// An item, by places in the document's bytes.
+#[derive(Clone, Copy, Debug, PartialEq, Eq)]
+pub struct Item {
+    pub kind: ItemKind,
+    /// The whole item.
+    pub span: Span,
+    /// The Name of a tag, an Instruction or a Doctype; empty at the item's start for the others.
+    pub name: Span,
+    /// The whole of a Text; what stands between the markers of a Cdata and a Comment; the data of an Instruction; what
+    /// stands between the Name of a tag and its `>` or `/>`, between `<?xml` and `?>`, and behind `<!DOCTYPE`.
+    pub content: Span,
+}
+
+/// No item begins at the place.
+#[derive(Clone, Copy, Debug, PartialEq, Eq)]
+pub struct ItemFault;
+
+/// An attribute of a tag, or a part of the XML declaration, by places in the document's bytes.
+#[derive(Clone, Copy, Debug, PartialEq, Eq)]
+pub struct AttributeItem {
+    pub name: Span,
+    /// What stands between the quotes.
+    pub value: Span,
+}
+
+/// The first place of the document: that after a byte order mark, or its start.
+fn first_place(bytes: &[u8]) -> u32
+    ensures { result ≡ first_place bytes.now }
+{
+    if bytes.starts_with(&[0xEF, 0xBB, 0xBF]) {
+        3
+    } else {
+        0
+    }
+}
+
+/// What follows the first character.
+fn after_first(text: &str) -> &str
+    ensures { chars result.now ≡ drop 1 (chars text.now) }
+{
+    match step(text) {
+        Some((_, rest)) => rest,
+        None => text,
+    }
+}
+
+/// Whether the name at the front is `xml`.
+fn begins_xml(text: &str) -> bool
+    ensures { result ≡ is_name_read (codes "xml") (read_name (chars text.now)) }
+{
+    match name_of(text) {
+        Some((name, _)) => is_same(name, "xml"),
+        None => false,
+    }
+}
+
+/// The item at the front of a text that begins at the place, which is the document's first place or is not.
+fn item_of(text: &str, at: u32, first: bool) -> Option<Item>
+    requires { at + length text.now < 2 ^ 32 }
+    ensures { result ≡ option_map (λ p. item_shown at p.0) (read_item first (chars text.now)) }
+{
+    let Some(rest) = word_of(text, "<") else {
+        return text_item_at(text, at);
+    };
+    if head(rest) == b'/' {
+        return end_tag_at(text, at);
+    }
+    if head(rest) == b'?' {
+        if !begins_xml(after_first(rest)) {
+            return instruction_at(text, at);
+        }
+        if first {
+            return declaration_at(text, at);
+        }
+        return None;
+    }
+    if head(rest) == b'!' {
+        if head(after_first(rest)) == b'-' {
+            return comment_at(text, at);
+        }
+        if head(after_first(rest)) == b'[' {
+            return cdata_at(text, at);
+        }
+        return doctype_at(text, at);
+    }
+    tag_at(text, at)
+}
+
+/// The item that begins at the place: `Ok(None)` exactly at the end, and `Err` exactly where the place is before the end
+/// and no item begins there.
+pub fn next_item(bytes: &[u8], at: u32) -> Result<Option<Item>, ItemFault>
+    requires utf8 { IsUtf8 bytes.now }
+    requires place { IsCharBoundary bytes.now at }
+    requires size { length bytes.now < 2 ^ 32 }
+    ensures end { (result ≡ Ok None) ↔ (at ≡ length bytes.now) }
+    ensures item { IfOk result (λ found. IfSome found (IsItemAt bytes.now at)) }
+    ensures start { IfOk result (λ found. IfSome found (λ item. item.span.start ≡ at)) }
+    ensures fault { IfErr result (λ _. (at < length bytes.now) × HasNoItem bytes.now at) }
+    ensures place { IfOk result (λ found. IfSome found (λ item. IsCharBoundary bytes.now item.span.end)) }
+{
+    let text = text_at(bytes, at);
+    if text.is_empty() {
+        return Ok(None);
+    }
+    let first = at == first_place(bytes);
+    match item_of(text, at, first) {
+        Some(item) => Ok(Some(item)),
+        None => Err(ItemFault),
+    }
+}
+
+#[cfg(test)]
+mod tests;

@@ -1,0 +1,15 @@
+pub mod Clean
+pub mod Cut
+pub mod Forms
+pub mod Unique
+pub mod Going
+pub mod Ends
+pub mod Remaining
+pub mod Parsing
+pub mod Minus
+pub mod Applied
+pub mod LastOperator
+pub mod Depths
+pub mod Whole
+pub mod Lookups
+pub mod Numbers

@@ -1,0 +1,12 @@
+use Rattle.std.proofs.Common.{◌≡◌, ◌+◌, ◌-◌, ◌≤◌, length, drop}
+use Rattle.xpath_grammar.specs.Grammar.{minus_len}
+use Rattle.xpath_grammar.proofs.scan.leading_minuses.Given as goal
+
+abbrev pub invariant-loop-count : goal.invariant-loop-count
+invariant-loop-count l = record {
+  within : l.count ≤ length l.tokens;
+  same : minus_len l.tokens ≡ l.count + minus_len (drop l.count l.tokens);
+}
+
+abbrev pub decreases-loop-count : goal.decreases-loop-count
+decreases-loop-count l = length l.tokens - l.count

@@ -1,0 +1,84 @@
+-- Laws of the grammar.
+use Rattle.std.specs.Prelude.{◌≡◌, List, [], ◌∷◌, ◌++◌, Bool, true, false}
+use Rattle.xpath_tokens.specs.declared.Token.{Token}
+use Rattle.xpath_tokens.specs.declared.Token.TheVariants.{Comma, Or, And, Compare, Arithmetic, Bar, Slash, SlashSlash}
+use Rattle.xpath_tokens.specs.declared.Comparison.{Comparison}
+use Rattle.xpath_tokens.specs.declared.Operator.{Operator}
+use Rattle.xpath_tokens.specs.declared.Operator.TheVariants.{Subtract}
+use Rattle.xpath_grammar.specs.Grammar.{Symbol, Phrase, Derives, or_one, or_more, and_one, and_more, equality_one, equality_more, relational_one, relational_more, additive_one, additive_more, mult_one, mult_more, unary_one, unary_minus, union_one, union_more, path_location, path_filter, path_slash, path_slash_slash, filter_one, filter_more, primary_bracket, primary_variable, primary_literal, primary_number, call_none, call_some, arguments_one, arguments_more, location_rel, location_root, location_slash, location_slash_slash, rel_one, rel_slash, rel_slash_slash, step, step_dot, step_dots, predicates_none, predicates_more, predicate, plus, minus, IsAdditive, ends, Level, OrLevel, AndLevel, EqualityLevel, RelationalLevel, AdditiveLevel, MultLevel, UnionLevel, RelLevel, ArgumentLevel, IsEquality, IsRelational, IsMult, depth, Free}
+
+-- of each minus in a derivation, in their order, whether it is binary there
+abbrev pub minuses : {s : Symbol} {ts : List Token} {e : Phrase} → Derives s ts e → List Bool
+minuses (or_one d) = minuses d
+minuses (or_more c d) = minuses c ++ minuses d
+minuses (and_one d) = minuses d
+minuses (and_more c d) = minuses c ++ minuses d
+minuses (equality_one d) = minuses d
+minuses (equality_more how c d) = minuses c ++ minuses d
+minuses (relational_one d) = minuses d
+minuses (relational_more how c d) = minuses c ++ minuses d
+minuses (additive_one d) = minuses d
+minuses (additive_more plus c d) = minuses c ++ minuses d
+minuses (additive_more minus c d) = minuses c ++ true ∷ minuses d
+minuses (mult_one d) = minuses d
+minuses (mult_more op c d) = minuses c ++ minuses d
+minuses (unary_one d) = minuses d
+minuses (unary_minus d) = false ∷ minuses d
+minuses (union_one d) = minuses d
+minuses (union_more c d) = minuses c ++ minuses d
+minuses (path_location d) = minuses d
+minuses (path_filter d) = minuses d
+minuses (path_slash c d) = minuses c ++ minuses d
+minuses (path_slash_slash c d) = minuses c ++ minuses d
+minuses (filter_one d) = minuses d
+minuses (filter_more c d) = minuses c ++ minuses d
+minuses (primary_bracket d) = minuses d
+minuses primary_variable = []
+minuses primary_literal = []
+minuses primary_number = []
+minuses call_none = []
+minuses (call_some d) = minuses d
+minuses (arguments_one d) = minuses d
+minuses (arguments_more c d) = minuses c ++ minuses d
+minuses (location_rel d) = minuses d
+minuses location_root = []
+minuses (location_slash d) = minuses d
+minuses (location_slash_slash d) = minuses d
+minuses (rel_one d) = minuses d
+minuses (rel_slash c d) = minuses c ++ minuses d
+minuses (rel_slash_slash c d) = minuses c ++ minuses d
+minuses (step us vs ws axis test d) = minuses d
+minuses step_dot = []
+minuses step_dots = []
+minuses predicates_none = []
+minuses (predicates_more c d) = minuses c ++ minuses d
+minuses (predicate d) = minuses d
+
+-- of each minus in a list, whether a token that ends an operand stands before it
+abbrev pub flags : Bool → List Token → List Bool
+flags b [] = []
+flags b (Arithmetic Subtract ∷ ts) = b ∷ flags false ts
+flags b (t ∷ ts) = flags (ends t) ts
+
+-- the operators of a symbol; a comma is that of the arguments of a call
+pub data IsOperator : Level → Token → Type 0 where
+  by_or : IsOperator OrLevel Or
+  by_and : IsOperator AndLevel And
+  by_equality : {how : Comparison} → IsEquality how → IsOperator EqualityLevel (Compare how)
+  by_relational : {how : Comparison} → IsRelational how → IsOperator RelationalLevel (Compare how)
+  by_additive : {op : Operator} → IsAdditive op → IsOperator AdditiveLevel (Arithmetic op)
+  by_mult : {op : Operator} → IsMult op → IsOperator MultLevel (Arithmetic op)
+  by_bar : IsOperator UnionLevel Bar
+  by_slash : IsOperator RelLevel Slash
+  by_slash_slash : IsOperator RelLevel SlashSlash
+  by_comma : IsOperator ArgumentLevel Comma
+
+-- a / or // with steps behind it
+pub data IsSlash : Token → Type 0 where
+  one : IsSlash Slash
+  two : IsSlash SlashSlash
+
+-- a list goes on outside all brackets by a token, and has no / or // outside all brackets before it
+pub record IsFirstSlash (us : List Token) (t : Token) : Type 0 where
+  pub outside : depth 0 us ≡ 0
+  pub before : Free 9 0 false us

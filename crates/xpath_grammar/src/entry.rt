@@ -1,0 +1,101 @@
+// The parser of texts.
+
+ghost use Rattle.std.specs.Prelude.{◌≡◌, ◌<◌, ◌↔◌, IsTrue, IfOk, IfErr, Err, length};
+ghost use Rattle.xpath_grammar.specs.declared.entry.GrammarFault.TheVariants.{Long};
+ghost use Rattle.xpath_grammar.specs.Parse.{opens as opens_lem, closes as closes_lem, deep_from, IsDeep, longest_text, IsParse, IsRefusal, fault_of as fault_of_lem, ParsesTokens};
+
+use crate::expr::Expr;
+use crate::parser::{Binary, chain};
+use std::alloc::Global;
+use xpath_tokens::{Fault, Token, tokens_of};
+
+/// The longest text, in bytes.
+const LONGEST: usize = 4096;
+
+/// How many brackets may be open.
+const DEEPEST: usize = 64;
+
+/// Why a text is refused.
+#[derive(Clone, Copy, Debug, PartialEq, Eq)]
+pub enum GrammarFault {
+    /// The text has more than 4,096 bytes.
+    Long,
+    /// The text splits into tokens, and in some prefix of them more than 64 brackets are open.
+    Deep,
+    /// The text splits into no tokens, or they derive no expression.
+    Syntax,
+    /// Memory was not to be had.
+    NoMemory,
+}
+
+fn fault_of(fault: Fault) -> GrammarFault
+    ensures { result ≡ fault_of_lem fault }
+{
+    match fault {
+        Fault::Syntax => GrammarFault::Syntax,
+        Fault::NoMemory => GrammarFault::NoMemory,
+    }
+}
+
+fn opens(token: &Token) -> bool
+    ensures { result ≡ opens_lem token.now }
+{
+    matches!(token, Token::Open | Token::OpenSquare)
+}
+
+fn closes(token: &Token) -> bool
+    ensures { result ≡ closes_lem token.now }
+{
+    matches!(token, Token::Close | Token::CloseSquare)
+}
+
+/// Whether in some prefix more than 64 brackets are open.
+fn is_deep(tokens: &[Token]) -> bool
+    ensures { result ≡ deep_from 0 0 tokens.now }
+{
+    let mut opened: usize = 0;
+    let mut closed: usize = 0;
+    for token in tokens {
+        if opens(token) {
+            opened += 1;
+        }
+        if closes(token) {
+            closed += 1;
+        }
+        if closed + DEEPEST < opened {
+            return true;
+        }
+    }
+    false
+}
+
+fn parse_tokens(alloc: Global, tokens: &[Token]) -> Result<Expr, GrammarFault>
+    ensures { ParsesTokens tokens.now result }
+{
+    if is_deep(tokens) {
+        return Err(GrammarFault::Deep);
+    }
+    match chain(alloc, Binary::Or, tokens) {
+        Ok(expr) => Ok(expr),
+        Err(fault) => Err(fault_of(fault)),
+    }
+}
+
+/// The expression that a text is (XPath 1.0, sections 2 and 3), with the abbreviations expanded and the brackets dropped.
+///
+/// Errors: `Long` exactly where the text has more than 4,096 bytes. Else `Deep` exactly where it splits into tokens of
+/// which some prefix has more than 64 open brackets. Else `Syntax` exactly where it splits into no tokens, or they derive
+/// no expression. `NoMemory` may come in place of any other answer but `Long`.
+pub fn parse(alloc: Global, text: &str) -> Result<Expr, GrammarFault>
+    ensures long { (result ≡ Err Long) ↔ (longest_text < length text.now) }
+    ensures expression { IfOk result (IsParse text.now) }
+    ensures refusal { IfErr result (IsRefusal text.now) }
+{
+    if LONGEST < text.len() {
+        return Err(GrammarFault::Long);
+    }
+    match tokens_of(alloc, text) {
+        Ok(tokens) => parse_tokens(alloc, tokens.as_slice()),
+        Err(fault) => Err(fault_of(fault)),
+    }
+}

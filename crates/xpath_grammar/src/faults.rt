@@ -1,0 +1,248 @@
+// The refusals of the parts of an expression.
+
+ghost use Rattle.std.specs.Prelude.{◌≡◌, fold, is_some, cond};
+ghost use Rattle.std.specs.Str.{chars};
+ghost use Rattle.xpath_tokens.specs.Tokens.{or_else};
+ghost use Rattle.xpath_grammar.specs.Tree.{tree_of, trees_of, walk_of};
+ghost use Rattle.xpath_grammar.specs.Static.{scan_next as scan_next_lem, scan_start, number_fault as number_fault_lem, axis_fault as axis_fault_lem, prefix_fault as prefix_fault_lem, test_fault as test_fault_lem, call_fault as call_fault_lem, first_of_step as first_of_step_lem, first_of_path as first_of_path_lem, first_fault as first_fault_lem, needed as needed_lem, needed_if as needed_if_lem, wants_nodes as wants_nodes_lem};
+ghost use Rattle.xpath_grammar.specs.Functions.{signature_of as signature_of_lem};
+
+use crate::bindings::Bindings;
+use crate::expr::{Expr, Exprs, StepTest, Steps};
+use crate::functions::{fits, gives_nodes, signature_of};
+use xml_model::{Axis, Text};
+use xpath_tokens::{StepAxis, as_str, is_empty};
+
+/// The greatest number.
+const GREATEST: u64 = 9007199254740991;
+
+/// Why an expression is refused before it meets a document.
+#[derive(Clone, Copy, Debug, PartialEq, Eq)]
+pub enum StaticFault {
+    /// The axis is `namespace`.
+    Axis,
+    /// No variable is bound.
+    Variable,
+    /// The function is not known.
+    Function,
+    /// The function does not take so many arguments.
+    Arguments,
+    /// The prefix of a name test is not bound.
+    Prefix,
+    /// A digit behind a number's point is not 0.
+    Fraction,
+    /// A number is above 9007199254740991.
+    Range,
+    /// Nodes are needed where an expression of another type stands.
+    NotNodes,
+}
+
+/// What is known of a number's first characters.
+#[derive(Clone, Copy, Debug, PartialEq, Eq)]
+pub struct NumberScan {
+    /// The value of the digits before the point, where it is not above the greatest number.
+    pub value: u64,
+    /// The point was there.
+    pub behind: bool,
+    /// A digit behind the point was not 0.
+    pub fraction: bool,
+}
+
+fn scan_next(scan: NumberScan, c: char) -> NumberScan
+    ensures { result ≡ scan_next_lem scan c }
+{
+    if scan.behind {
+        return NumberScan {
+            value: scan.value,
+            behind: true,
+            fraction: scan.fraction || c != '0',
+        };
+    }
+    if c == '.' {
+        return NumberScan {
+            value: scan.value,
+            behind: true,
+            fraction: scan.fraction,
+        };
+    }
+    let value = if GREATEST < scan.value {
+        scan.value
+    } else {
+        10 * scan.value + (c as u32).saturating_sub(48) as u64
+    };
+    NumberScan {
+        value,
+        behind: false,
+        fraction: scan.fraction,
+    }
+}
+
+fn scan_number(text: &str) -> NumberScan
+    ensures { result ≡ fold scan_next_lem scan_start (chars text.now) }
+{
+    let start = NumberScan {
+        value: 0,
+        behind: false,
+        fraction: false,
+    };
+    text.chars().fold(start, |scan, c| scan_next(scan, c))
+}
+
+/// What a number refuses.
+pub fn number_fault(text: &Text) -> Option<StaticFault>
+    ensures { result ≡ number_fault_lem text.now }
+{
+    let scan = scan_number(as_str(text));
+    if scan.fraction {
+        Some(StaticFault::Fraction)
+    } else if GREATEST < scan.value {
+        Some(StaticFault::Range)
+    } else {
+        None
+    }
+}
+
+/// What an axis refuses.
+pub fn axis_fault(axis: StepAxis) -> Option<StaticFault>
+    ensures { result ≡ axis_fault_lem axis }
+{
+    match axis {
+        StepAxis::Known(_) => None,
+        StepAxis::Namespace => Some(StaticFault::Axis),
+    }
+}
+
+fn prefix_fault(bindings: &Bindings, prefix: &Text) -> Option<StaticFault>
+    ensures { result ≡ prefix_fault_lem bindings.now prefix.now }
+{
+    match bindings.uri_of(as_str(prefix)) {
+        Some(_) => None,
+        None => Some(StaticFault::Prefix),
+    }
+}
+
+/// What a node test refuses.
+pub fn test_fault(bindings: &Bindings, test: &StepTest) -> Option<StaticFault>
+    ensures { result ≡ test_fault_lem bindings.now test.now }
+{
+    match test {
+        StepTest::AnyIn(prefix) => prefix_fault(bindings, prefix),
+        StepTest::Named { prefix, local: _ } => {
+            if is_empty(as_str(prefix)) {
+                None
+            } else {
+                prefix_fault(bindings, prefix)
+            }
+        }
+        _ => None,
+    }
+}
+
+/// What a call refuses at the function's name.
+pub fn call_fault(name: &Text, arguments: &Exprs) -> Option<StaticFault>
+    ensures { result ≡ call_fault_lem name.now (trees_of arguments.now) }
+{
+    match signature_of(name) {
+        None => Some(StaticFault::Function),
+        Some(signature) => {
+            if fits(signature, arguments) {
+                None
+            } else {
+                Some(StaticFault::Arguments)
+            }
+        }
+    }
+}
+
+/// Whether the first argument of a function is needed as nodes.
+pub fn wants_nodes(name: &Text) -> bool
+    ensures { result ≡ wants_nodes_lem (signature_of_lem name.now) }
+{
+    match signature_of(name) {
+        None => false,
+        Some(signature) => signature.nodes,
+    }
+}
+
+fn first_of_step(bindings: &Bindings, axis: StepAxis, test: &StepTest) -> Option<StaticFault>
+    ensures { result ≡ first_of_step_lem bindings.now axis test.now }
+{
+    match axis {
+        StepAxis::Known(Axis::Child) => test_fault(bindings, test),
+        StepAxis::Namespace => Some(StaticFault::Axis),
+        _ => None,
+    }
+}
+
+fn first_of_path(bindings: &Bindings, absolute: bool, steps: &Steps) -> Option<StaticFault>
+    ensures { result ≡ first_of_path_lem bindings.now absolute (walk_of steps.now) }
+{
+    if absolute {
+        return None;
+    }
+    match steps {
+        Steps::End => None,
+        Steps::More(step, _) => first_of_step(bindings, step.axis, &step.test),
+    }
+}
+
+/// What an expression refuses at its first token, its own type aside.
+fn first_fault(bindings: &Bindings, expr: &Expr) -> Option<StaticFault>
+    ensures { result ≡ first_fault_lem bindings.now (tree_of expr.now) }
+{
+    match expr {
+        Expr::Or(left, _) | Expr::And(left, _) | Expr::Union(left, _) => first_fault(
+            bindings, left,
+        ),
+        Expr::Compare(_, left, _) | Expr::Arithmetic(_, left, _) => first_fault(bindings, left),
+        Expr::From { start, steps: _ } => first_fault(bindings, start),
+        Expr::Filter {
+            start,
+            predicates: _,
+        } => first_fault(bindings, start),
+        Expr::Path { absolute, steps } => first_of_path(bindings, *absolute, steps),
+        Expr::Negate(_) | Expr::Literal(_) => None,
+        Expr::Number(text) => number_fault(text),
+        Expr::Variable(_) => Some(StaticFault::Variable),
+        Expr::Call { name, arguments } => call_fault(name, arguments),
+    }
+}
+
+/// What an expression refuses where nodes are needed.
+pub fn needed(bindings: &Bindings, expr: &Expr, inner: Option<StaticFault>) -> Option<StaticFault>
+    ensures { result ≡ needed_lem bindings.now (tree_of expr.now) inner }
+{
+    if gives_nodes(expr) {
+        return inner;
+    }
+    match first_fault(bindings, expr) {
+        Some(fault) => Some(fault),
+        None => Some(StaticFault::NotNodes),
+    }
+}
+
+/// What an expression refuses where nodes are needed, or not.
+pub fn needed_if(
+    nodes: bool,
+    bindings: &Bindings,
+    expr: &Expr,
+    inner: Option<StaticFault>,
+) -> Option<StaticFault>
+    ensures { result ≡ needed_if_lem nodes bindings.now (tree_of expr.now) inner }
+{
+    if nodes {
+        needed(bindings, expr, inner)
+    } else {
+        inner
+    }
+}
+
+/// The earlier of two refusals.
+pub fn earlier(first: Option<StaticFault>, second: Option<StaticFault>) -> Option<StaticFault>
+    ensures { result ≡ or_else first second }
+{
+    match first {
+        Some(fault) => Some(fault),
+        None => second,
+    }
+}

@@ -1,0 +1,235 @@
+// The core functions, and the types of expressions.
+
+ghost use Rattle.std.specs.Prelude.{◌≡◌};
+ghost use Rattle.xpath_tokens.specs.Tokens.{find_named, or_else};
+ghost use Rattle.xpath_grammar.specs.Tree.{tree_of, trees_of};
+ghost use Rattle.xpath_grammar.specs.Functions.{takes as takes_lem, takes_nodes as takes_nodes_lem, takes_many as takes_many_lem, node_set_functions, string_functions, finding_functions, boolean_functions, number_functions, signature_of as signature_of_lem, answer_of as answer_of_lem, type_of as type_of_lem, gives_nodes as gives_nodes_lem, at_least as at_least_lem, fits as fits_lem};
+
+use crate::expr::{Expr, Exprs};
+use xml_model::Text;
+use xpath_tokens::is_text;
+
+/// The type of an expression (XPath 1.0, section 1); `Any` passes as each of the others.
+#[derive(Clone, Copy, Debug, PartialEq, Eq)]
+pub enum ValueType {
+    Nodes,
+    Truth,
+    Number,
+    Text,
+    Any,
+}
+
+/// What a function takes and answers.
+#[derive(Clone, Copy, Debug, PartialEq, Eq)]
+pub struct Signature {
+    /// How many arguments it takes at least.
+    pub least: u8,
+    /// It takes fewer than so many, if not `many`.
+    pub below: u8,
+    /// It takes any number from the least on.
+    pub many: bool,
+    /// Its first argument is a node-set.
+    pub nodes: bool,
+    pub answer: ValueType,
+}
+
+fn takes(least: u8, below: u8, answer: ValueType) -> Signature
+    ensures { result ≡ takes_lem least below answer }
+{
+    Signature {
+        least,
+        below,
+        many: false,
+        nodes: false,
+        answer,
+    }
+}
+
+fn takes_nodes(least: u8, below: u8, answer: ValueType) -> Signature
+    ensures { result ≡ takes_nodes_lem least below answer }
+{
+    Signature {
+        least,
+        below,
+        many: false,
+        nodes: true,
+        answer,
+    }
+}
+
+fn takes_many(least: u8, answer: ValueType) -> Signature
+    ensures { result ≡ takes_many_lem least answer }
+{
+    Signature {
+        least,
+        below: 0,
+        many: true,
+        nodes: false,
+        answer,
+    }
+}
+
+/// XPath 1.0, section 4.1; id is left out.
+fn node_set_function(name: &Text) -> Option<Signature>
+    ensures { result ≡ find_named node_set_functions name.now }
+{
+    if is_text(name, "last") {
+        Some(takes(0, 1, ValueType::Number))
+    } else if is_text(name, "position") {
+        Some(takes(0, 1, ValueType::Number))
+    } else if is_text(name, "count") {
+        Some(takes_nodes(1, 2, ValueType::Number))
+    } else if is_text(name, "local-name") {
+        Some(takes_nodes(0, 2, ValueType::Text))
+    } else if is_text(name, "namespace-uri") {
+        Some(takes_nodes(0, 2, ValueType::Text))
+    } else if is_text(name, "name") {
+        Some(takes_nodes(0, 2, ValueType::Text))
+    } else {
+        None
+    }
+}
+
+/// XPath 1.0, section 4.2, where no text is sought in another.
+fn string_function(name: &Text) -> Option<Signature>
+    ensures { result ≡ find_named string_functions name.now }
+{
+    if is_text(name, "string") {
+        Some(takes(0, 2, ValueType::Text))
+    } else if is_text(name, "concat") {
+        Some(takes_many(2, ValueType::Text))
+    } else if is_text(name, "substring") {
+        Some(takes(2, 4, ValueType::Text))
+    } else if is_text(name, "string-length") {
+        Some(takes(0, 2, ValueType::Number))
+    } else if is_text(name, "normalize-space") {
+        Some(takes(0, 2, ValueType::Text))
+    } else if is_text(name, "translate") {
+        Some(takes(3, 4, ValueType::Text))
+    } else {
+        None
+    }
+}
+
+/// XPath 1.0, section 4.2, where a text is sought in another.
+fn finding_function(name: &Text) -> Option<Signature>
+    ensures { result ≡ find_named finding_functions name.now }
+{
+    if is_text(name, "starts-with") {
+        Some(takes(2, 3, ValueType::Truth))
+    } else if is_text(name, "contains") {
+        Some(takes(2, 3, ValueType::Truth))
+    } else if is_text(name, "substring-before") {
+        Some(takes(2, 3, ValueType::Text))
+    } else if is_text(name, "substring-after") {
+        Some(takes(2, 3, ValueType::Text))
+    } else {
+        None
+    }
+}
+
+/// XPath 1.0, section 4.3.
+fn boolean_function(name: &Text) -> Option<Signature>
+    ensures { result ≡ find_named boolean_functions name.now }
+{
+    if is_text(name, "boolean") {
+        Some(takes(1, 2, ValueType::Truth))
+    } else if is_text(name, "not") {
+        Some(takes(1, 2, ValueType::Truth))
+    } else if is_text(name, "true") {
+        Some(takes(0, 1, ValueType::Truth))
+    } else if is_text(name, "false") {
+        Some(takes(0, 1, ValueType::Truth))
+    } else if is_text(name, "lang") {
+        Some(takes(1, 2, ValueType::Truth))
+    } else {
+        None
+    }
+}
+
+/// XPath 1.0, section 4.4.
+fn number_function(name: &Text) -> Option<Signature>
+    ensures { result ≡ find_named number_functions name.now }
+{
+    if is_text(name, "number") {
+        Some(takes(0, 2, ValueType::Number))
+    } else if is_text(name, "sum") {
+        Some(takes_nodes(1, 2, ValueType::Number))
+    } else if is_text(name, "floor") {
+        Some(takes(1, 2, ValueType::Number))
+    } else if is_text(name, "ceiling") {
+        Some(takes(1, 2, ValueType::Number))
+    } else if is_text(name, "round") {
+        Some(takes(1, 2, ValueType::Number))
+    } else {
+        None
+    }
+}
+
+fn earlier(first: Option<Signature>, second: Option<Signature>) -> Option<Signature>
+    ensures { result ≡ or_else first second }
+{
+    match first {
+        Some(signature) => Some(signature),
+        None => second,
+    }
+}
+
+/// What a function takes and answers; None where it is not known.
+pub fn signature_of(name: &Text) -> Option<Signature>
+    ensures { result ≡ signature_of_lem name.now }
+{
+    let last = earlier(boolean_function(name), number_function(name));
+    let text = earlier(string_function(name), finding_function(name));
+    earlier(node_set_function(name), earlier(text, last))
+}
+
+fn answer_of(signature: Option<Signature>) -> ValueType
+    ensures { result ≡ answer_of_lem signature }
+{
+    match signature {
+        Some(signature) => signature.answer,
+        None => ValueType::Any,
+    }
+}
+
+/// The type of an expression.
+fn type_of(expr: &Expr) -> ValueType
+    ensures { result ≡ type_of_lem (tree_of expr.now) }
+{
+    match expr {
+        Expr::Or(_, _) | Expr::And(_, _) | Expr::Compare(_, _, _) => ValueType::Truth,
+        Expr::Arithmetic(_, _, _) | Expr::Negate(_) | Expr::Number(_) => ValueType::Number,
+        Expr::Union(_, _) | Expr::Path { .. } | Expr::From { .. } | Expr::Filter { .. } =>
+            ValueType::Nodes,
+        Expr::Literal(_) => ValueType::Text,
+        Expr::Variable(_) => ValueType::Any,
+        Expr::Call { name, arguments: _ } => answer_of(signature_of(name)),
+    }
+}
+
+/// Whether an expression gives nodes, or is of any type, as a variable is.
+pub fn gives_nodes(expr: &Expr) -> bool
+    ensures { result ≡ gives_nodes_lem (tree_of expr.now) }
+{
+    matches!(type_of(expr), ValueType::Nodes | ValueType::Any)
+}
+
+fn at_least(count: u8, list: &Exprs) -> bool
+    ensures { result ≡ at_least_lem count (trees_of list.now) }
+{
+    if count == 0 {
+        return true;
+    }
+    match list {
+        Exprs::End => false,
+        Exprs::More(_, rest) => at_least(count - 1, rest),
+    }
+}
+
+/// Whether the number of arguments fits.
+pub fn fits(signature: Signature, list: &Exprs) -> bool
+    ensures { result ≡ fits_lem signature (trees_of list.now) }
+{
+    at_least(signature.least, list) && (signature.many || !at_least(signature.below, list))
+}

@@ -1,0 +1,63 @@
+// Lists of bindings.
+
+ghost use Rattle.std.specs.Prelude.{◌≡◌, ◌≤◌, ℕ, List, cond, Some, OnOk, OnErr, option_map, length};
+ghost use Rattle.std.specs.Str.{bytes_eq, chars};
+ghost use Rattle.xpath_grammar.specs.Bindings.{lookup, place_in, can_bind as can_bind_lem};
+
+use std::alloc::AllocError;
+use xml_model::Text;
+use xpath_tokens::{as_str, is_empty, is_ncname, is_text, same_str};
+
+/// A prefix and the URI that it is bound to.
+#[derive(Drop)]
+pub struct Binding {
+    pub prefix: Text,
+    pub uri: Text,
+}
+
+/// Whether a prefix may be bound to a URI.
+pub fn can_bind(prefix: &str, uri: &str) -> bool
+    ensures { result ≡ can_bind_lem (chars prefix.now) (chars uri.now) }
+{
+    is_ncname(prefix) && !same_str("xml", prefix) && !same_str("xmlns", prefix) && !is_empty(uri)
+}
+
+// The place of the first binding of a prefix, or the length where there is none.
+fn place_of(held: &[Binding], prefix: &str) -> usize
+    ensures place { result ≡ place_in held.now (chars prefix.now) }
+    ensures within { result ≤ length held.now }
+{
+    let mut place: usize = 0;
+    while place < held.len() && !is_text(&held[place].prefix, prefix) {
+        place += 1;
+    }
+    place
+}
+
+/// The URI that a prefix was bound to.
+pub fn find<'a>(held: &'a [Binding], prefix: &str) -> Option<&'a str>
+    ensures { option_map (λ uri. chars uri.now) result ≡ lookup held.now (chars prefix.now) }
+{
+    let place = place_of(held, prefix);
+    if place < held.len() {
+        let binding = &held[place];
+        Some(as_str(&binding.uri))
+    } else {
+        None
+    }
+}
+
+/// Puts a binding in the place of an earlier one of its prefix, or behind all.
+pub fn put(held: &mut Vec<Binding>, prefix: &str, binding: Binding) -> Result<(), AllocError>
+    requires { binding.prefix ≡ chars prefix.now }
+    ensures bound { OnOk result ((q : List ℕ) → lookup held.new.items q ≡ cond (bytes_eq (chars prefix.now) q) (Some binding.uri) (lookup held.old.items q)) }
+    ensures unchanged { OnErr result (held.new.items ≡ held.old.items) }
+{
+    let place = place_of(held.as_slice(), prefix);
+    if place < held.len() {
+        held[place] = binding;
+    } else {
+        held.push(binding)?;
+    }
+    Ok(())
+}

@@ -1,0 +1,258 @@
+// The parser.
+
+ghost use Rattle.std.specs.Prelude.{◌≡◌, true};
+ghost use Rattle.xpath_grammar.specs.Shape.{first, starts_primary};
+ghost use Rattle.xpath_grammar.specs.Grammar.{AnswersFilter, as_step, Answers, as_expr, as_exprs, as_walk, form, symbol, operand as operand_lem, rank_of, UnaryExpr, PathExpr, PrimaryExpr, Arguments, RelPath, StepPart, Predicates};
+
+use crate::build::{
+    applied, behind_slash, call, deep, filtered, from, literal, more, negated_times, number,
+    step_more, variable,
+};
+use crate::expr::{Expr, Exprs, Step, StepTest, Steps};
+use crate::scan::{Around, behind_minuses, first_operator, operators, parts_at};
+use crate::shape::{
+    PathShape, PrimaryShape, axis_part, behind_test, dot_axis, path_shape, primary_shape,
+    step_test, unsquared,
+};
+use std::alloc::Global;
+use xpath_tokens::{Fault, StepAxis, Token};
+
+/// The forms of an expression with an operator between two parts.
+#[derive(Clone, Copy, PartialEq, Eq, Debug)]
+pub enum Binary {
+    Or,
+    And,
+    Equality,
+    Relational,
+    Additive,
+    Mult,
+    Union,
+}
+
+impl Binary {
+    fn rank(self) -> u8
+        ensures { result ≡ rank_of (form self) }
+    {
+        match self {
+            Binary::Or => 1,
+            Binary::And => 2,
+            Binary::Equality => 3,
+            Binary::Relational => 4,
+            Binary::Additive => 5,
+            Binary::Mult => 6,
+            Binary::Union => 8,
+        }
+    }
+}
+
+/// The expression that the tokens derive.
+#[cycle(parser)]
+pub fn chain(alloc: Global, level: Binary, tokens: &[Token]) -> Result<Expr, Fault>
+    ensures { Answers (symbol (form level)) as_expr tokens.now result }
+{
+    let mut cuts = operators(alloc, level.rank(), tokens)?;
+    let mut behind = Vec::new(alloc);
+    let mut rest = tokens;
+    while let Some(i) = cuts.pop() {
+        let Around { front, token, back } = parts_at(rest, i);
+        let part = operand(alloc, level, back)?;
+        behind.push((token, part))?;
+        rest = front;
+    }
+    let first = operand(alloc, level, rest)?;
+    applied(alloc, first, behind)
+}
+
+#[cycle(parser)]
+fn operand(alloc: Global, level: Binary, tokens: &[Token]) -> Result<Expr, Fault>
+    ensures { Answers (operand_lem (form level)) as_expr tokens.now result }
+{
+    match level {
+        Binary::Or => chain(alloc, Binary::And, tokens),
+        Binary::And => chain(alloc, Binary::Equality, tokens),
+        Binary::Equality => chain(alloc, Binary::Relational, tokens),
+        Binary::Relational => chain(alloc, Binary::Additive, tokens),
+        Binary::Additive => chain(alloc, Binary::Mult, tokens),
+        Binary::Mult => unary(alloc, tokens),
+        Binary::Union => path(alloc, tokens),
+    }
+}
+
+#[cycle(parser)]
+fn unary(alloc: Global, tokens: &[Token]) -> Result<Expr, Fault>
+    ensures { Answers UnaryExpr as_expr tokens.now result }
+{
+    let (count, rest) = behind_minuses(tokens);
+    let part = chain(alloc, Binary::Union, rest)?;
+    negated_times(alloc, count, part)
+}
+
+#[cycle(parser)]
+fn path(alloc: Global, tokens: &[Token]) -> Result<Expr, Fault>
+    ensures { Answers PathExpr as_expr tokens.now result }
+{
+    match path_shape(tokens) {
+        PathShape::Root => Ok(Expr::Path {
+            absolute: true,
+            steps: Steps::End,
+        }),
+        PathShape::Absolute(rest) => {
+            let steps = relative(alloc, rest)?;
+            Ok(Expr::Path {
+                absolute: true,
+                steps,
+            })
+        }
+        PathShape::Deep(rest) => {
+            let steps = relative(alloc, rest)?;
+            deep(alloc, steps)
+        }
+        PathShape::Steps => {
+            let steps = relative(alloc, tokens)?;
+            Ok(Expr::Path {
+                absolute: false,
+                steps,
+            })
+        }
+        PathShape::Filter => from_filter(alloc, tokens),
+    }
+}
+
+// A path that begins with a primary expression.
+#[cycle(parser)]
+fn from_filter(alloc: Global, tokens: &[Token]) -> Result<Expr, Fault>
+    requires { first starts_primary tokens.now ≡ true }
+    ensures { Answers PathExpr as_expr tokens.now result }
+{
+    match first_operator(9, tokens) {
+        None => filter(alloc, tokens),
+        Some(i) => {
+            let Around { front, token, back } = parts_at(tokens, i);
+            let start = filter(alloc, front)?;
+            let steps = relative(alloc, back)?;
+            let steps = behind_slash(alloc, token, steps)?;
+            from(alloc, start, steps)
+        }
+    }
+}
+
+#[cycle(parser)]
+fn filter(alloc: Global, tokens: &[Token]) -> Result<Expr, Fault>
+    ensures { AnswersFilter tokens.now result }
+{
+    match first_operator(10, tokens) {
+        None => primary(alloc, tokens),
+        Some(i) => {
+            let start = primary(alloc, &tokens[..i])?;
+            let predicates = predicates(alloc, &tokens[i..])?;
+            filtered(alloc, start, predicates)
+        }
+    }
+}
+
+#[cycle(parser)]
+fn primary(alloc: Global, tokens: &[Token]) -> Result<Expr, Fault>
+    ensures { Answers PrimaryExpr as_expr tokens.now result }
+{
+    match primary_shape(tokens) {
+        PrimaryShape::Variable(name) => variable(alloc, name),
+        PrimaryShape::Literal(text) => literal(alloc, text),
+        PrimaryShape::Number(text) => number(alloc, text),
+        PrimaryShape::Bracketed(inner) => chain(alloc, Binary::Or, inner),
+        PrimaryShape::Call(name, inner) => {
+            if inner.is_empty() {
+                return call(alloc, name, Exprs::End);
+            }
+            let arguments = arguments(alloc, inner)?;
+            call(alloc, name, arguments)
+        }
+        PrimaryShape::Other => Err(Fault::Syntax),
+    }
+}
+
+#[cycle(parser)]
+fn arguments(alloc: Global, tokens: &[Token]) -> Result<Exprs, Fault>
+    ensures { Answers Arguments as_exprs tokens.now result }
+{
+    let mut cuts = operators(alloc, 0, tokens)?;
+    let mut all = Exprs::End;
+    let mut rest = tokens;
+    while let Some(i) = cuts.pop() {
+        let Around {
+            front,
+            token: _,
+            back,
+        } = parts_at(rest, i);
+        let part = chain(alloc, Binary::Or, back)?;
+        all = more(alloc, part, all)?;
+        rest = front;
+    }
+    let part = chain(alloc, Binary::Or, rest)?;
+    more(alloc, part, all)
+}
+
+#[cycle(parser)]
+fn predicates(alloc: Global, tokens: &[Token]) -> Result<Exprs, Fault>
+    ensures { Answers Predicates as_exprs tokens.now result }
+{
+    let mut cuts = operators(alloc, 10, tokens)?;
+    let mut all = Exprs::End;
+    let mut rest = tokens;
+    while let Some(i) = cuts.pop() {
+        let Around {
+            front,
+            token: _,
+            back,
+        } = parts_at(rest, i);
+        let Some(inner) = unsquared(back) else {
+            return Err(Fault::Syntax);
+        };
+        let part = chain(alloc, Binary::Or, inner)?;
+        all = more(alloc, part, all)?;
+        rest = front;
+    }
+    if rest.is_empty() {
+        Ok(all)
+    } else {
+        Err(Fault::Syntax)
+    }
+}
+
+#[cycle(parser)]
+fn relative(alloc: Global, tokens: &[Token]) -> Result<Steps, Fault>
+    ensures { Answers RelPath as_walk tokens.now result }
+{
+    let mut cuts = operators(alloc, 9, tokens)?;
+    let mut all = Steps::End;
+    let mut rest = tokens;
+    while let Some(i) = cuts.pop() {
+        let Around { front, token, back } = parts_at(rest, i);
+        let part = step(alloc, back)?;
+        let behind = step_more(alloc, part, all)?;
+        all = behind_slash(alloc, token, behind)?;
+        rest = front;
+    }
+    let part = step(alloc, rest)?;
+    step_more(alloc, part, all)
+}
+
+#[cycle(parser)]
+fn step(alloc: Global, tokens: &[Token]) -> Result<Step, Fault>
+    ensures { Answers StepPart as_step tokens.now result }
+{
+    if let Some(axis) = dot_axis(tokens) {
+        return Ok(Step {
+            axis: StepAxis::Known(axis),
+            test: StepTest::Node,
+            predicates: Exprs::End,
+        });
+    }
+    let (axis, rest) = axis_part(tokens);
+    let test = step_test(alloc, rest)?;
+    let predicates = predicates(alloc, behind_test(rest))?;
+    Ok(Step {
+        axis,
+        test,
+        predicates,
+    })
+}

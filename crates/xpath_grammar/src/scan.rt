@@ -1,0 +1,146 @@
+// Where a list of tokens is cut.
+
+ghost use Rattle.std.specs.Prelude.{◌≡◌, ◌+◌, ◌<◌, ◌≤◌, ◌^◌, ◌↔◌, IsTrue, length, take, drop, slice_index_or as get_or};
+ghost use Rattle.xpath_grammar.specs.Grammar.{rank as rank_lem, ends as ends_lem, behind as behind_lem, is_minus as is_minus_lem, minus_len, Gives, AreCuts, FoundFirst};
+
+use std::alloc::Global;
+use xpath_tokens::{Comparison, Fault, Operator, Token};
+
+/// How far a token binds where it stands outside all brackets.
+pub fn rank(after: bool, token: &Token) -> u8
+    ensures { result ≡ rank_lem after token.now }
+{
+    match token {
+        Token::Comma => 0,
+        Token::Or => 1,
+        Token::And => 2,
+        Token::Compare(Comparison::Equal | Comparison::Unequal) => 3,
+        Token::Compare(_) => 4,
+        Token::Arithmetic(Operator::Add) => 5,
+        Token::Arithmetic(Operator::Subtract) => { if after { 5 } else { 20 } }
+        Token::Arithmetic(_) => 6,
+        Token::Bar => 8,
+        Token::Slash | Token::SlashSlash => 9,
+        Token::OpenSquare => 10,
+        _ => 20,
+    }
+}
+
+/// Whether a token ends an operand, so that a minus behind it is binary.
+pub fn ends(token: &Token) -> bool
+    ensures { result ≡ ends_lem token.now }
+{
+    !matches!(
+        token,
+        Token::At
+            | Token::ColonColon
+            | Token::Open
+            | Token::OpenSquare
+            | Token::Comma
+            | Token::Or
+            | Token::And
+            | Token::Compare(_)
+            | Token::Arithmetic(_)
+            | Token::Bar
+            | Token::SlashSlash
+    )
+}
+
+/// How many brackets are open behind a token.
+pub fn behind(depth: usize, token: &Token) -> usize
+    requires { depth + 1 < 2 ^ 64 }
+    ensures { result ≡ behind_lem depth token.now }
+{
+    match token {
+        Token::Open | Token::OpenSquare => depth + 1,
+        Token::Close | Token::CloseSquare => { if depth == 0 { 0 } else { depth - 1 } }
+        _ => depth,
+    }
+}
+
+fn is_cut(wanted: u8, depth: usize, after: bool, token: &Token) -> bool
+    ensures { IsTrue result ↔ ((depth ≡ 0) × (rank_lem after token.now ≡ wanted)) }
+{
+    depth == 0 && rank(after, token) == wanted
+}
+
+/// The places of all tokens of a rank outside all brackets.
+pub fn operators(alloc: Global, wanted: u8, tokens: &[Token]) -> Result<Vec<usize>, Fault>
+    ensures { Gives result (λ found. AreCuts wanted tokens.now found.items) }
+{
+    let mut found = Vec::new(alloc);
+    let mut depth: usize = 0;
+    let mut after = false;
+    for (i, token) in tokens.iter().enumerate() {
+        if is_cut(wanted, depth, after, token) {
+            found.push(i)?;
+        }
+        depth = behind(depth, token);
+        after = ends(token);
+    }
+    Ok(found)
+}
+
+fn is_minus(token: &Token) -> bool
+    ensures { result ≡ is_minus_lem token.now }
+{
+    matches!(token, Token::Arithmetic(Operator::Subtract))
+}
+
+/// How many minus signs stand at the front.
+fn leading_minuses(tokens: &[Token]) -> usize
+    ensures count { result ≡ minus_len tokens.now }
+    ensures within { result ≤ length tokens.now }
+{
+    let mut count: usize = 0;
+    while count < tokens.len() && is_minus(&tokens[count]) {
+        count += 1;
+    }
+    count
+}
+
+/// The tokens behind the minus signs at the front, and how many signs there are.
+pub fn behind_minuses<'a>(tokens: &'a [Token]) -> (usize, &'a [Token])
+    ensures count { result.0 ≡ minus_len tokens.now }
+    ensures rest { result.1.now ≡ drop (minus_len tokens.now) tokens.now }
+{
+    let count = leading_minuses(tokens);
+    (count, &tokens[count..])
+}
+
+/// A token of a list, with what stands before it and behind it.
+pub struct Around<'a> {
+    pub front: &'a [Token],
+    pub token: &'a Token,
+    pub back: &'a [Token],
+}
+
+/// The token at a place, with what stands before it and behind it.
+pub fn parts_at<'a>(tokens: &'a [Token], place: usize) -> Around<'a>
+    requires { place < length tokens.now }
+    ensures front { result.front.now ≡ take place tokens.now }
+    ensures token { result.token.now ≡ get_or tokens.now place result.token.now }
+    ensures back { result.back.now ≡ drop (place + 1) tokens.now }
+{
+    Around {
+        front: &tokens[..place],
+        token: &tokens[place],
+        back: &tokens[place + 1..],
+    }
+}
+
+/// The first token of a rank outside all brackets.
+pub fn first_operator(wanted: u8, tokens: &[Token]) -> Option<usize>
+    ensures { FoundFirst wanted tokens.now result }
+{
+    let mut depth: usize = 0;
+    let mut after = false;
+    for (i, token) in tokens.iter().enumerate() {
+        if is_cut(wanted, depth, after, token) {
+            return Some(i);
+        }
+        depth = behind(depth, token);
+        after = ends(token);
+    }
+    None
+}

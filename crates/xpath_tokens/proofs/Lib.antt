@@ -1,0 +1,5 @@
+pub mod Runs
+pub mod Longest
+pub mod Spaces
+pub mod Splitting
+pub mod Same

@@ -1,0 +1,97 @@
+-- How long the words of each kind are at the front of a text: what the working functions compute.
+use Rattle.std.specs.Prelude.{◌≡◌, ℕ, suc, ◌+◌, max, Bool, false, cond, not, ◌&&◌, ◌==◌, nat_lt, List, [], ◌∷◌, length, drop, Option, Some, None, Result, Ok, Err}
+use Rattle.xml_model.specs.Chars.{is_name_start, is_name_char}
+use Rattle.xpath_tokens.specs.declared.Token.{Token}
+use Rattle.xpath_tokens.specs.declared.Fault.{Fault}
+use Rattle.xpath_tokens.specs.declared.Fault.TheVariants.{Syntax, NoMemory}
+use Rattle.xpath_tokens.specs.Tokens.{is_single, is_pair, is_quote, is_decimal_digit}
+
+-- how many characters at the front pass a test
+abbrev pub run : (ℕ → Bool) → List ℕ → ℕ
+run p [] = 0
+run p (c ∷ cs) = cond (p c) (suc (run p cs)) 0
+
+-- a character of a name without a colon
+abbrev pub is_ncname_start : ℕ → Bool
+is_ncname_start c = not (c == 58) && is_name_start c
+
+abbrev pub is_ncname_char : ℕ → Bool
+is_ncname_char c = not (c == 58) && is_name_char c
+
+abbrev pub starts_ncname : List ℕ → Bool
+starts_ncname [] = false
+starts_ncname (c ∷ cs) = is_ncname_start c
+
+abbrev pub not_colon : ℕ → Bool
+not_colon c = not (c == 58)
+
+abbrev pub is_other : ℕ → ℕ → Bool
+is_other q c = not (c == q)
+
+abbrev pub ncname_len : List ℕ → ℕ
+ncname_len [] = 0
+ncname_len (c ∷ cs) = cond (is_ncname_start c) (suc (run is_ncname_char cs)) 0
+
+abbrev pub symbol_len : List ℕ → ℕ
+symbol_len [] = 0
+symbol_len (c ∷ []) = cond (is_single c) 1 0
+symbol_len (c ∷ d ∷ cs) = cond (is_pair c d) 2 (cond (is_single c) 1 0)
+
+-- a name of n characters, with what a colon and another name of m characters behind it add
+abbrev pub plus_local : ℕ → ℕ → ℕ
+plus_local n m = cond (m == 0) n (n + 1 + m)
+
+abbrev pub local_len : ℕ → List ℕ → ℕ
+local_len n [] = n
+local_len n (c ∷ cs) = cond (c == 58) (plus_local n (ncname_len cs)) n
+
+abbrev pub joined_len : ℕ → List ℕ → ℕ
+joined_len n cs = cond (n == 0) 0 (local_len n cs)
+
+abbrev pub qname_len : List ℕ → ℕ
+qname_len cs = joined_len (ncname_len cs) (drop (ncname_len cs) cs)
+
+abbrev pub colon_star : ℕ → List ℕ → ℕ
+colon_star n (c ∷ d ∷ cs) = cond (c == 58 && d == 42) (n + 2) 0
+colon_star n _ = 0
+
+abbrev pub star_len : ℕ → List ℕ → ℕ
+star_len n cs = cond (n == 0) 0 (colon_star n cs)
+
+abbrev pub any_in_len : List ℕ → ℕ
+any_in_len cs = star_len (ncname_len cs) (drop (ncname_len cs) cs)
+
+-- n digits, with a point and the m digits behind it
+abbrev pub with_point : ℕ → ℕ → ℕ
+with_point n m = cond (n == 0 && m == 0) 0 (n + 1 + m)
+
+abbrev pub point_len : ℕ → List ℕ → ℕ
+point_len n [] = n
+point_len n (c ∷ cs) = cond (c == 46) (with_point n (run is_decimal_digit cs)) n
+
+abbrev pub number_len : List ℕ → ℕ
+number_len cs = point_len (run is_decimal_digit cs) (drop (run is_decimal_digit cs) cs)
+
+-- a quote with n characters behind it before the next one, of the m that stand behind it
+abbrev pub closed_len : ℕ → ℕ → ℕ
+closed_len n m = cond (nat_lt n m) (n + 2) 0
+
+abbrev pub literal_len : List ℕ → ℕ
+literal_len [] = 0
+literal_len (q ∷ cs) = cond (is_quote q) (closed_len (run (is_other q) cs) (length cs)) 0
+
+abbrev pub dollar_len : ℕ → ℕ
+dollar_len n = cond (n == 0) 0 (n + 1)
+
+abbrev pub variable_len : List ℕ → ℕ
+variable_len [] = 0
+variable_len (c ∷ cs) = cond (c == 36) (dollar_len (qname_len cs)) 0
+
+abbrev pub word_len : List ℕ → ℕ
+word_len cs = max (max (symbol_len cs) (max (qname_len cs) (any_in_len cs))) (max (literal_len cs) (max (number_len cs) (variable_len cs)))
+
+-- a token that is found, or none, unless memory runs out
+abbrev pub IsFound : Option Token → Result Token Fault → Type 0
+IsFound o (Ok t) = o ≡ Some t
+IsFound o (Err Syntax) = o ≡ None
+IsFound o (Err NoMemory) = Unit {0}

@@ -1,0 +1,398 @@
+// Which token a word is, and all tokens of a text.
+
+ghost use Rattle.std.specs.Prelude.{◌≡◌, ◌≤◌, length, drop, List, IfOk, Err, false};
+ghost use Rattle.std.specs.Str.{chars};
+ghost use Rattle.xpath_tokens.specs.declared.Token.{Token};
+ghost use Rattle.xpath_tokens.specs.declared.Fault.TheVariants.{Syntax};
+ghost use Rattle.xml_model.specs.Chars.{prefix_of, local_of};
+ghost use Rattle.xml_model.specs.Chars.{has_colon as has_colon_lem};
+ghost use Rattle.xpath_tokens.specs.Tokens.{is_symbol as is_symbol_lem, find_named, delimiters, operator_signs, operator_names, node_types, axis_names, fixed_token as fixed_token_lem, behind_space as behind_space_lem, place, name_token as name_token_lem, any_in_token, kind_of, symbol_token as symbol_token_lem, star_token as star_token_lem, token_of, closes_operand as closes_operand_lem, without_last as without_last_lem, ends_with_star as ends_with_star_lem, starts_open as starts_open_lem, starts_colons as starts_colons_lem, Splits};
+ghost use Rattle.xpath_tokens.specs.Words.{IsFound};
+
+use crate::text::{equals, text_of};
+use crate::words::{
+    behind, is_digit, is_pair, is_quote, is_single, run_before, space_run, word_length,
+};
+use crate::{Comparison, Fault, NodeType, Operator, StepAxis, Token};
+use std::alloc::{AllocError, Global};
+use xml_model::Axis;
+
+/// Whether the token can end an operand (XPath 1.0, section 3.7).
+pub fn closes_operand(token: &Token) -> bool
+    ensures { result ≡ closes_operand_lem token.now }
+{
+    !matches!(
+        token,
+        Token::At
+            | Token::ColonColon
+            | Token::Open
+            | Token::OpenSquare
+            | Token::Comma
+            | Token::Or
+            | Token::And
+            | Token::Compare(_)
+            | Token::Arithmetic(_)
+            | Token::Bar
+            | Token::Slash
+            | Token::SlashSlash
+    )
+}
+
+fn delimiter(word: &[char]) -> Option<Token>
+    ensures { result ≡ find_named delimiters word.now }
+{
+    if equals(word, "(") {
+        Some(Token::Open)
+    } else if equals(word, ")") {
+        Some(Token::Close)
+    } else if equals(word, "[") {
+        Some(Token::OpenSquare)
+    } else if equals(word, "]") {
+        Some(Token::CloseSquare)
+    } else if equals(word, ".") {
+        Some(Token::Dot)
+    } else if equals(word, "..") {
+        Some(Token::DotDot)
+    } else if equals(word, "@") {
+        Some(Token::At)
+    } else if equals(word, ",") {
+        Some(Token::Comma)
+    } else if equals(word, "::") {
+        Some(Token::ColonColon)
+    } else {
+        None
+    }
+}
+
+fn operator_sign(word: &[char]) -> Option<Token>
+    ensures { result ≡ find_named operator_signs word.now }
+{
+    if equals(word, "|") {
+        Some(Token::Bar)
+    } else if equals(word, "/") {
+        Some(Token::Slash)
+    } else if equals(word, "//") {
+        Some(Token::SlashSlash)
+    } else if equals(word, "+") {
+        Some(Token::Arithmetic(Operator::Add))
+    } else if equals(word, "-") {
+        Some(Token::Arithmetic(Operator::Subtract))
+    } else if equals(word, "=") {
+        Some(Token::Compare(Comparison::Equal))
+    } else if equals(word, "!=") {
+        Some(Token::Compare(Comparison::Unequal))
+    } else if equals(word, "<") {
+        Some(Token::Compare(Comparison::Less))
+    } else if equals(word, ">") {
+        Some(Token::Compare(Comparison::Greater))
+    } else if equals(word, "<=") {
+        Some(Token::Compare(Comparison::AtMost))
+    } else if equals(word, ">=") {
+        Some(Token::Compare(Comparison::AtLeast))
+    } else {
+        None
+    }
+}
+
+fn fixed_token(word: &[char]) -> Option<Token>
+    ensures { result ≡ fixed_token_lem word.now }
+{
+    match delimiter(word) {
+        Some(token) => Some(token),
+        None => operator_sign(word),
+    }
+}
+
+fn operator_name(word: &[char]) -> Option<Token>
+    ensures { result ≡ find_named operator_names word.now }
+{
+    if equals(word, "or") {
+        Some(Token::Or)
+    } else if equals(word, "and") {
+        Some(Token::And)
+    } else if equals(word, "div") {
+        Some(Token::Arithmetic(Operator::Divide))
+    } else if equals(word, "mod") {
+        Some(Token::Arithmetic(Operator::Modulo))
+    } else {
+        None
+    }
+}
+
+fn node_type(word: &[char]) -> Option<NodeType>
+    ensures { result ≡ find_named node_types word.now }
+{
+    if equals(word, "comment") {
+        Some(NodeType::Comment)
+    } else if equals(word, "text") {
+        Some(NodeType::Text)
+    } else if equals(word, "processing-instruction") {
+        Some(NodeType::Instruction)
+    } else if equals(word, "node") {
+        Some(NodeType::Node)
+    } else {
+        None
+    }
+}
+
+fn axis_name(word: &[char]) -> Option<StepAxis>
+    ensures { result ≡ find_named axis_names word.now }
+{
+    if equals(word, "child") {
+        Some(StepAxis::Known(Axis::Child))
+    } else if equals(word, "descendant") {
+        Some(StepAxis::Known(Axis::Descendant))
+    } else if equals(word, "parent") {
+        Some(StepAxis::Known(Axis::Parent))
+    } else if equals(word, "ancestor") {
+        Some(StepAxis::Known(Axis::Ancestor))
+    } else if equals(word, "following-sibling") {
+        Some(StepAxis::Known(Axis::FollowingSibling))
+    } else if equals(word, "preceding-sibling") {
+        Some(StepAxis::Known(Axis::PrecedingSibling))
+    } else if equals(word, "following") {
+        Some(StepAxis::Known(Axis::Following))
+    } else if equals(word, "preceding") {
+        Some(StepAxis::Known(Axis::Preceding))
+    } else if equals(word, "attribute") {
+        Some(StepAxis::Known(Axis::Attribute))
+    } else if equals(word, "self") {
+        Some(StepAxis::Known(Axis::Itself))
+    } else if equals(word, "descendant-or-self") {
+        Some(StepAxis::Known(Axis::DescendantOrSelf))
+    } else if equals(word, "ancestor-or-self") {
+        Some(StepAxis::Known(Axis::AncestorOrSelf))
+    } else if equals(word, "namespace") {
+        Some(StepAxis::Namespace)
+    } else {
+        None
+    }
+}
+
+fn is_symbol(word: &[char]) -> bool
+    ensures { result ≡ is_symbol_lem word.now }
+{
+    match word {
+        [c] => is_single(*c),
+        [c, d] => is_pair(*c, *d),
+        _ => false,
+    }
+}
+
+/// What stands behind the white space at the front.
+#[tactic(auto, using(crate::proofs::Spaces::behind_space_run))]
+fn behind_space(chars: &[char]) -> &[char]
+    ensures rest { result.now ≡ behind_space_lem chars.now }
+    ensures within { length result.now ≤ length chars.now }
+{
+    behind(chars, space_run(chars))
+}
+
+#[tactic(auto, using(crate::proofs::Spaces::has_colon_run))]
+fn has_colon(word: &[char]) -> bool
+    ensures { result ≡ has_colon_lem word.now }
+{
+    run_before(':', word) < word.len()
+}
+
+/// The prefix of a name, empty where there is no colon, and the part behind it.
+fn name_parts<'a>(word: &'a [char]) -> (&'a [char], &'a [char])
+    ensures prefix { result.0.now ≡ prefix_of word.now }
+    ensures local { result.1.now ≡ local_of word.now }
+{
+    let count = run_before(':', word);
+    if count < word.len() {
+        (&word[..count], &word[count + 1..])
+    } else {
+        (&word[..0], word)
+    }
+}
+
+fn without_last<'a>(chars: &'a [char]) -> &'a [char]
+    ensures { result.now ≡ without_last_lem chars.now }
+{
+    if chars.is_empty() {
+        chars
+    } else {
+        &chars[..chars.len() - 1]
+    }
+}
+
+fn ends_with_star(chars: &[char]) -> bool
+    ensures { result ≡ ends_with_star_lem chars.now }
+{
+    0 < chars.len() && chars[chars.len() - 1] == '*'
+}
+
+fn starts_open(chars: &[char]) -> bool
+    ensures { result ≡ starts_open_lem chars.now }
+{
+    match chars {
+        [c, ..] => *c == '(',
+        [] => false,
+    }
+}
+
+fn starts_colons(chars: &[char]) -> bool
+    ensures { result ≡ starts_colons_lem chars.now }
+{
+    match chars {
+        [c, d, ..] => *c == ':' && *d == ':',
+        _ => false,
+    }
+}
+
+fn star_token(after: bool) -> Token
+    ensures { result ≡ star_token_lem after }
+{
+    if after {
+        Token::Arithmetic(Operator::Multiply)
+    } else {
+        Token::Any
+    }
+}
+
+/// The token that a name is (the three rules of XPath 1.0, section 3.7).
+fn name_token(alloc: Global, after: bool, word: &[char], rest: &[char]) -> Result<Token, Fault>
+    ensures { IsFound (name_token_lem word.now (place after rest.now)) result }
+{
+    if after {
+        return operator_name(word).ok_or(Fault::Syntax);
+    }
+    let rest = behind_space(rest);
+    if starts_open(rest) {
+        return match node_type(word) {
+            Some(kind) => Ok(Token::Kind(kind)),
+            None => Ok(Token::Function(text_of(alloc, word)?)),
+        };
+    }
+    if starts_colons(rest) && !has_colon(word) {
+        return match axis_name(word) {
+            Some(axis) => Ok(Token::AxisName(axis)),
+            None => Err(Fault::Syntax),
+        };
+    }
+    let (prefix, local) = name_parts(word);
+    let prefix = text_of(alloc, prefix)?;
+    let local = text_of(alloc, local)?;
+    Ok(Token::Named(prefix, local))
+}
+
+/// The token that a prefix with `:*` is.
+fn prefix_token(alloc: Global, after: bool, word: &[char]) -> Result<Token, Fault>
+    ensures { IsFound (any_in_token after word.now) result }
+{
+    if after {
+        return Err(Fault::Syntax);
+    }
+    let (prefix, _) = name_parts(word);
+    Ok(Token::AnyIn(text_of(alloc, prefix)?))
+}
+
+/// The kinds of words.
+#[derive(Clone, Copy, Debug, PartialEq, Eq)]
+pub enum WordKind {
+    Symbol,
+    Literal,
+    Variable,
+    Number,
+    /// A prefix with `:*`.
+    AnyIn,
+    Name,
+}
+
+fn word_kind(word: &[char]) -> WordKind
+    ensures { result ≡ kind_of word.now }
+{
+    if is_symbol(word) {
+        return WordKind::Symbol;
+    }
+    match word {
+        [] => WordKind::Name,
+        [first, inner @ ..] => {
+            if is_quote(*first) {
+                WordKind::Literal
+            } else if *first == '$' {
+                WordKind::Variable
+            } else if is_digit(*first) || *first == '.' {
+                WordKind::Number
+            } else if ends_with_star(inner) {
+                WordKind::AnyIn
+            } else {
+                WordKind::Name
+            }
+        }
+    }
+}
+
+fn tail(chars: &[char]) -> &[char]
+    ensures { result.now ≡ drop 1 chars.now }
+{
+    match chars {
+        [] => chars,
+        [_, rest @ ..] => rest,
+    }
+}
+
+fn symbol_token(after: bool, word: &[char]) -> Option<Token>
+    ensures { result ≡ symbol_token_lem after word.now }
+{
+    if equals(word, "*") {
+        Some(star_token(after))
+    } else {
+        fixed_token(word)
+    }
+}
+
+/// The token that a word is, behind an operand or not, and before the rest.
+fn token(alloc: Global, after: bool, word: &[char], rest: &[char]) -> Result<Token, Fault>
+    ensures { IsFound (token_of after word.now rest.now) result }
+{
+    match word_kind(word) {
+        WordKind::Symbol => symbol_token(after, word).ok_or(Fault::Syntax),
+        WordKind::Literal => Ok(Token::Literal(text_of(alloc, without_last(tail(word)))?)),
+        WordKind::Variable => Ok(Token::Variable(text_of(alloc, tail(word))?)),
+        WordKind::Number => Ok(Token::Number(text_of(alloc, word)?)),
+        WordKind::AnyIn => prefix_token(alloc, after, word),
+        WordKind::Name => name_token(alloc, after, word, rest),
+    }
+}
+
+// The tokens that characters split into.
+fn tokens(alloc: Global, text: &[char]) -> Result<Vec<Token>, Fault>
+    ensures tokens { IfOk result (λ found. Splits false text.now found.items) }
+    ensures syntax { result ≡ Err Syntax → (ts : List Token) → Splits false text.now ts → ⊥ }
+{
+    let mut found = Vec::new(alloc);
+    let mut after = false;
+    let mut rest = behind_space(text);
+    while !rest.is_empty() {
+        let count = word_length(rest);
+        if count == 0 {
+            return Err(Fault::Syntax);
+        }
+        let (word, back) = rest.split_at(count);
+        let next = token(alloc, after, word, back)?;
+        after = closes_operand(&next);
+        found.push(next)?;
+        rest = behind_space(back);
+    }
+    Ok(found)
+}
+
+fn chars_of(alloc: Global, text: &str) -> Result<Vec<char>, AllocError>
+    ensures { IfOk result (λ v. v.items ≡ chars text.now) }
+{
+    text.chars().collect(alloc)
+}
+
+/// The tokens that a text splits into, each as long as it can be (XPath 1.0, section 3.7).
+///
+/// Errors: `Syntax` exactly where it splits into none; `NoMemory` where memory is not to be had.
+pub fn tokens_of(alloc: Global, text: &str) -> Result<Vec<Token>, Fault>
+    ensures tokens { IfOk result (λ found. Splits false (chars text.now) found.items) }
+    ensures syntax { result ≡ Err Syntax → (ts : List Token) → Splits false (chars text.now) ts → ⊥ }
+{
+    let all = chars_of(alloc, text)?;
+    tokens(alloc, all.as_slice())
+}
