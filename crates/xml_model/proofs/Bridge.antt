@@ -59,7 +59,7 @@ written_some (start_tag t) h = omega arith
 written_some (empty_tag t) h = omega arith
 written_some (end_tag name space) h = omega arith
 
-spelling_some : (bytes : List ℕ) (p : ℕ) (i : Item) → begins_at bytes p i ≡ true → 0 < length (spelling i)
+pub spelling_some : (bytes : List ℕ) (p : ℕ) (i : Item) → begins_at bytes p i ≡ true → 0 < length (spelling i)
 unfolding spelling
 spelling_some bytes p i h = omega (arith, length-le-encodes (written i), written_some i (begins_meets bytes p i h))
 

@@ -13,18 +13,18 @@ use Rattle.xml_model.proofs.ExampleParts.{opened, tag}
 
 -- A text whose bytes are the front of ASCII bytes is the front of their characters.
 
-abbrev is_ascii : List ℕ → Bool
+abbrev pub is_ascii : List ℕ → Bool
 is_ascii bs = list_all (λ b. nat_lt b 128) bs
 
 first_byte : (xs : List ℕ) (d : ℕ) (text : List ℕ) → 0 < length xs → begins xs (d ∷ text) ≡ true → get_or xs 0 0 ≡ d
 first_byte [] d text l h = absurd (omega arith)
 first_byte (x ∷ xs) d text l h = eqb-true x d (and_parts (x == d) _ h).0
 
-no_front : (xs : List ℕ) → 0 < length xs → begins xs [] ≡ true → ⊥
+pub no_front : (xs : List ℕ) → 0 < length xs → begins xs [] ≡ true → ⊥
 no_front [] l h = absurd (omega arith)
 no_front (x ∷ xs) l h = false≢true h
 
-abbrev IsFront : List ℕ → List ℕ → Type 0
+abbrev pub IsFront : List ℕ → List ℕ → Type 0
 IsFront cs text = (encode_utf8_all cs ≡ cs) × (begins cs text ≡ true)
 
 -- one character below 128 before others
@@ -51,7 +51,7 @@ none_above c cs text l a h = by text a h
         let same = char_from_byte (encode_utf8 c ++ encode_utf8_all cs) (encode_utf8_all cs) c refl (omega (arith, first, less)) some in
         absurd (omega (arith, first, less, same, l))
 
-ascii_front : (cs text : List ℕ) → is_ascii text ≡ true → begins (encode_utf8_all cs) text ≡ true → IsFront cs text
+pub ascii_front : (cs text : List ℕ) → is_ascii text ≡ true → begins (encode_utf8_all cs) text ≡ true → IsFront cs text
 ascii_front [] text a h = (refl, refl)
 ascii_front (c ∷ cs) text a h =
     ⊎_elim (λ l. one_more c cs text l a (λ rest. ascii_front cs rest) (subst (λ x. begins (x ++ encode_utf8_all cs) text ≡ true) (encode_ascii c l) h)) (λ l. absurd (none_above c cs text l a h)) (cases_lt c 128)
@@ -85,12 +85,12 @@ none_there text a none i = by (begins_at (behind_a text) 3 i) refl
     by false h = refl
 
 -- what a text's row says
-record Row (ps : List Piece) : Type 0 where
-  some : not (is_nil (written_pieces ps)) ≡ true
-  pieces : list_all (meets_piece (λ c. false)) ps ≡ true
-  open_end : lacks (codes "]]>") (written_pieces ps) ≡ true
+pub record Row (ps : List Piece) : Type 0 where
+  pub some : not (is_nil (written_pieces ps)) ≡ true
+  pub pieces : list_all (meets_piece (λ c. false)) ps ≡ true
+  pub open_end : lacks (codes "]]>") (written_pieces ps) ≡ true
 
-row_of : (ps : List Piece) → meets (leaf (Leaf.text ps)) ≡ true → Row ps
+pub row_of : (ps : List Piece) → meets (leaf (Leaf.text ps)) ≡ true → Row ps
 unfolding meets
 row_of ps h =
     let p = and_parts (not (is_nil (written_pieces ps)) && list_all (meets_piece (λ c. false)) ps) (lacks (codes "]]>") (written_pieces ps)) h in
@@ -98,14 +98,14 @@ row_of ps h =
     record { some = q.0; pieces = q.1; open_end = p.1 }
 
 -- of a literal: it is no < and no &
-literal_row : (c : ℕ) (ps : List Piece) → Row (literal c ∷ ps) → (not (c == 60) ≡ true) × (not (c == 38) ≡ true)
+pub literal_row : (c : ℕ) (ps : List Piece) → Row (literal c ∷ ps) → (not (c == 60) ≡ true) × (not (c == 38) ≡ true)
 literal_row c ps r =
     let p = and_parts (meets_piece (λ d. false) (literal c)) _ r.pieces in
     let q = and_parts (is_char c && not (c == 60) && not (c == 38)) true p.0 in
     let s = and_parts (is_char c && not (c == 60)) (not (c == 38)) q.0 in
     ((and_parts (is_char c) (not (c == 60)) s.0).1, s.1)
 
-both : (b : Bool) → b ≡ true → not b ≡ true → ⊥
+pub both : (b : Bool) → b ≡ true → not b ≡ true → ⊥
 both true h k = false≢true k
 both false h k = false≢true h
 

@@ -28,6 +28,7 @@ pub mod NodeAt
 pub mod NodeLaws
 pub mod Bridge
 pub mod OneRefusal
+pub mod ExamplesOne
 pub mod ExamplesFirst
 pub mod Starts
 pub mod Lacks
