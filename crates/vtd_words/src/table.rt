@@ -70,7 +70,8 @@ impl<'a, W: Words> Table<'a, W> {
         Some(Node { kind, at })
     }
 
-    /// The first record past those of a node and of all that stands in it. Each of these records is read at most once.
+    /// The first record past those of a node and of all that stands in it. Each of these records is read once, but
+    /// the first of a text node twice.
     pub fn end_of(&self, node: Node) -> u32
         requires { IsNodeOf self.now.bytes (W.lists self.now.words) node }
         ensures { (nest : Forest) → IsNestOf self.now.bytes (W.lists self.now.words) nest →

@@ -51,8 +51,9 @@ pub struct Item {
     pub span: Span,
     /// The Name of a tag, an Instruction or a Doctype; empty at the item's start for the others.
     pub name: Span,
-    /// The whole of a Text; what stands between the markers of a Cdata and a Comment; the data of an Instruction; what
-    /// stands between the Name of a tag and its `>` or `/>`, between `<?xml` and `?>`, and behind `<!DOCTYPE`.
+    /// The whole of a Text; what stands between the markers of a Cdata and a Comment; the data of an Instruction,
+    /// empty at its `?>` where it has none; what stands between the Name of a tag and its `>` or `/>`, between `<?xml` and
+    /// `?>`, and between `<!DOCTYPE` and its `>`.
     pub content: Span,
 }
 

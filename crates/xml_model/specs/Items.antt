@@ -175,7 +175,7 @@ written (end_tag name space) = written_end name space
 unfoldable pub spelling : Item → List ℕ
 spelling i = encode_utf8_all (written i)
 
--- Whether an item meets its row.
+-- Whether an item meets the productions of its kind.
 
 -- the number that digits name
 abbrev pub number_of : ℕ → List ℕ → ℕ
@@ -292,7 +292,7 @@ begins_with_name_char (c ∷ cs) = is_name_char c
 abbrev pub meets_doctype : Doctype → Bool
 meets_doctype d = is_white d.space && is_name d.name && not (begins_with_name_char (written_units d.units)) && list_all meets_unit d.units && has_one_subset d.units
 
--- whether a leaf meets its row: a text is not empty and has no ]]> (XML 1.0, section 2.4), and so on
+-- whether a leaf meets the productions of its kind: a text is not empty and has no ]]> (XML 1.0, section 2.4), and so on
 abbrev pub meets_leaf : Leaf → Bool
 meets_leaf (text ps) = not (is_nil (written_pieces ps)) && list_all (meets_piece (λ c. false)) ps && lacks (codes "]]>") (written_pieces ps)
 meets_leaf (cdata cs) = list_all is_char cs && lacks (codes "]]>") cs
@@ -301,7 +301,7 @@ meets_leaf (Leaf.instruction i) = meets_instruction i
 meets_leaf (declaration d) = meets_declaration d
 meets_leaf (doctype d) = meets_doctype d
 
--- whether an item meets its row: XML 1.0, productions 14 to 44
+-- whether an item meets the productions of its kind: XML 1.0, 14 to 44
 unfoldable pub meets : Item → Bool
 meets (leaf l) = meets_leaf l
 meets (start_tag t) = meets_tag t
@@ -329,7 +329,7 @@ abbrev pub may_stand : Item → ℕ → ℕ → Bool
 may_stand (leaf (declaration d)) first p = p == first
 may_stand _ first p = true
 
--- an item begins at a place: it meets its row, its spelling stands there, and it ends well
+-- an item begins at a place: it meets the productions of its kind, its spelling stands there, and it ends well
 unfoldable pub begins_at : List ℕ → ℕ → Item → Bool
 begins_at bytes p i = meets i && begins (spelling i) (drop p bytes) && ends_well i (drop (p + length (spelling i)) bytes) && may_stand i (first_place bytes) p
 

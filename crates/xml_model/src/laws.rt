@@ -21,12 +21,12 @@ pub fn one_nest()
     ensures { (f g : Forest) → flat f ≡ flat g → f ≡ g }
 {}
 
-/// Each item of a walk meets its row of the item table, so that no text is empty.
+/// Each item of a walk meets the productions of its kind, so that no text is empty.
 pub fn items_meet()
     ensures { (bytes : List ℕ) (items : List Item) → walk bytes items ≡ true → list_all meets items ≡ true }
 {}
 
-/// Each item of a document meets its row of the item table, so that no text is empty.
+/// Each item of a document meets the productions of its kind, so that no text is empty.
 pub fn document_items_meet()
     ensures { (bytes : List ℕ) (nest : Forest) → IsDocument bytes nest → list_all meets (flat nest) ≡ true }
 {}

@@ -20,7 +20,8 @@ const DEEPEST: usize = 64;
 pub enum GrammarFault {
     /// The text has more than 4,096 bytes.
     Long,
-    /// The text splits into tokens, and in some prefix of them more than 64 brackets are open.
+    /// The text splits into tokens, and in some prefix of them the opening brackets outnumber the closing ones by
+    /// more than 64.
     Deep,
     /// The text splits into no tokens, or they derive no expression.
     Syntax,
@@ -49,7 +50,7 @@ fn closes(token: &Token) -> bool
     matches!(token, Token::Close | Token::CloseSquare)
 }
 
-/// Whether in some prefix more than 64 brackets are open.
+/// Whether in some prefix the opening brackets outnumber the closing ones by more than 64.
 fn is_deep(tokens: &[Token]) -> bool
     ensures { result ≡ deep_from 0 0 tokens.now }
 {
@@ -84,7 +85,7 @@ fn parse_tokens(alloc: Global, tokens: &[Token]) -> Result<Expr, GrammarFault>
 /// The expression that a text is (XPath 1.0, sections 2 and 3), with the abbreviations expanded and the brackets dropped.
 ///
 /// Errors: `Long` exactly where the text has more than 4,096 bytes. Else `Deep` exactly where it splits into tokens of
-/// which some prefix has more than 64 open brackets. Else `Syntax` exactly where it splits into no tokens, or they derive
+/// some prefix of which has more than 64 opening brackets beyond its closing ones. Else `Syntax` exactly where it splits into no tokens, or they derive
 /// no expression. `NoMemory` may come in place of any other answer but `Long`.
 pub fn parse(alloc: Global, text: &str) -> Result<Expr, GrammarFault>
     ensures long { (result ≡ Err Long) ↔ (longest_text < length text.now) }
