@@ -139,6 +139,10 @@ pub text_done : (text : List ℕ) → in_text text ≡ false → skip read_piece
 unfolding read_pieces
 text_done text h = many_done in_text (read_piece none) text h
 
+pub text_ended : (text : List ℕ) → ends_text text ≡ true → skip read_pieces text ≡ Some text
+unfolding in_text
+text_ended text h = text_done text (ap (λ (b : Bool). not b && not (begins (codes "]]>") text)) h)
+
 pub goes_by_head : (q : Quote) (b : ℕ) (text : List ℕ) → quote_char q ≡ b → (ascii_head text ≡ b → ⊥) → in_value q text ≡ true
 unfolding in_value
 goes_by_head q b text e n = not_from_false _ (ne_eqb (ascii_head text) (quote_char q) (λ s. n (s ∙ e)))

@@ -1,7 +1,7 @@
 //! The items of a document: texts, tags, comments and the rest (XML 1.0, productions 14 to 44).
 #![tactic(auto)]
 
-ghost use Rattle.std.specs.Prelude.{◌≡◌, ◌<◌, ◌+◌, ◌^◌, ◌↔◌, List, ℕ, drop, true, length, option_map, codes, IfOk, IfErr, IfSome};
+ghost use Rattle.std.specs.Prelude.{◌≡◌, ◌==◌, ◌<◌, ◌+◌, ◌^◌, ◌↔◌, List, ℕ, drop, true, length, option_map, codes, IfOk, IfErr, IfSome};
 ghost use Rattle.std.specs.Str.{chars, IsUtf8, IsCharBoundary};
 ghost use Rattle.xml_model.specs.Items.{first_place};
 ghost use Rattle.xml_chars.specs.Reading.{read_name};
@@ -89,6 +89,14 @@ fn first_place(bytes: &[u8]) -> u32
     }
 }
 
+/// Whether the place is the first place of the document.
+#[inline(always)]
+fn is_first_place(bytes: &[u8], at: u32) -> bool
+    ensures { result ≡ (at == first_place bytes.now) }
+{
+    at <= 3 && at == first_place(bytes)
+}
+
 /// What follows the first character.
 fn after_first(text: &str) -> &str
     ensures { chars result.now ≡ drop 1 (chars text.now) }
@@ -153,6 +161,7 @@ fn item_of(text: &str, at: u32, first: bool) -> Option<Counted>
 
 /// The item that begins at the place, with the number of its attributes: `Ok(None)` exactly at the end, and `Err` exactly
 /// where the place is before the end and no item begins there.
+#[inline]
 pub fn next_counted(bytes: &[u8], at: u32) -> Result<Option<Counted>, ItemFault>
     requires utf8 { IsUtf8 bytes.now }
     requires place { IsCharBoundary bytes.now at }
@@ -168,7 +177,7 @@ pub fn next_counted(bytes: &[u8], at: u32) -> Result<Option<Counted>, ItemFault>
     if text.is_empty() {
         return Ok(None);
     }
-    let first = at == first_place(bytes);
+    let first = is_first_place(bytes, at);
     match item_of(text, at, first) {
         Some(counted) => Ok(Some(counted)),
         None => Err(ItemFault),
@@ -177,6 +186,7 @@ pub fn next_counted(bytes: &[u8], at: u32) -> Result<Option<Counted>, ItemFault>
 
 /// The item that begins at the place: `Ok(None)` exactly at the end, and `Err` exactly where the place is before the end
 /// and no item begins there.
+#[inline]
 pub fn next_item(bytes: &[u8], at: u32) -> Result<Option<Item>, ItemFault>
     requires utf8 { IsUtf8 bytes.now }
     requires place { IsCharBoundary bytes.now at }

@@ -18,6 +18,7 @@ use xml_chars::references::reference_of;
 use xml_chars::text::{head, step, word_of};
 
 /// The length of the longest front of ASCII Chars that mean themselves in a text.
+#[inline(always)]
 fn plain_text_len(bytes: &[u8]) -> usize
     ensures value { result ≡ prefix_len is_plain_text bytes.now }
     ensures within { result ≤ length bytes.now }
@@ -31,6 +32,7 @@ fn plain_text_len(bytes: &[u8]) -> usize
 }
 
 /// What follows the longest front of ASCII Chars that mean themselves in a text.
+#[inline(always)]
 fn after_plain_text(text: &str) -> &str
     ensures rest { chars result.now ≡ after_run is_plain_text (chars text.now) }
     ensures shorter { length result.now ≤ length text.now }
@@ -39,6 +41,7 @@ fn after_plain_text(text: &str) -> &str
 }
 
 /// The length of the longest front of ASCII Chars that mean themselves in a value.
+#[inline(always)]
 fn plain_value_len(bytes: &[u8]) -> usize
     ensures value { result ≡ prefix_len is_plain_value bytes.now }
     ensures within { result ≤ length bytes.now }
@@ -52,6 +55,7 @@ fn plain_value_len(bytes: &[u8]) -> usize
 }
 
 /// What follows the longest front of ASCII Chars that mean themselves in a value.
+#[inline(always)]
 pub fn after_plain_value(text: &str) -> &str
     ensures rest { chars result.now ≡ after_run is_plain_value (chars text.now) }
     ensures shorter { length result.now ≤ length text.now }
@@ -134,6 +138,7 @@ fn after_value_piece(text: &str, quote: u8) -> Option<&str>
 }
 
 /// Whether a text ends here: at the end or at a `<`.
+#[inline(always)]
 pub fn ends_text(text: &str) -> bool
     ensures { result ≡ ends_text (chars text.now) }
 {
@@ -158,8 +163,9 @@ fn begins_end(text: &str) -> bool
     word_of(text, "]]>").is_some()
 }
 
-/// What follows the pieces of a text; None where one of them is wrong.
-pub fn after_pieces(text: &str) -> Option<&str>
+/// What follows the pieces of a text, whatever they are; None where one of them is wrong.
+#[inline(never)]
+fn after_any_pieces(text: &str) -> Option<&str>
     ensures read { option_map chars (option_copied result) ≡ skip read_pieces (chars text.now) }
     ensures shorter { IfSome result (λ r. length r.now ≤ length text.now) }
 {
@@ -170,8 +176,24 @@ pub fn after_pieces(text: &str) -> Option<&str>
     Some(rest)
 }
 
-/// What follows the pieces of a value that the quote ends, up to the quote; None where one of them is wrong.
-pub fn after_value(text: &str, quote: u8) -> Option<&str>
+/// What follows the pieces of a text; None where one of them is wrong.
+#[inline(always)]
+pub fn after_pieces(text: &str) -> Option<&str>
+    ensures read { option_map chars (option_copied result) ≡ skip read_pieces (chars text.now) }
+    ensures shorter { IfSome result (λ r. length r.now ≤ length text.now) }
+{
+    let rest = after_plain_text(text);
+    if ends_text(rest) {
+        Some(rest)
+    } else {
+        after_any_pieces(rest)
+    }
+}
+
+/// What follows the pieces of a value that the quote ends, whatever they are, up to the quote; None where one of them is
+/// wrong.
+#[inline(never)]
+fn after_any_value(text: &str, quote: u8) -> Option<&str>
     requires { quote_char (quote_of quote) ≡ quote }
     ensures read { option_map chars (option_copied result) ≡ skip (read_value (quote_of quote)) (chars text.now) }
     ensures shorter { IfSome result (λ r. length r.now ≤ length text.now) }
@@ -181,6 +203,21 @@ pub fn after_value(text: &str, quote: u8) -> Option<&str>
         rest = after_plain_value(after_value_piece(rest, quote)?);
     }
     Some(rest)
+}
+
+/// What follows the pieces of a value that the quote ends, up to the quote; None where one of them is wrong.
+#[inline(always)]
+pub fn after_value(text: &str, quote: u8) -> Option<&str>
+    requires { quote_char (quote_of quote) ≡ quote }
+    ensures read { option_map chars (option_copied result) ≡ skip (read_value (quote_of quote)) (chars text.now) }
+    ensures shorter { IfSome result (λ r. length r.now ≤ length text.now) }
+{
+    let rest = after_plain_value(text);
+    if head(rest) == quote {
+        Some(rest)
+    } else {
+        after_any_value(rest, quote)
+    }
 }
 
 /// Whether all characters may stand in a document.
