@@ -1,0 +1,5 @@
+mod EntityLemmas
+mod PieceLemmas
+mod Shown
+mod JoinedLemmas
+mod SliceLemmas
