@@ -3,3 +3,6 @@ mod PieceLemmas
 mod Shown
 mod JoinedLemmas
 mod SliceLemmas
+mod Standing
+mod Leaves
+mod Written
