@@ -4,5 +4,8 @@ mod Shown
 mod JoinedLemmas
 mod SliceLemmas
 mod Standing
+mod Function
 mod Leaves
 mod Written
+mod NodeFacts
+mod NameFacts

@@ -1,12 +1,13 @@
 -- The content of a row of records: that of their texts and CDATA sections, joined (XPath 1.0, sections 5.1, 5.2 and 5.7).
-use Rattle.std.specs.Prelude.{◌≡◌, ℕ, ◌+◌, ◌-◌, ◌<◌, ◌≤◌, true, cond, ◌==◌, List, [], ◌∷◌, ◌++◌, length, take, drop, Option, Some, None}
+use Rattle.std.specs.Prelude.{◌≡◌, ℕ, ◌+◌, ◌-◌, ◌/◌, ◌%◌, ◌^◌, ◌<◌, ◌≤◌, true, cond, ◌==◌, List, [], ◌∷◌, ◌++◌, length, take, drop, Option, Some, None}
+use Rattle.std.specs.List.{flat_map}
 use Rattle.std.specs.Str.{IsUtf8, chars}
 use Rattle.xml_model.specs.Records.{Token}
 use Rattle.xml_model.specs.Scan.{record_at, is_text_token}
 use Rattle.vtd_words.specs.Table.{Shows}
 use Rattle.vtd_text.specs.declared.token.Rule.{Rule}
 use Rattle.vtd_text.specs.declared.token.Rule.TheVariants.{Text, Literal}
-use Rattle.vtd_text.specs.Tokens.{HasContent}
+use Rattle.vtd_text.specs.Tokens.{HasContent, resolved}
 
 -- how the token of a record is resolved, where it is a text or a CDATA section: types 5 and 11
 abbrev pub rule_of : ℕ → Option Rule
@@ -57,3 +58,18 @@ pub record LeavesTail (Left : List ℕ → Type 0) (content : List ℕ) (c : ℕ
   pub tail : List ℕ
   pub whole : content ≡ c ∷ tail
   pub left : Left tail
+
+-- The content as a function of the words.
+
+-- the content of a slice by a rule; where there is none, nothing
+abbrev pub resolved_by : Option Rule → List ℕ → List ℕ
+resolved_by None slice = []
+resolved_by (Some rule) slice = resolved rule (chars slice)
+
+-- the content of the record that a word packs
+unfoldable pub word_content : List ℕ → ℕ → List ℕ
+word_content bytes w = resolved_by (rule_of (w / 2 ^ 60)) (take ((w / 2 ^ 32) % 2 ^ 20) (drop (w % 2 ^ 30) bytes))
+
+-- what is left: that of the rest of a token, and of the words from one on, below another
+unfoldable pub left_of : List ℕ → List ℕ → Rule → List ℕ → ℕ → ℕ → List ℕ
+left_of bytes words rule text at past = resolved rule (chars text) ++ flat_map (word_content bytes) (take (past - at) (drop at words))

@@ -1,8 +1,10 @@
 -- The content of the characters of one token: XML 1.0, sections 2.11, 3.3.3 and 4.6.
-use Rattle.std.specs.Prelude.{◌≡◌, ℕ, Bool, true, false, cond, ◌==◌, List, [], ◌∷◌}
+use Rattle.std.specs.Prelude.{◌≡◌, ℕ, Bool, true, false, cond, ◌==◌, List, [], ◌∷◌, Option, Some, None}
 use Rattle.std.specs.List.{list_all}
 use Rattle.xml_model.specs.Items.{Piece, literal, written_pieces, meets_piece}
 use Rattle.xml_model.specs.Content.{text_content, value_content, char_in_value}
+use Rattle.xml_chars.specs.Readers.{Reader, mapped, one_of, choose_by, many}
+use Rattle.xml_chars.specs.Reading.{read_reference}
 use Rattle.vtd_text.specs.declared.token.Rule.{Rule}
 use Rattle.vtd_text.specs.declared.token.Rule.TheVariants.{Literal, Value}
 
@@ -48,3 +50,35 @@ begins_reference _ c = c == 38
 abbrev pub after_line_feed : List ℕ → List ℕ
 after_line_feed [] = []
 after_line_feed (c ∷ cs) = cond (c == 10) cs (c ∷ cs)
+
+-- The content as a function of the characters.
+
+-- whether characters are left
+abbrev pub some_left : List ℕ → Bool
+some_left [] = false
+some_left (c ∷ cs) = true
+
+-- whether they begin with a reference
+abbrev pub begins_with_reference : Rule → List ℕ → Bool
+begins_with_reference rule [] = false
+begins_with_reference rule (c ∷ cs) = begins_reference rule c
+
+abbrev pub read_piece_by : Bool → Reader Piece
+read_piece_by true = read_reference
+read_piece_by false = mapped literal (one_of (λ c. true))
+
+-- the first piece: a reference, or a character that is written as itself
+abbrev pub read_piece : Rule → Reader Piece
+read_piece rule = choose_by (begins_with_reference rule) read_piece_by
+
+abbrev pub pieces_read : Option (List Piece × List ℕ) → List Piece
+pieces_read None = []
+pieces_read (Some p) = p.0
+
+-- the pieces that characters are written by; none where there are no such pieces
+unfoldable pub pieces_of : Rule → List ℕ → List Piece
+pieces_of rule cs = pieces_read (many some_left (read_piece rule) cs)
+
+-- the content of the characters
+unfoldable pub resolved : Rule → List ℕ → List ℕ
+resolved rule cs = content_by rule (pieces_of rule cs)
