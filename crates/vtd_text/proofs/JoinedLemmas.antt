@@ -10,17 +10,18 @@ use Rattle.xml_model.specs.Records.{Token}
 use Rattle.std.proofs.lemmas.Bool.{cases_Bool}
 use Rattle.xml_model.specs.Scan.{record_at, is_text_token}
 use Rattle.vtd_text.specs.declared.token.Rule.{Rule}
-use Rattle.vtd_text.specs.Tokens.{HasContent, BeginsWith}
-use Rattle.vtd_text.specs.Joined.{rule_of, slice_of, Gives, Joined, IsText, ShowsReadable, IsLeft, LeavesTail}
+use Rattle.vtd_text.specs.Tokens.{HasContent, BeginsWith, EndsHere}
+use Rattle.vtd_text.specs.Joined.{rule_of, slice_of, Gives, Joined, IsText, ShowsReadable, IsLeft, LeavesTail, BetweenTokens, IsAtEnd}
 
 -- a character of the token, or the end of the token
 pub token_step : (bytes : List ℕ) (rs : List Token) (rule : Rule) (text left : List ℕ) (at past : ℕ) (content : List ℕ) (found : Option ℕ)
-    → ((head : List ℕ) → HasContent rule (chars text) head → MatchOption found (head ≡ []) (λ c. BeginsWith rule head c (chars left)))
+    → ((head : List ℕ) → HasContent rule (chars text) head → MatchOption found (EndsHere rule head (chars left)) (λ c. BeginsWith rule head c (chars left)))
     → IsLeft bytes rs rule text at past content
-    → MatchOption found (Joined bytes (take (past - at) (drop at rs)) content) (λ c. LeavesTail (IsLeft bytes rs rule left at past) content c)
+    → MatchOption found (BetweenTokens bytes rs rule left at past content) (λ c. LeavesTail (IsLeft bytes rs rule left at past) content c)
 token_step bytes rs rule text left at past content None f h =
-    let e : content ≡ h.tail = h.whole ∙ ap (λ (l : List ℕ). l ++ h.tail) (f h.head h.first) in
-    subst (Joined bytes (take (past - at) (drop at rs))) (sym e) h.rest
+    let ends = f h.head h.first in
+    let e : content ≡ h.tail = h.whole ∙ ap (λ (l : List ℕ). l ++ h.tail) ends.none in
+    record { ended = ends.rest; rest = subst (Joined bytes (take (past - at) (drop at rs))) (sym e) h.rest }
 token_step bytes rs rule text left at past content (Some c) f h =
     let b = f h.head h.first in
     record {
@@ -91,13 +92,14 @@ pub some_step : (b0 b1 b2 ws0 ws1 : List ℕ) (p0 p1 p2 at next last : ℕ) (rul
 some_step b0 b1 b2 ws0 ws1 p0 p1 p2 at next last rule new text left c b d w p q a f g rs s content j =
     rw (a, sym (d ∙ b), sym (q ∙ p)) (g rs content (opened b0 b1 b2 ws0 ws1 p0 p1 p2 at next rule text b d w p q f rs s content j))
 
-pub none_step : (b0 b1 b2 ws0 ws1 : List ℕ) (p0 p1 p2 at next last : ℕ) (rule : Rule) (text : List ℕ) → b1 ≡ b0 → b2 ≡ b1 → ws1 ≡ ws0 → p1 ≡ p0 → p2 ≡ p1 → last ≡ next → Opens b1 ws1 at p1 rule text next
-    → ((rs : List Token) (content : List ℕ) → IsLeft b2 rs rule text next p2 content → Joined b2 (take (p2 - next) (drop next rs)) content)
-    → (rs : List Token) → Shows ws0 rs → (content : List ℕ) → Joined b0 (take (p0 - at) (drop at rs)) content → Joined b0 (take (p0 - last) (drop last rs)) content
-none_step b0 b1 b2 ws0 ws1 p0 p1 p2 at next last rule text b d w p q a f g rs s content j =
+pub none_step : (b0 b1 b2 ws0 ws1 : List ℕ) (p0 p1 p2 at next last : ℕ) (rule new : Rule) (text left : List ℕ) → b1 ≡ b0 → b2 ≡ b1 → ws1 ≡ ws0 → p1 ≡ p0 → p2 ≡ p1 → last ≡ next → Opens b1 ws1 at p1 rule text next
+    → ((rs : List Token) (content : List ℕ) → IsLeft b2 rs rule text next p2 content → BetweenTokens b2 rs new left next p2 content)
+    → (rs : List Token) → Shows ws0 rs → (content : List ℕ) → Joined b0 (take (p0 - at) (drop at rs)) content → BetweenTokens b0 rs new left last p0 content
+none_step b0 b1 b2 ws0 ws1 p0 p1 p2 at next last rule new text left b d w p q a f g rs s content j =
     rw (a, sym (d ∙ b), sym (q ∙ p)) (g rs content (opened b0 b1 b2 ws0 ws1 p0 p1 p2 at next rule text b d w p q f rs s content j))
 
-pub end_step : (bytes : List ℕ) (rs : List Token) (content : List ℕ) (past at : ℕ) → past ≤ at → Joined bytes (take (past - at) (drop at rs)) content → content ≡ []
-end_step bytes rs content past at l j =
+pub end_step : (bytes : List ℕ) (rs : List Token) (rule : Rule) (text content : List ℕ) (past at : ℕ) → past ≤ at → BetweenTokens bytes rs rule text at past content → IsAtEnd (IsLeft bytes rs rule text at past) content
+end_step bytes rs rule text content past at l j =
     let none : past - at ≡ 0 = omega arith in
-    subst (λ (k : ℕ). Joined bytes (take k (drop at rs)) content) none j
+    let e : content ≡ [] = subst (λ (n : ℕ). Joined bytes (take n (drop at rs)) content) none j.rest in
+    record { none = e; left = record { head = []; tail = []; whole = refl; first = j.ended; rest = subst (λ (l : List ℕ). Joined bytes (take (past - at) (drop at rs)) l) e j.rest } }

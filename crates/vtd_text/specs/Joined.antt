@@ -59,6 +59,16 @@ pub record LeavesTail (Left : List ℕ → Type 0) (content : List ℕ) (c : ℕ
   pub whole : content ≡ c ∷ tail
   pub left : Left tail
 
+-- a token is at its end, and the content is that of the records from one on, below another
+pub record BetweenTokens (bytes : List ℕ) (rs : List Token) (rule : Rule) (text : List ℕ) (at past : ℕ) (content : List ℕ) : Type 0 where
+  pub ended : HasContent rule (chars text) []
+  pub rest : Joined bytes (take (past - at) (drop at rs)) content
+
+-- a content has no character, and none is left
+pub record IsAtEnd (Left : List ℕ → Type 0) (content : List ℕ) : Type 0 where
+  pub none : content ≡ []
+  pub left : Left []
+
 -- The content as a function of the words.
 
 -- the content of a slice by a rule; where there is none, nothing

@@ -36,6 +36,11 @@ pub record BeginsWith (rule : Rule) (content : List ℕ) (c : ℕ) (left : List 
   pub whole : content ≡ c ∷ tail
   pub rest : HasContent rule left tail
 
+-- a content has no character, and neither has that of what is left
+pub record EndsHere (rule : Rule) (content left : List ℕ) : Type 0 where
+  pub none : content ≡ []
+  pub rest : HasContent rule left []
+
 -- a character that is written as itself and is no carriage return
 abbrev pub spaced : Rule → ℕ → ℕ
 spaced Value c = char_in_value (literal c)

@@ -2,8 +2,6 @@
 //! attribute values resolved (XML 1.0, sections 2.11, 3.3.3 and 4.6). Nothing is copied.
 #![tactic(auto)]
 
-mod chars;
 mod entities;
+mod row;
 mod token;
-
-pub use token::Rule;

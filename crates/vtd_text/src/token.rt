@@ -6,7 +6,7 @@ ghost use Rattle.std.specs.Str.{chars};
 ghost use Rattle.xml_model.specs.Content.{char_of};
 ghost use Rattle.xml_chars.specs.Readers.{Gives, mapped};
 ghost use Rattle.xml_chars.specs.Reading.{read_reference};
-ghost use Rattle.vtd_text.specs.Tokens.{HasContent, BeginsWith, spaced, after_line_feed, begins_reference};
+ghost use Rattle.vtd_text.specs.Tokens.{HasContent, BeginsWith, EndsHere, spaced, after_line_feed, begins_reference};
 
 use crate::entities::entity_char;
 use xml_chars::references::{Referred, reference_of};
@@ -14,7 +14,7 @@ use xml_chars::text::step;
 
 /// How the characters of a token are resolved.
 #[derive(Clone, Copy, Debug, PartialEq, Eq)]
-pub enum Rule {
+pub(crate) enum Rule {
     /// As those of a text: line ends and references.
     Text,
     /// As those of a CDATA section, a comment or an instruction's data: line ends alone.
@@ -94,7 +94,7 @@ impl<'a> TokenChars<'a> {
     /// The next character of the token's content; `None` exactly at the end.
     pub(crate) fn next(&mut self) -> Option<char>
         ensures content { (content : List ℕ) → HasContent self.old.rule (chars self.old.text.now) content →
-            MatchOption result (content ≡ []) (λ c. BeginsWith self.old.rule content c (chars self.new.text.now)) }
+            MatchOption result (EndsHere self.old.rule content (chars self.new.text.now)) (λ c. BeginsWith self.old.rule content c (chars self.new.text.now)) }
         ensures rule { self.new.rule ≡ self.old.rule }
     {
         let (c, rest) = next_char(self.text, self.rule)?;

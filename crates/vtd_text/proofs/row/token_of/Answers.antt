@@ -1,7 +1,7 @@
 use Rattle.std.proofs.Common.{◌≡◌, None, sym}
 use Rattle.vtd_text.specs.Joined.{rule_of}
 use Rattle.vtd_text.proofs.PieceLemmas.{nothing_left}
-use Rattle.vtd_text.proofs.chars.token_of.Goals as goal
+use Rattle.vtd_text.proofs.row.token_of.Goals as goal
 
 pub returns-in-None : goal.returns-in-None
 returns-in-None c = λ content h.

@@ -1,5 +1,5 @@
 use Rattle.vtd_text.proofs.JoinedLemmas.{token_step}
-use Rattle.vtd_text.proofs.chars.Chars.next_of_token.Goals as goal
+use Rattle.vtd_text.proofs.row.Row.next_of_token.Goals as goal
 
 pub returns-clause-content : goal.returns-clause-content
 returns-clause-content g c = λ rs content h.

@@ -8,7 +8,7 @@ ghost use Rattle.vtd_words.specs.Lists.{list_of};
 ghost use Rattle.vtd_words.specs.Packed.{token_of};
 ghost use Rattle.vtd_words.specs.Table.{Shows};
 ghost use Rattle.xml_model.specs.Scan.{record_at, is_text_token};
-ghost use Rattle.vtd_text.specs.Joined.{rule_of, slice_of, Gives, Joined, IsText, ShowsReadable, IsLeft, LeavesTail};
+ghost use Rattle.vtd_text.specs.Joined.{rule_of, slice_of, Gives, Joined, IsText, ShowsReadable, IsLeft, LeavesTail, BetweenTokens, IsAtEnd};
 ghost use Rattle.vtd_text.specs.Tokens.{HasContent};
 
 use crate::token::{Rule, TokenChars};
@@ -26,7 +26,7 @@ fn rule_of(parts: Parts) -> Option<Rule>
 }
 
 /// The text that a record is of.
-fn text_of(bytes: &[u8], parts: Parts) -> &str
+pub(crate) fn text_of(bytes: &[u8], parts: Parts) -> &str
     requires { IsText bytes.now (token_of parts) }
     ensures { result.now ≡ slice_of bytes.now (token_of parts) }
 {
@@ -36,7 +36,7 @@ fn text_of(bytes: &[u8], parts: Parts) -> &str
 }
 
 /// The parts of a record.
-fn parts_at<W: Words>(words: &W, at: u32) -> Parts
+pub(crate) fn parts_at<W: Words>(words: &W, at: u32) -> Parts
     requires { at < length (list_of Part.Records (W.lists words.now)) }
     ensures { (rs : List Token) → Shows (list_of Part.Records (W.lists words.now)) rs → token_of result ≡ record_at at rs }
 {
@@ -63,21 +63,21 @@ fn token_of(bytes: &[u8], parts: Parts) -> TokenChars<'_>
 /// What is left of the characters of a row of records: those left of one token, and those of the records from one on, below
 /// another.
 #[derive(Drop)]
-struct Chars<'a, W: Words> {
-    bytes: &'a [u8],
-    words: &'a W,
-    token: TokenChars<'a>,
-    at: u32,
-    past: u32,
+pub(crate) struct Row<'a, W: Words> {
+    pub(crate) bytes: &'a [u8],
+    pub(crate) words: &'a W,
+    pub(crate) token: TokenChars<'a>,
+    pub(crate) at: u32,
+    pub(crate) past: u32,
     ghost within: { past ≤ length ((W.lists words.now).records) },
     ghost readable: { ∥ ShowsReadable bytes.now (W.lists words.now).records at past ∥₁ },
 }
 
-impl<'a, W: Words> Chars<'a, W> {
+impl<'a, W: Words> Row<'a, W> {
     /// The next character of the token; `None` exactly at its end.
     fn next_of_token(&mut self) -> Option<char>
         ensures content { (rs : List Token) (content : List ℕ) → IsLeft self.old.bytes.now rs self.old.token.rule self.old.token.text.now self.old.at self.old.past content →
-            MatchOption result (Joined self.old.bytes.now (take (self.old.past - self.old.at) (drop self.old.at rs)) content)
+            MatchOption result (BetweenTokens self.old.bytes.now rs self.new.token.rule self.new.token.text.now self.old.at self.old.past content)
             (λ c. LeavesTail (IsLeft self.old.bytes.now rs self.new.token.rule self.new.token.text.now self.old.at self.old.past) content c) }
         ensures bytes { self.new.bytes ≡ self.old.bytes }
         ensures words { self.new.words ≡ self.old.words }
@@ -103,10 +103,11 @@ impl<'a, W: Words> Chars<'a, W> {
     }
 
     /// The next character; `None` exactly at the end.
-    fn next(&mut self) -> Option<char>
+    pub(crate) fn next(&mut self) -> Option<char>
         ensures content { (rs : List Token) → Shows (list_of Part.Records (W.lists self.old.words.now)) rs → (content : List ℕ) →
             IsLeft self.old.bytes.now rs self.old.token.rule self.old.token.text.now self.old.at self.old.past content →
-            MatchOption result (content ≡ []) (λ c. LeavesTail (IsLeft self.old.bytes.now rs self.new.token.rule self.new.token.text.now self.new.at self.old.past) content c) }
+            MatchOption result (IsAtEnd (IsLeft self.old.bytes.now rs self.new.token.rule self.new.token.text.now self.new.at self.old.past) content)
+            (λ c. LeavesTail (IsLeft self.old.bytes.now rs self.new.token.rule self.new.token.text.now self.new.at self.old.past) content c) }
         ensures bytes { self.new.bytes ≡ self.old.bytes }
         ensures words { self.new.words ≡ self.old.words }
         ensures past { self.new.past ≡ self.old.past }

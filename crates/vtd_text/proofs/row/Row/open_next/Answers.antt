@@ -1,5 +1,5 @@
 use Rattle.vtd_text.proofs.JoinedLemmas.{next_readable, later_readable, record_step}
-use Rattle.vtd_text.proofs.chars.Chars.open_next.Goals as goal
+use Rattle.vtd_text.proofs.row.Row.open_next.Goals as goal
 
 pub token_of-self-requires : goal.token_of-self-requires
 token_of-self-requires g c = next_readable c.args.self.now.bytes.now _ c.args.self.now.at c.args.self.now.past _ c.args.self.now.readable c.requires c.parts_at.ensures
