@@ -9,3 +9,4 @@ mod Leaves
 mod Written
 mod NodeFacts
 mod NameFacts
+mod CharsLemmas

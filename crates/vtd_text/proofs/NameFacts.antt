@@ -16,6 +16,7 @@ use Rattle.xml_model.proofs.NodeLaws.{records_of_node}
 use Rattle.vtd_words.specs.Lists.{Lists}
 use Rattle.vtd_words.specs.Table.{IsNestOf, Shows, nodes_of}
 use Rattle.vtd_words.proofs.Fitting.{nest_shown}
+use Rattle.vtd_words.proofs.Shown.{shown_length}
 use Rattle.vtd_words.proofs.Same.{records_same}
 use Rattle.vtd_text.specs.declared.token.Rule.TheVariants.{Value}
 use Rattle.vtd_text.specs.NameRecords.{IsNameOf, IsDeclaration}
@@ -39,15 +40,16 @@ pub record AttributeAt (bytes : List ℕ) (depth j : ℕ) (a : Attribute) (rs : 
   pub place : ℕ
   pub name : record_at (twice j) rs ≡ named (name_token a.name) depth a.name place
   pub value : IsResolved bytes Value (record_at (suc (twice j)) rs) (value_content a.value)
+  pub within : suc (twice j) < length rs
 
 attribute_at : (bytes : List ℕ) (others : List Attribute) (depth at j : ℕ) (a : Attribute) (more : List Token) → slice_get others j ≡ Some a → ValuesAre bytes depth at others → AttributeAt bytes depth j a (attributes_tokens depth at others ++ more)
 attribute_at bytes [] depth at j a more g v = absurd cc
 attribute_at bytes (b ∷ others) depth at zero a more g v =
     let same : b ≡ a = cc in
-    subst (λ (x : Attribute). AttributeAt bytes depth 0 x (attributes_tokens depth at (b ∷ others) ++ more)) same (record { place = at + size b.space; name = refl; value = v.0 })
+    subst (λ (x : Attribute). AttributeAt bytes depth 0 x (attributes_tokens depth at (b ∷ others) ++ more)) same (record { place = at + size b.space; name = refl; value = v.0; within = omega arith })
 attribute_at bytes (b ∷ others) depth at (suc j) a more g v =
     let so = attribute_at bytes others depth (at + size (written_attribute b)) j a more g v.1 in
-    record { place = so.place; name = so.name; value = so.value }
+    record { place = so.place; name = so.name; value = so.value; within = omega (arith, so.within) }
 
 -- a node whose tag has the attribute whose name is a record
 pub record NameIn (es : List Entry) (at : ℕ) (a : Attribute) : Type 0 where
@@ -77,6 +79,10 @@ first_off : (k : ℕ) (rs : List Token) → 0 < length rs → record_at (suc k) 
 first_off k [] h = absurd (omega arith)
 first_off k (r ∷ rs) h = refl
 
+first_length : (rs : List Token) → length (drop_first rs) ≤ length rs - 1
+first_length [] = omega arith
+first_length (r ∷ rs) = omega arith
+
 some_records : (what : Thing) (l at : ℕ) (tag : Tag) (inside : Forest) (rest : List Token) → what ≡ Thing.element tag inside → 0 < length (records_of what l at ++ rest)
 some_records what l at tag inside rest e = subst (λ (x : Thing). 0 < length (records_of x l at ++ rest)) (sym e) (omega arith)
 
@@ -85,6 +91,7 @@ pub record NameSays (bytes : List ℕ) (rs : List Token) (at : ℕ) (a : Attribu
   pub place : ℕ
   pub name : record_at at rs ≡ named (name_token a.name) (length entry.holders) a.name place
   pub value : IsResolved bytes Value (record_at (at + 1) rs) (value_content a.value)
+  pub within : at + 1 < length rs
 
 name_says : (bytes : List ℕ) (rs : List Token) (at : ℕ) (a : Attribute) (e : Entry) (tag : Tag) (inside : Forest) (j : ℕ) → e.what ≡ Thing.element tag inside → slice_get tag.attributes j ≡ Some a → at ≡ e.place + suc (twice j) →
     Says bytes e → RecordsStand rs e → NameSays bytes rs at a e
@@ -100,6 +107,7 @@ name_says bytes rs at a e tag inside j is g p s r =
       place = k.place;
       name = ap (λ (n : ℕ). record_at n rs) one ∙ there (suc (twice j)) ∙ first_off (twice j) (mine ++ r.rest) more ∙ k.name;
       value = subst (λ (x : Token). IsResolved bytes Value x (value_content a.value)) (sym (ap (λ (n : ℕ). record_at n rs) two ∙ there (suc (suc (twice j))) ∙ first_off (suc (twice j)) (mine ++ r.rest) more)) k.value;
+      within = omega (arith, k.within, one, ap length whole, length-append r.front (mine ++ r.rest), first_length (mine ++ r.rest));
     }
 
 pub name_of_says : (bytes : List ℕ) (lists : Lists) (nest : Forest) → IsNestOf bytes lists nest → (at : ℕ) (a : Attribute) → (n : IsNameOf bytes nest at a) → NameSays bytes (records nest (first_place bytes)) at a n.entry
@@ -287,6 +295,12 @@ name_found bytes nest (suc n) h =
       };
     }
 
+-- the value of a declaration stands among the words
+pub declaration_within : (bytes : List ℕ) (lists : Lists) → length bytes < 2 ^ 30 → (at : ℕ) → IsDeclaration bytes lists at → at + 1 < length lists.records
+declaration_within bytes lists few at d =
+    let h = name_found bytes d.nest at (ap is_attribute_name d.declaration) in
+    omega (arith, (name_of_says bytes lists d.nest d.shown at h.attribute h.name).within, shown_length lists.records (records d.nest (first_place bytes)) (nest_shown bytes lists d.nest few d.shown))
+
 -- the value of a declaration
 pub declaration_record : (bytes : List ℕ) (lists : Lists) → length bytes < 2 ^ 30 → (at : ℕ) → IsDeclaration bytes lists at → IsRecord bytes lists.records Value (at + 1)
 declaration_record bytes lists few at d =
@@ -297,3 +311,10 @@ declaration_record bytes lists few at d =
       content = value_content h.attribute.value;
       resolved = (name_of_says bytes lists d.nest d.shown at h.attribute h.name).value;
     }
+
+-- what a call on the record of a declaration's value gives
+pub declaration_gives : (bytes : List ℕ) (lists : Lists) → length bytes < 2 ^ 30 → (at : ℕ) (result : List ℕ) →
+    ((rs : List Token) → Shows lists.records rs → (cs : List ℕ) → IsResolved bytes Value (record_at (at + 1) rs) cs → result ≡ cs) →
+    (nest : Forest) → IsNestOf bytes lists nest → (a : Attribute) → IsNameOf bytes nest at a → result ≡ value_content a.value
+declaration_gives bytes lists few at result f nest s a n =
+    f (records nest (first_place bytes)) (nest_shown bytes lists nest few s) (value_content a.value) (name_of_says bytes lists nest s at a n).value

@@ -1,5 +1,5 @@
 -- What the records of a table say of a node, by its place among them.
-use Rattle.std.proofs.Common.{◌≡◌, ℕ, zero, suc, ◌+◌, ◌-◌, ◌<◌, ◌≤◌, ◌^◌, true, List, [], ◌∷◌, ◌++◌, length, take, drop, refl, sym, ap, subst, ◌∙◌, arith, append_assoc, length-append, zero-add, suc-add}
+use Rattle.std.proofs.Common.{◌≡◌, ℕ, zero, suc, ◌+◌, ◌-◌, ◌<◌, ◌≤◌, ◌^◌, true, List, [], ◌∷◌, ◌++◌, length, take, drop, refl, sym, ap, subst, ◌∙◌, arith, append_assoc, length-append, zero-add, suc-add, ◌⊎◌, inl, inr}
 use Rattle.std.specs.List.{AllByRecursion as Each}
 use Rattle.std.proofs.lemmas.Bool.{false≢true}
 use Rattle.std.proofs.lemmas.List.{take_at, drop_at}
@@ -16,7 +16,9 @@ use Rattle.xml_model.specs.Laws.{RecordsStand, records_of}
 use Rattle.xml_model.proofs.Each.{each_at}
 use Rattle.xml_model.proofs.NodeLaws.{records_of_node}
 use Rattle.vtd_words.specs.Lists.{Lists}
-use Rattle.vtd_words.specs.Table.{IsTable, IsNestOf, IsNodeOf, Shows, nodes_of}
+use Rattle.vtd_words.specs.Table.{IsTable, IsNestOf, IsNodeOf, Shows, nodes_of, fewest_records}
+use Rattle.vtd_words.proofs.Nodes.{node_room}
+use Rattle.vtd_words.proofs.Shown.{shown_length}
 use Rattle.vtd_words.proofs.Fitting.{nest_shown}
 use Rattle.vtd_text.specs.declared.token.Rule.{Rule}
 use Rattle.vtd_text.specs.declared.token.Rule.TheVariants.{Literal, Value}
@@ -133,3 +135,58 @@ record_of bytes lists few node k rule h n = record {
   content = content n.entry.what;
   resolved = record_content bytes lists n.nest n.shown node.kind node.at k rule h n.entry n.stands;
 }
+
+-- ---- the node's records are among those of the table
+
+past_within : (rs : List Token) (e : Entry) → RecordsStand rs e → e.past ≤ length rs
+past_within rs e r =
+    let mine = records_of e.what (length e.holders) e.start in
+    omega (arith, r.begins, r.stops, ap length r.split, length-append (r.front ++ mine) r.rest, length-append r.front mine)
+
+pub row_within : (bytes : List ℕ) (lists : Lists) → length bytes < 2 ^ 30 → (node : Node) (past : ℕ) → IsNodeOf bytes lists node →
+    ((nest : Forest) → IsNestOf bytes lists nest → (e : Entry) → Stands node.kind node.at e (nodes_of bytes nest) → past ≡ e.past) → past ≤ length lists.records
+row_within bytes lists few node past n p =
+    let rs = records n.nest (first_place bytes) in
+    let d = standing bytes lists n.nest n.shown node.kind node.at n.entry n.stands in
+    omega (arith, p n.nest n.shown n.entry n.stands, past_within rs n.entry d.stand, shown_length lists.records rs (nest_shown bytes lists n.nest few n.shown))
+
+enough_records : (kind : Kind) (rule : Rule) (k : ℕ) → HasRecord kind rule k → k < fewest_records kind
+enough_records kinds.Root rule k h = absurd h
+enough_records kinds.Element rule k h = absurd h
+enough_records kinds.Text rule k h = absurd h
+enough_records kinds.Attribute rule k h = omega (arith, h.1)
+enough_records kinds.Comment rule k h = omega (arith, h.1)
+enough_records kinds.Instruction rule k h = omega (arith, h.1)
+
+pub record_within : (bytes : List ℕ) (lists : Lists) → length bytes < 2 ^ 30 → (node : Node) (k : ℕ) (rule : Rule) → HasRecord node.kind rule k → IsNodeOf bytes lists node → node.at + k < length lists.records
+record_within bytes lists few node k rule h n = omega (arith, enough_records node.kind rule k h, node_room bytes lists few node n)
+
+-- ---- by the kind
+
+pub has_row : (kind : Kind) → (kind ≡ kinds.Root) ⊎ ((kind ≡ kinds.Element) ⊎ (kind ≡ kinds.Text)) → HasRow kind
+has_row kind (inl e) = rw e tt
+has_row kind (inr (inl e)) = rw e tt
+has_row kind (inr (inr e)) = rw e tt
+
+pub attribute_record : (kind : Kind) → kind ≡ kinds.Attribute → HasRecord kind Value 1
+attribute_record kind e = rw e (refl, refl)
+
+pub comment_record : (kind : Kind) → kind ≡ kinds.Comment → HasRecord kind Literal 0
+comment_record kind e = rw e (refl, refl)
+
+pub instruction_record : (kind : Kind) → kind ≡ kinds.Instruction → HasRecord kind Literal 1
+instruction_record kind e = rw e (refl, refl)
+
+-- ---- what a call on a row, or on a record, gives
+
+pub row_gives : (bytes : List ℕ) (lists : Lists) → length bytes < 2 ^ 30 → (kind : Kind) (at past : ℕ) (result : List ℕ) → HasRow kind →
+    ((rs : List Token) → Shows lists.records rs → (cs : List ℕ) → Joined bytes (take (past - at) (drop at rs)) cs → result ≡ cs) →
+    (nest : Forest) → IsNestOf bytes lists nest → (e : Entry) → Stands kind at e (nodes_of bytes nest) → past ≡ e.past → result ≡ content e.what
+row_gives bytes lists few kind at past result k f nest s e w p =
+    f (records nest (first_place bytes)) (nest_shown bytes lists nest few s) (content e.what) (row_content bytes lists nest s kind at past k e w p)
+
+pub record_gives : (bytes : List ℕ) (lists : Lists) → length bytes < 2 ^ 30 → (kind : Kind) (at k : ℕ) (rule : Rule) (result : List ℕ) → HasRecord kind rule k →
+    ((rs : List Token) → Shows lists.records rs → (cs : List ℕ) → IsResolved bytes rule (record_at (at + k) rs) cs → result ≡ cs) →
+    (nest : Forest) → IsNestOf bytes lists nest → (e : Entry) → Stands kind at e (nodes_of bytes nest) → result ≡ content e.what
+record_gives bytes lists few kind at k rule result h f nest s e w =
+    f (records nest (first_place bytes)) (nest_shown bytes lists nest few s) (content e.what) (record_content bytes lists nest s kind at k rule h e w)

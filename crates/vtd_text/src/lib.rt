@@ -2,6 +2,9 @@
 //! attribute values resolved (XML 1.0, sections 2.11, 3.3.3 and 4.6). Nothing is copied.
 #![tactic(auto)]
 
+mod chars;
 mod entities;
 mod row;
 mod token;
+
+pub use chars::Chars;
