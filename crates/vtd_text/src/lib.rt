@@ -5,6 +5,8 @@
 mod chars;
 mod entities;
 mod row;
+mod texts;
 mod token;
 
 pub use chars::Chars;
+pub use texts::equals;
