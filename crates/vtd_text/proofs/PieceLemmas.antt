@@ -1,20 +1,24 @@
 -- The first character of pieces, and what is left of them.
 use Rattle.std.proofs.Common.{◌≡◌, ℕ, true, false, inl, inr, List, [], ◌∷◌, ◌++◌, map, Option, Some, None, Bor, refl, sym, ap, subst, ◌∙◌}
-use Rattle.std.specs.Prelude.{◌==◌, option_map, MatchOption}
-use Rattle.std.specs.List.{list_all}
-use Rattle.std.proofs.lemmas.Bool.{cases_Bool, false≢true, and_parts, and_from, eqb-true}
+use Rattle.std.specs.Prelude.{◌==◌, ◌||◌, ◌<◌, not, cond, take, drop, option_map, MatchOption}
+use Rattle.std.specs.List.{list_all, prefix_len}
+use Rattle.std.proofs.Common.{Bool, arith, lit<, ⊎_elim}
+use Rattle.std.proofs.Math.Numerals.{one-add}
+use Rattle.std.proofs.lemmas.List.{take-append-drop}
+use Rattle.xml_chars.proofs.TextLemmas.{Split, split_stop}
+use Rattle.std.proofs.lemmas.Bool.{cases_Bool, false≢true, and_parts, and_from, eqb-true, or_cases, not-false}
 use Rattle.xml_model.specs.Items.{Piece, literal, entity, decimal, hexadecimal, written_piece, written_pieces, meets_piece}
 use Rattle.xml_model.specs.Content.{text_content, value_content, char_of, char_in_value, with_line_ends, is_literal, begins_with}
 use Rattle.xml_chars.specs.Places.{is_reference}
 use Rattle.xml_chars.specs.Reading.{read_reference}
-use Rattle.std.specs.Str.{chars}
+use Rattle.std.specs.Str.{chars, IsUtf8, IsCharBoundary}
 use Rattle.std.proofs.lemmas.Option.{same_Some}
 use Rattle.std.proofs.lemmas.Str.{chars-nil}
 use Rattle.xml_chars.specs.Readers.{mapped, Gives}
 use Rattle.xml_chars.proofs.NameLaws.{reference_reads}
 use Rattle.vtd_text.specs.declared.token.Rule.{Rule}
 use Rattle.vtd_text.specs.declared.token.Rule.TheVariants.{Text, Literal, Value}
-use Rattle.vtd_text.specs.Tokens.{HasContent, BeginsWith, spaced, after_line_feed, may_stand, content_by, begins_reference}
+use Rattle.vtd_text.specs.Tokens.{HasContent, BeginsWith, LeavesRest, is_special, spaced, after_line_feed, may_stand, content_by, begins_reference}
 
 abbrev pub shown_by : Rule → Piece → ℕ
 shown_by Value p = char_in_value p
@@ -242,3 +246,81 @@ referred_content rule cs content c rest e b (Some x) g h =
 
 pub nothing_left : (content : List ℕ) → content ≡ [] → HasContent Text (chars []) content
 nothing_left content e = record { pieces = []; fit = refl; written = sym chars-nil; resolved = content_map Text [] ∙ sym e }
+
+-- ---- characters that stand for themselves
+
+record Plain (rule : Rule) (c : ℕ) : Type 0 where
+  pub begins : begins_reference rule c ≡ false
+  pub return : (c == 13) ≡ false
+  pub itself : spaced rule c ≡ c
+
+or_no : (a b : Bool) → not (a || b) ≡ true → (a ≡ false) × (b ≡ false)
+or_no true b h = absurd (false≢true h)
+or_no false true h = absurd (false≢true h)
+or_no false false h = (refl, refl)
+
+not_no : (a : Bool) → not a ≡ true → a ≡ false
+not_no true h = absurd (false≢true h)
+not_no false h = refl
+
+plain_char : (rule : Rule) (c : ℕ) → not (is_special rule c) ≡ true → Plain rule c
+plain_char Text c h = let p = or_no (c == 13) (c == 38) h in record { begins = p.1; return = p.0; itself = refl }
+plain_char Literal c h = record { begins = refl; return = not_no (c == 13) h; itself = refl }
+plain_char Value c h =
+    let p = or_no (c == 9 || c == 10 || c == 13) (c == 38) h in
+    let q = or_no (c == 9 || c == 10) (c == 13) (ap not p.0) in
+    record { begins = p.1; return = q.1; itself = ap (λ (b : Bool). cond b 32 c) q.0 }
+
+pub plain_front : (rule : Rule) (front rest cs content : List ℕ) → cs ≡ front ++ rest → list_all (λ c. not (is_special rule c)) front ≡ true → HasContent rule cs content → LeavesRest rule content front rest
+plain_front rule [] rest cs content e p h = record { tail = content; whole = refl; rest = subst (λ (l : List ℕ). HasContent rule l content) e h }
+plain_front rule (c ∷ front) rest cs content e p h =
+    let q = and_parts (not (is_special rule c)) (list_all (λ c. not (is_special rule c)) front) p in
+    let k = plain_char rule c q.0 in
+    let b = plain_first rule cs content c (front ++ rest) e k.begins k.return h in
+    let so = plain_front rule front rest (front ++ rest) b.tail refl q.1 b.rest in
+    record {
+      tail = so.tail;
+      whole = b.whole ∙ ap (λ (x : ℕ). x ∷ b.tail) k.itself ∙ ap (λ (l : List ℕ). c ∷ l) so.whole;
+      rest = so.rest;
+    }
+
+-- one of two numbers that are ASCII is ASCII
+either_low : (a b : Bool) (c : ℕ) → (a ≡ true → c < 128) → (b ≡ true → c < 128) → (a || b) ≡ true → c < 128
+either_low a b c f g h = ⊎_elim f g (or_cases a b h)
+
+one_low : (c d : ℕ) → d < 128 → (c == d) ≡ true → c < 128
+one_low c d l h = omega (arith, eqb-true c d h)
+
+-- what stands for anything else is ASCII
+pub special_low : (rule : Rule) (c : ℕ) → not (is_special rule c) ≡ false → c < 128
+special_low Text c h = either_low (c == 13) (c == 38) c (one_low c 13 (lit< tt)) (one_low c 38 (lit< tt)) (not-false (c == 13 || c == 38) h)
+special_low Literal c h = one_low c 13 (lit< tt) (not-false (c == 13) h)
+special_low Value c h =
+    either_low (c == 9 || c == 10 || c == 13) (c == 38) c
+    (either_low (c == 9 || c == 10) (c == 13) c (either_low (c == 9) (c == 10) c (one_low c 9 (lit< tt)) (one_low c 10 (lit< tt))) (one_low c 13 (lit< tt))) (one_low c 38 (lit< tt))
+    (not-false (c == 9 || c == 10 || c == 13 || c == 38) h)
+
+prefix_passes : (p : ℕ → Bool) (cs : List ℕ) → list_all p (take (prefix_len p cs) cs) ≡ true
+prefix_passes p [] = refl
+prefix_passes p (c ∷ cs) = elim (cases_Bool (p c)) [
+  | inl t ↦ rw (t, one-add) (and_from (p c) _ t (prefix_passes p cs))
+  | inr f ↦ rw f refl
+]
+
+-- the longest front whose bytes stand for themselves, and what follows it
+pub record PlainSplit (rule : Rule) (bs : List ℕ) (n : ℕ) : Type 0 where
+  pub boundary : IsCharBoundary bs n
+  pub content : (cs : List ℕ) → HasContent rule (chars bs) cs → LeavesRest rule cs (chars (take n bs)) (chars (drop n bs))
+
+pub plain_split : (rule : Rule) (bs hay : List ℕ) (n : ℕ) → hay ≡ bs → IsUtf8 bs → n ≡ prefix_len (λ b. not (is_special rule b)) hay → PlainSplit rule bs n
+plain_split rule bs hay n e u is =
+    let p : ℕ → Bool = λ b. not (is_special rule b) in
+    let s : Split bs n (prefix_len p (chars bs)) = split_stop p (special_low rule) bs n u (is ∙ ap (prefix_len p) e) in
+    let m = prefix_len p (chars bs) in
+    record {
+      boundary = s.boundary;
+      content = λ cs h.
+          subst (λ (l : List ℕ). LeavesRest rule cs l (chars (drop n bs))) (sym s.front)
+          (subst (λ (l : List ℕ). LeavesRest rule cs (take m (chars bs)) l) (sym s.back)
+          (plain_front rule (take m (chars bs)) (drop m (chars bs)) (chars bs) cs (sym (take-append-drop m (chars bs))) (prefix_passes p (chars bs)) h));
+    }

@@ -59,6 +59,12 @@ pub record LeavesTail (Left : List ℕ → Type 0) (content : List ℕ) (c : ℕ
   pub whole : content ≡ c ∷ tail
   pub left : Left tail
 
+-- a content begins with characters, and the rest of it is left
+pub record LeavesBehind (Left : List ℕ → Type 0) (content front : List ℕ) : Type 0 where
+  pub tail : List ℕ
+  pub whole : content ≡ front ++ tail
+  pub left : Left tail
+
 -- a token is at its end, and the content is that of the records from one on, below another
 pub record BetweenTokens (bytes : List ℕ) (rs : List Token) (rule : Rule) (text : List ℕ) (at past : ℕ) (content : List ℕ) : Type 0 where
   pub ended : HasContent rule (chars text) []

@@ -1,12 +1,12 @@
 -- The content of the characters of one token: XML 1.0, sections 2.11, 3.3.3 and 4.6.
-use Rattle.std.specs.Prelude.{◌≡◌, ℕ, Bool, true, false, cond, ◌==◌, List, [], ◌∷◌, Option, Some, None}
+use Rattle.std.specs.Prelude.{◌≡◌, ℕ, Bool, true, false, cond, ◌||◌, ◌==◌, ◌++◌, List, [], ◌∷◌, Option, Some, None}
 use Rattle.std.specs.List.{list_all}
 use Rattle.xml_model.specs.Items.{Piece, literal, written_pieces, meets_piece}
 use Rattle.xml_model.specs.Content.{text_content, value_content, char_in_value}
 use Rattle.xml_chars.specs.Readers.{Reader, mapped, one_of, choose_by, many}
 use Rattle.xml_chars.specs.Reading.{read_reference}
 use Rattle.vtd_text.specs.declared.token.Rule.{Rule}
-use Rattle.vtd_text.specs.declared.token.Rule.TheVariants.{Literal, Value}
+use Rattle.vtd_text.specs.declared.token.Rule.TheVariants.{Text, Literal, Value}
 
 -- whether a piece is a character that is written as itself
 abbrev pub is_plain : Piece → Bool
@@ -50,6 +50,18 @@ spaced _ c = c
 abbrev pub begins_reference : Rule → ℕ → Bool
 begins_reference Literal c = false
 begins_reference _ c = c == 38
+
+-- whether a character, written as itself, may stand for another one, or for none, or begin a reference
+abbrev pub is_special : Rule → ℕ → Bool
+is_special Text c = c == 13 || c == 38
+is_special Literal c = c == 13
+is_special Value c = c == 9 || c == 10 || c == 13 || c == 38
+
+-- characters at the front of what is left stand for themselves, and the rest of the content is that of what follows them
+pub record LeavesRest (rule : Rule) (content front left : List ℕ) : Type 0 where
+  pub tail : List ℕ
+  pub whole : content ≡ front ++ tail
+  pub rest : HasContent rule left tail
 
 -- what follows a line feed, where one comes first; else the whole
 abbrev pub after_line_feed : List ℕ → List ℕ

@@ -1,14 +1,16 @@
 //! The characters of one token, resolved (XML 1.0, sections 2.11, 3.3.3 and 4.6). No call takes memory.
 #![tactic(auto)]
 
-ghost use Rattle.std.specs.Prelude.{◌≡◌, ℕ, cond, ◌==◌, ◌||◌, List, [], length, ◌<◌, ◌≤◌, IfSome, MatchOption, Some};
+ghost use Rattle.std.specs.Prelude.{◌≡◌, ℕ, cond, ◌==◌, ◌||◌, List, [], length, ◌<◌, ◌≤◌, IfSome, MatchOption, Some, not};
+ghost use Rattle.std.specs.List.{prefix_len};
 ghost use Rattle.std.specs.Str.{chars};
 ghost use Rattle.xml_model.specs.Content.{char_of};
 ghost use Rattle.xml_chars.specs.Readers.{Gives, mapped};
 ghost use Rattle.xml_chars.specs.Reading.{read_reference};
-ghost use Rattle.vtd_text.specs.Tokens.{HasContent, BeginsWith, EndsHere, spaced, after_line_feed, begins_reference};
+ghost use Rattle.vtd_text.specs.Tokens.{HasContent, BeginsWith, EndsHere, LeavesRest, is_special, spaced, after_line_feed, begins_reference};
 
 use crate::entities::entity_char;
+use memchr::{memchr, memchr2};
 use xml_chars::references::{Referred, reference_of};
 use xml_chars::text::step;
 
@@ -83,6 +85,29 @@ fn next_char(text: &str, rule: Rule) -> Option<(char, &str)>
     Some((spaced(rule, c), rest))
 }
 
+/// The length of the longest front of an attribute value that has no tab, line feed, carriage return or ampersand.
+fn plain_value_len(bytes: &[u8]) -> usize
+    ensures { result ≡ prefix_len (λ b. not (is_special Rule.Value b)) bytes.now }
+{
+    for (i, b) in bytes.iter().enumerate() {
+        if matches!(*b, b'\t' | b'\n' | b'\r' | b'&') {
+            return i;
+        }
+    }
+    bytes.len()
+}
+
+/// The length of the longest front whose characters stand for themselves.
+fn plain_len(rule: Rule, bytes: &[u8]) -> usize
+    ensures { result ≡ prefix_len (λ b. not (is_special rule b)) bytes.now }
+{
+    match rule {
+        Rule::Text => memchr2(b'\r', b'&', bytes).unwrap_or(bytes.len()),
+        Rule::Literal => memchr(b'\r', bytes).unwrap_or(bytes.len()),
+        Rule::Value => plain_value_len(bytes),
+    }
+}
+
 /// What is left of a token.
 #[derive(Clone, Copy, Drop)]
 pub(crate) struct TokenChars<'a> {
@@ -100,6 +125,17 @@ impl<'a> TokenChars<'a> {
         let (c, rest) = next_char(self.text, self.rule)?;
         self.text = rest;
         Some(c)
+    }
+
+    /// Takes the longest front whose characters stand for themselves.
+    pub(crate) fn next_plain(&mut self) -> &'a str
+        ensures content { (content : List ℕ) → HasContent self.old.rule (chars self.old.text.now) content →
+            LeavesRest self.old.rule content (chars result.now) (chars self.new.text.now) }
+        ensures rule { self.new.rule ≡ self.old.rule }
+    {
+        let (front, rest) = self.text.split_at(plain_len(self.rule, self.text.as_bytes()));
+        self.text = rest;
+        front
     }
 }
 
