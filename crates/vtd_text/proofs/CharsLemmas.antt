@@ -9,7 +9,7 @@ use Rattle.vtd_words.specs.Table.{Shows}
 use Rattle.vtd_text.specs.declared.token.Rule.{Rule}
 use Rattle.vtd_text.specs.declared.token.Rule.TheVariants.{Text}
 use Rattle.vtd_text.specs.Tokens.{HasContent}
-use Rattle.vtd_text.specs.Joined.{Joined, IsText, IsLeft, LeavesTail, IsAtEnd, slice_of, left_of}
+use Rattle.vtd_text.specs.Joined.{Joined, IsText, IsLeft, LeavesTail, LeavesBehind, IsAtEnd, slice_of, left_of}
 use Rattle.vtd_text.specs.Resolved.{IsResolved, IsRecord, IsRow, HasLeft}
 use Rattle.vtd_text.proofs.PieceLemmas.{nothing_left}
 use Rattle.vtd_text.proofs.Function.{left_is}
@@ -81,3 +81,25 @@ next_view b0 b1 ws0 ws1 p0 p1 rule new text left at next found b w p f h = rw (b
 pub goes_on : (can : List ℕ → Type 0) → ((l : List ℕ) → can l) → (old new : List ℕ) (found : Option ℕ) → YieldsFirst (λ (l : List ℕ). l) old found new → MakesProgress can (item_count (λ (l : List ℕ). l)) old found new
 goes_on can always old new None h = record { on = λ f. tt; keeps = tt; rests = λ f. tt }
 goes_on can always old new (Some c) h = record { on = λ f. (always new, tt, omega (arith, ap length h)); keeps = always new; rests = λ f. tt }
+
+-- ---- characters that stand for themselves
+
+abbrev pub Takes : (bytes : List ℕ) (rule new : Rule) (text left : List ℕ) (at past : ℕ) (front : List ℕ) → Type 0
+Takes bytes rule new text left at past front = (rs : List Token) (content : List ℕ) → IsLeft bytes rs rule text at past content → LeavesBehind (IsLeft bytes rs new left at past) content front
+
+taken_left : (bytes words : List ℕ) (rule new : Rule) (text left : List ℕ) (at past : ℕ) (front : List ℕ) → Takes bytes rule new text left at past front → HasLeft bytes words rule text at past → HasLeft bytes words new left at past
+taken_left bytes words rule new text left at past front f h = let k = f h.rs h.content h.left in record { rs = h.rs; shown = h.shown; content = k.tail; left = k.left }
+
+taken_view : (bytes words : List ℕ) (rule new : Rule) (text left : List ℕ) (at past : ℕ) (front : List ℕ) → Takes bytes rule new text left at past front → HasLeft bytes words rule text at past →
+    left_of bytes words rule text at past ≡ front ++ left_of bytes words new left at past
+taken_view bytes words rule new text left at past front f h =
+    let k = f h.rs h.content h.left in
+    left_is bytes words h.rs rule text at past h.content h.shown h.left ∙ k.whole ∙ ap (λ (l : List ℕ). front ++ l) (sym (left_is bytes words h.rs new left at past k.tail h.shown k.left))
+
+pub plain_left : (b0 b1 ws0 ws1 : List ℕ) (p0 p1 a0 a1 : ℕ) (rule new : Rule) (text left front : List ℕ) → b1 ≡ b0 → ws1 ≡ ws0 → p1 ≡ p0 → a1 ≡ a0 → Takes b0 rule new text left a0 p0 front →
+    HasLeft b0 ws0 rule text a0 p0 → HasLeft b1 ws1 new left a1 p1
+plain_left b0 b1 ws0 ws1 p0 p1 a0 a1 rule new text left front b w p a f h = rw (b, w, p, a) (taken_left b0 ws0 rule new text left a0 p0 front f h)
+
+pub plain_view : (b0 b1 ws0 ws1 : List ℕ) (p0 p1 a0 a1 : ℕ) (rule new : Rule) (text left front : List ℕ) → b1 ≡ b0 → ws1 ≡ ws0 → p1 ≡ p0 → a1 ≡ a0 → Takes b0 rule new text left a0 p0 front →
+    HasLeft b0 ws0 rule text a0 p0 → left_of b0 ws0 rule text a0 p0 ≡ front ++ left_of b1 ws1 new left a1 p1
+plain_view b0 b1 ws0 ws1 p0 p1 a0 a1 rule new text left front b w p a f h = rw (b, w, p, a) (taken_view b0 ws0 rule new text left a0 p0 front f h)

@@ -1,5 +1,5 @@
 -- What is left of a row of records, step by step.
-use Rattle.std.proofs.Common.{◌≡◌, ℕ, Bool, true, inl, inr, ◌==◌, zero, suc, ◌+◌, ◌-◌, ◌<◌, ◌≤◌, List, [], ◌∷◌, ◌++◌, length, take, drop, Option, Some, None, refl, sym, ap, subst, ◌∙◌, arith}
+use Rattle.std.proofs.Common.{◌≡◌, ℕ, Bool, true, inl, inr, ◌==◌, zero, suc, ◌+◌, ◌-◌, ◌<◌, ◌≤◌, List, [], ◌∷◌, ◌++◌, length, take, drop, Option, Some, None, refl, sym, ap, subst, ◌∙◌, arith, append_assoc}
 use Rattle.std.specs.Prelude.{MatchOption}
 use Rattle.std.specs.Str.{chars}
 use Rattle.std.proofs.Math.Logic.{∥∥₁_elim, ∥∥₁_map}
@@ -10,8 +10,8 @@ use Rattle.xml_model.specs.Records.{Token}
 use Rattle.std.proofs.lemmas.Bool.{cases_Bool}
 use Rattle.xml_model.specs.Scan.{record_at, is_text_token}
 use Rattle.vtd_text.specs.declared.token.Rule.{Rule}
-use Rattle.vtd_text.specs.Tokens.{HasContent, BeginsWith, EndsHere}
-use Rattle.vtd_text.specs.Joined.{rule_of, slice_of, Gives, Joined, IsText, ShowsReadable, IsLeft, LeavesTail, BetweenTokens, IsAtEnd}
+use Rattle.vtd_text.specs.Tokens.{HasContent, BeginsWith, EndsHere, LeavesRest}
+use Rattle.vtd_text.specs.Joined.{rule_of, slice_of, Gives, Joined, IsText, ShowsReadable, IsLeft, LeavesTail, LeavesBehind, BetweenTokens, IsAtEnd}
 
 -- a character of the token, or the end of the token
 pub token_step : (bytes : List ℕ) (rs : List Token) (rule : Rule) (text left : List ℕ) (at past : ℕ) (content : List ℕ) (found : Option ℕ)
@@ -103,3 +103,15 @@ end_step bytes rs rule text content past at l j =
     let none : past - at ≡ 0 = omega arith in
     let e : content ≡ [] = subst (λ (n : ℕ). Joined bytes (take n (drop at rs)) content) none j.rest in
     record { none = e; left = record { head = []; tail = []; whole = refl; first = j.ended; rest = subst (λ (l : List ℕ). Joined bytes (take (past - at) (drop at rs)) l) e j.rest } }
+
+-- characters of the token that stand for themselves
+pub plain_step : (bytes : List ℕ) (rs : List Token) (rule : Rule) (text front left : List ℕ) (at past : ℕ) (content : List ℕ)
+    → ((head : List ℕ) → HasContent rule (chars text) head → LeavesRest rule head front (chars left))
+    → IsLeft bytes rs rule text at past content → LeavesBehind (IsLeft bytes rs rule left at past) content front
+plain_step bytes rs rule text front left at past content f h =
+    let k = f h.head h.first in
+    record {
+      tail = k.tail ++ h.tail;
+      whole = h.whole ∙ ap (λ (l : List ℕ). l ++ h.tail) k.whole ∙ append_assoc front k.tail h.tail;
+      left = record { head = k.tail; tail = h.tail; whole = refl; first = k.rest; rest = h.rest };
+    }

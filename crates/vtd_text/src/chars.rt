@@ -1,8 +1,9 @@
 //! The code points of a text, resolved, one after another. No call takes memory.
 #![tactic(auto)]
 
-ghost use Rattle.std.specs.Prelude.{◌≡◌, ℕ, suc, ◌+◌, ◌-◌, ◌<◌, ◌≤◌, List, [], ◌∷◌, length, take, drop, MatchOption, IsSome};
+ghost use Rattle.std.specs.Prelude.{◌≡◌, ℕ, suc, ◌+◌, ◌-◌, ◌<◌, ◌≤◌, List, [], ◌∷◌, ◌++◌, length, take, drop, MatchOption, IsSome};
 ghost use Rattle.std.specs.Iterator.{YieldsFirst, item_count};
+ghost use Rattle.std.specs.Str.{chars};
 ghost use Rattle.xml_model.specs.Content.{content, value_content};
 ghost use Rattle.xml_model.specs.Items.{Attribute};
 ghost use Rattle.xml_model.specs.Nest.{Forest};
@@ -87,6 +88,14 @@ impl<'a, W: Words> Chars<'a, W> {
     {
         let words = table.words();
         Chars::of_record(table.bytes(), words, Rule::Value, behind(words, at))
+    }
+
+    /// Takes code points that stand in the document as they are: those up to the next that does not, or to the end of a text or
+    /// of a CDATA section. There may be none.
+    pub(crate) fn next_plain(&mut self) -> &'a str
+        ensures { self.old ≡ chars result.now ++ self.new }
+    {
+        self.row.next_plain()
     }
 
     /// The code points of the texts and CDATA sections among the records from one on, below another.

@@ -8,7 +8,7 @@ ghost use Rattle.vtd_words.specs.Lists.{list_of};
 ghost use Rattle.vtd_words.specs.Packed.{token_of};
 ghost use Rattle.vtd_words.specs.Table.{Shows};
 ghost use Rattle.xml_model.specs.Scan.{record_at, is_text_token};
-ghost use Rattle.vtd_text.specs.Joined.{rule_of, slice_of, Gives, Joined, IsText, ShowsReadable, IsLeft, LeavesTail, BetweenTokens, IsAtEnd};
+ghost use Rattle.vtd_text.specs.Joined.{rule_of, slice_of, Gives, Joined, IsText, ShowsReadable, IsLeft, LeavesTail, LeavesBehind, BetweenTokens, IsAtEnd};
 ghost use Rattle.vtd_text.specs.Tokens.{HasContent};
 
 use crate::token::{Rule, TokenChars};
@@ -122,5 +122,17 @@ impl<'a, W: Words> Row<'a, W> {
             }
         }
         None
+    }
+
+    /// Takes the longest front of what is left of the token whose characters stand for themselves.
+    pub(crate) fn next_plain(&mut self) -> &'a str
+        ensures content { (rs : List Token) (content : List ℕ) → IsLeft self.old.bytes.now rs self.old.token.rule self.old.token.text.now self.old.at self.old.past content →
+            LeavesBehind (IsLeft self.old.bytes.now rs self.new.token.rule self.new.token.text.now self.old.at self.old.past) content (chars result.now) }
+        ensures bytes { self.new.bytes ≡ self.old.bytes }
+        ensures words { self.new.words ≡ self.old.words }
+        ensures at { self.new.at ≡ self.old.at }
+        ensures past { self.new.past ≡ self.old.past }
+    {
+        self.token.next_plain()
     }
 }
