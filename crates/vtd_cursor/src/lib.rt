@@ -1,0 +1,7 @@
+//! Moves over the nodes of a document, and where a node and its parts stand in the bytes.
+#![tactic(auto)]
+
+mod pieces;
+mod spans;
+
+pub use spans::span;
