@@ -6,3 +6,4 @@ pub mod Parse
 pub mod Bindings
 pub mod Functions
 pub mod Static
+pub mod Checking
