@@ -1,5 +1,6 @@
 pub mod Tree
 pub mod Grammar
+pub mod Cutting
 pub mod Shape
 pub mod Laws
 pub mod Parse
