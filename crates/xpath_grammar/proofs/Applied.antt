@@ -5,7 +5,8 @@ use Rattle.xpath_tokens.specs.declared.Token.{Token}
 use Rattle.xpath_tokens.specs.declared.Token.TheVariants.{Or, And, Compare, Arithmetic, Bar}
 use Rattle.xpath_grammar.specs.declared.expr.Expr.{Expr}
 use Rattle.xpath_grammar.specs.Tree.{Tree, tree_of}
-use Rattle.xpath_grammar.specs.Grammar.{expr, combined, IsBinary, tree_join, applied, AreBinary}
+use Rattle.xpath_grammar.specs.Grammar.{expr}
+use Rattle.xpath_grammar.specs.Cutting.{combined, IsBinary, tree_join, applied, AreBinary}
 
 pub applied-push : (a : Tree) (ps : List (Bor Token × Expr)) (p : Bor Token × Expr) → applied a (ps ++ p ∷ []) ≡ applied (tree_join p.0.now a (tree_of p.1)) ps
 applied-push a [] p = refl

@@ -3,7 +3,8 @@ use Rattle.std.proofs.Common.{◌≡◌, ◌≢◌, ℕ, zero, suc, ◌<◌, Lis
 use Rattle.std.proofs.lemmas.Bool.{eq-eqb, eqb-true}
 use Rattle.xpath_tokens.specs.declared.Token.{Token}
 use Rattle.xpath_tokens.specs.declared.Token.TheVariants.{Comma, Or, And, Compare, Arithmetic, Bar, Slash, SlashSlash}
-use Rattle.xpath_grammar.specs.Grammar.{Stands, Phrase, Derives, or_one, or_more, and_one, and_more, equality_one, equality_more, relational_one, relational_more, additive_one, additive_more, mult_one, mult_more, union_one, union_more, arguments_one, arguments_more, rel_one, rel_slash, rel_slash_slash, rank, ends, behind, depth, ended, IsOther, Free, Level, OrLevel, AndLevel, EqualityLevel, RelationalLevel, AdditiveLevel, MultLevel, UnionLevel, RelLevel, ArgumentLevel, symbol, operand, rank_of, single, combined, Cuts}
+use Rattle.xpath_grammar.specs.Grammar.{Stands, Phrase, Derives, or_one, or_more, and_one, and_more, equality_one, equality_more, relational_one, relational_more, additive_one, additive_more, mult_one, mult_more, union_one, union_more, arguments_one, arguments_more, rel_one, rel_slash, rel_slash_slash, ends, behind, depth, ended}
+use Rattle.xpath_grammar.specs.Cutting.{rank, IsOther, Free, Level, OrLevel, AndLevel, EqualityLevel, RelationalLevel, AdditiveLevel, MultLevel, UnionLevel, RelLevel, ArgumentLevel, symbol, operand, rank_of, single, combined, Cuts}
 use Rattle.xpath_grammar.proofs.Clean.{Clean, clean, least, rank_equality, rank_relational, rank_additive, rank_mult}
 
 pub data Cut : Type 0 where

@@ -12,7 +12,8 @@ use Rattle.xpath_tokens.specs.declared.NodeType.TheVariants as kind
 use Rattle.xpath_grammar.specs.declared.expr.StepTest.{StepTest}
 use Rattle.xpath_grammar.specs.declared.expr.StepTest.TheVariants as test
 use Rattle.xpath_grammar.specs.Tree.{Tree, Trees, Walk, negate, path, from, literal, number, variable, call, none, stop, go}
-use Rattle.xpath_grammar.specs.Grammar.{Symbol, OrExpr, UnaryExpr, UnionExpr, PathExpr, FilterExpr, PrimaryExpr, Arguments, LocationPath, RelPath, StepPart, Predicates, Predicate, Phrase, expr, exprs, filtered, walk, snoc, filter_tree, any_depth, Derives, unary_one, unary_minus, path_location, path_filter, path_slash, path_slash_slash, filter_one, filter_more, primary_bracket, primary_variable, primary_literal, primary_number, call_none, call_some, location_rel, location_root, location_slash, location_slash_slash, rel_one, rel_slash, rel_slash_slash, step, step_dot, step_dots, IsAxis, axis_name, axis_at, axis_child, IsTest, test_any, test_any_in, test_named, test_kind, test_target, kind_test, predicates_none, predicates_more, predicate, rank, ends, behind, depth, ended, Free, behind_slash}
+use Rattle.xpath_grammar.specs.Grammar.{Symbol, OrExpr, UnaryExpr, UnionExpr, PathExpr, FilterExpr, PrimaryExpr, Arguments, LocationPath, RelPath, StepPart, Predicates, Predicate, Phrase, expr, exprs, filtered, walk, snoc, filter_tree, any_depth, Derives, unary_one, unary_minus, path_location, path_filter, path_slash, path_slash_slash, filter_one, filter_more, primary_bracket, primary_variable, primary_literal, primary_number, call_none, call_some, location_rel, location_root, location_slash, location_slash_slash, rel_one, rel_slash, rel_slash_slash, step, step_dot, step_dots, IsAxis, axis_name, axis_at, axis_child, IsTest, test_any, test_any_in, test_named, test_kind, test_target, kind_test, predicates_none, predicates_more, predicate, ends, behind, depth, ended}
+use Rattle.xpath_grammar.specs.Cutting.{rank, Free, behind_slash}
 use Rattle.xpath_grammar.specs.Shape.{starts_primary, first, axis_of, behind_axis, test_of, behind_test, dot_axis}
 use Rattle.xpath_grammar.proofs.Clean.{clean, Free-append}
 use Rattle.xpath_grammar.proofs.Cut.{Cut, cut, here, here_none, last_cut, last_at}

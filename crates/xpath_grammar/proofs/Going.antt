@@ -4,7 +4,8 @@ use Rattle.std.proofs.lemmas.List.{take_more, take-append-drop, take-append-le, 
 use Rattle.xpath_grammar.proofs.Ends.{same_last}
 use Rattle.xpath_tokens.specs.declared.Token.{Token}
 use Rattle.xpath_tokens.specs.declared.Token.TheVariants.{Open, Close, OpenSquare, CloseSquare}
-use Rattle.xpath_grammar.specs.Grammar.{rank, ends, behind, depth, ended, IsOther, Free, CutsAt, AreCuts, no_more, further_cut, FirstAt}
+use Rattle.xpath_grammar.specs.Grammar.{ends, behind, depth, ended}
+use Rattle.xpath_grammar.specs.Cutting.{rank, IsOther, Free, CutsAt, AreCuts, no_more, further_cut, FirstAt}
 use Rattle.xpath_grammar.proofs.Clean.{depth-append, ended-append, Free-append}
 
 -- what a scan knows: the brackets open so far, and whether an operand ends there

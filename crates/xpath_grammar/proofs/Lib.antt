@@ -13,3 +13,4 @@ pub mod Depths
 pub mod Whole
 pub mod Lookups
 pub mod Numbers
+pub mod FirstFault

@@ -6,7 +6,8 @@ use Rattle.std.proofs.lemmas.Bool.{ltb-true, ltb-false}
 use Rattle.xpath_grammar.specs.declared.faults.StaticFault.{StaticFault}
 use Rattle.xpath_grammar.specs.declared.faults.StaticFault.TheVariants.{Fraction, Range}
 use Rattle.xpath_grammar.specs.declared.faults.NumberScan.{NumberScan}
-use Rattle.xpath_grammar.specs.Static.{greatest, has_fraction, whole_value, number_fault, scan_next, scan_start}
+use Rattle.xpath_grammar.specs.Static.{greatest, has_fraction, whole_value, number_fault}
+use Rattle.xpath_grammar.specs.Checking.{scan_next, scan_start}
 
 abbrev scan : ℕ → Bool → Bool → NumberScan
 scan v b f = record { value = v; behind = b; fraction = f }

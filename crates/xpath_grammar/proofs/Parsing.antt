@@ -23,7 +23,8 @@ use Rattle.xpath_grammar.specs.declared.expr.StepTest.TheVariants as test
 use Rattle.xpath_grammar.specs.declared.parser.Binary.{Binary}
 use Rattle.xpath_grammar.specs.declared.parser.Binary.TheVariants as rust
 use Rattle.xpath_grammar.specs.Tree.{tree_of, Tree, Trees, Walk, path, from, filter, literal, number, variable, call, none, more, stop, go}
-use Rattle.xpath_grammar.specs.Grammar.{Symbol, OrExpr, UnaryExpr, UnionExpr, PathExpr, FilterExpr, PrimaryExpr, Arguments, LocationPath, RelPath, StepPart, Predicates, Phrase, expr, exprs, filtered, walk, snoc, joined, filter_tree, any_depth, IsAdditive, plus, minus, IsEquality, equal, unequal, IsRelational, less, greater, at_most, at_least, IsMult, times, divided, modulo, Derives, or_one, or_more, and_one, and_more, equality_one, equality_more, relational_one, relational_more, additive_one, additive_more, mult_one, mult_more, unary_one, unary_minus, union_one, union_more, path_location, path_filter, path_slash, path_slash_slash, filter_one, filter_more, primary_bracket, primary_variable, primary_literal, primary_number, call_none, call_some, arguments_one, arguments_more, location_rel, location_root, location_slash, location_slash_slash, rel_one, rel_slash, rel_slash_slash, step, step_dot, step_dots, predicates_none, predicates_more, predicate, rank, ended, Free, Level, RelLevel, ArgumentLevel, symbol, operand, rank_of, combined, Cuts, CutsAt, FirstAt, behind_slash, Answers, AnswersFilter, DerivesFilter, Gives, as_expr, as_step, form, IsBinary, applied, tree_join, minus_len, negations}
+use Rattle.xpath_grammar.specs.Grammar.{Symbol, OrExpr, UnaryExpr, UnionExpr, PathExpr, FilterExpr, PrimaryExpr, Arguments, LocationPath, RelPath, StepPart, Predicates, Phrase, expr, exprs, filtered, walk, snoc, joined, filter_tree, any_depth, IsAdditive, plus, minus, IsEquality, equal, unequal, IsRelational, less, greater, at_most, at_least, IsMult, times, divided, modulo, Derives, or_one, or_more, and_one, and_more, equality_one, equality_more, relational_one, relational_more, additive_one, additive_more, mult_one, mult_more, unary_one, unary_minus, union_one, union_more, path_location, path_filter, path_slash, path_slash_slash, filter_one, filter_more, primary_bracket, primary_variable, primary_literal, primary_number, call_none, call_some, arguments_one, arguments_more, location_rel, location_root, location_slash, location_slash_slash, rel_one, rel_slash, rel_slash_slash, step, step_dot, step_dots, predicates_none, predicates_more, predicate, ended}
+use Rattle.xpath_grammar.specs.Cutting.{rank, Free, Level, RelLevel, ArgumentLevel, symbol, operand, rank_of, combined, Cuts, CutsAt, FirstAt, behind_slash, Answers, AnswersFilter, DerivesFilter, Gives, as_expr, as_step, form, IsBinary, applied, tree_join, minus_len, negations}
 use Rattle.xpath_grammar.specs.Shape.{starts_primary, first, NotPrimary, Relative, dot_axis, axis_of, behind_axis, test_of, behind_test, IsStepTest}
 use Rattle.xpath_grammar.proofs.Clean.{clean}
 use Rattle.xpath_grammar.proofs.Cut.{cut, no_cut, at_cut, last_cut, last_none, last_cuts}

@@ -10,7 +10,8 @@ use Rattle.xpath_tokens.specs.declared.StepAxis.TheVariants.{Known}
 use Rattle.xpath_grammar.specs.declared.expr.StepTest.{StepTest}
 use Rattle.xpath_grammar.specs.declared.expr.StepTest.TheVariants as test
 use Rattle.xpath_grammar.specs.Tree.{Tree, Trees, Walk, negate, path, from, call, none, stop, go}
-use Rattle.xpath_grammar.specs.Grammar.{Stands, Symbol, OrExpr, UnaryExpr, UnionExpr, PathExpr, FilterExpr, PrimaryExpr, Arguments, LocationPath, RelPath, StepPart, Predicates, Predicate, Phrase, expr, exprs, filtered, walk, snoc, filter_tree, any_depth, Derives, or_one, or_more, and_one, and_more, equality_one, equality_more, relational_one, relational_more, additive_one, additive_more, mult_one, mult_more, unary_one, unary_minus, union_one, union_more, path_location, path_filter, path_slash, path_slash_slash, filter_one, filter_more, primary_bracket, primary_variable, primary_literal, primary_number, call_none, call_some, arguments_one, arguments_more, location_rel, location_root, location_slash, location_slash_slash, rel_one, rel_slash, rel_slash_slash, step, step_dot, step_dots, IsAxis, IsTest, predicates_none, predicates_more, predicate, rank, ends, behind, Level, OrLevel, AndLevel, EqualityLevel, RelationalLevel, AdditiveLevel, MultLevel, UnionLevel, RelLevel, ArgumentLevel, symbol, operand, rank_of, combined, behind_slash}
+use Rattle.xpath_grammar.specs.Grammar.{Stands, Symbol, OrExpr, UnaryExpr, UnionExpr, PathExpr, FilterExpr, PrimaryExpr, Arguments, LocationPath, RelPath, StepPart, Predicates, Predicate, Phrase, expr, exprs, filtered, walk, snoc, filter_tree, any_depth, Derives, or_one, or_more, and_one, and_more, equality_one, equality_more, relational_one, relational_more, additive_one, additive_more, mult_one, mult_more, unary_one, unary_minus, union_one, union_more, path_location, path_filter, path_slash, path_slash_slash, filter_one, filter_more, primary_bracket, primary_variable, primary_literal, primary_number, call_none, call_some, arguments_one, arguments_more, location_rel, location_root, location_slash, location_slash_slash, rel_one, rel_slash, rel_slash_slash, step, step_dot, step_dots, IsAxis, IsTest, predicates_none, predicates_more, predicate, ends, behind}
+use Rattle.xpath_grammar.specs.Cutting.{rank, Level, OrLevel, AndLevel, EqualityLevel, RelationalLevel, AdditiveLevel, MultLevel, UnionLevel, RelLevel, ArgumentLevel, symbol, operand, rank_of, combined, behind_slash}
 use Rattle.xpath_grammar.specs.Shape.{starts_primary, first, axis_of, behind_axis, test_of, behind_test, dot_axis}
 use Rattle.xpath_grammar.proofs.Clean.{clean, least, rank_equality, rank_relational, rank_additive, rank_mult}
 use Rattle.xpath_grammar.proofs.Cut.{last_none}

@@ -1,7 +1,8 @@
 -- The core functions of XPath 1.0, section 4, and the types of expressions.
 use Rattle.std.specs.Prelude.{ℕ, suc, zero, Bool, true, false, not, ◌&&◌, ◌||◌, List, [], ◌∷◌, codes, Option, Some, None}
 use Rattle.std.specs.Str.{chars}
-use Rattle.xpath_tokens.specs.Tokens.{find_named, or_else}
+use Rattle.xpath_tokens.specs.Tokens.{find_named}
+use Rattle.xpath_tokens.specs.Reading.{or_else}
 use Rattle.xpath_grammar.specs.declared.functions.ValueType.{ValueType}
 use Rattle.xpath_grammar.specs.declared.functions.ValueType.TheVariants as type
 use Rattle.xpath_grammar.specs.declared.functions.Signature.{Signature}

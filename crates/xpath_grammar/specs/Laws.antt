@@ -5,7 +5,7 @@ use Rattle.xpath_tokens.specs.declared.Token.TheVariants.{Comma, Or, And, Compar
 use Rattle.xpath_tokens.specs.declared.Comparison.{Comparison}
 use Rattle.xpath_tokens.specs.declared.Operator.{Operator}
 use Rattle.xpath_tokens.specs.declared.Operator.TheVariants.{Subtract}
-use Rattle.xpath_grammar.specs.Grammar.{Symbol, Phrase, Derives, or_one, or_more, and_one, and_more, equality_one, equality_more, relational_one, relational_more, additive_one, additive_more, mult_one, mult_more, unary_one, unary_minus, union_one, union_more, path_location, path_filter, path_slash, path_slash_slash, filter_one, filter_more, primary_bracket, primary_variable, primary_literal, primary_number, call_none, call_some, arguments_one, arguments_more, location_rel, location_root, location_slash, location_slash_slash, rel_one, rel_slash, rel_slash_slash, step, step_dot, step_dots, predicates_none, predicates_more, predicate, plus, minus, IsAdditive, ends, Level, OrLevel, AndLevel, EqualityLevel, RelationalLevel, AdditiveLevel, MultLevel, UnionLevel, RelLevel, ArgumentLevel, IsEquality, IsRelational, IsMult, depth, Free}
+use Rattle.xpath_grammar.specs.Grammar.{Symbol, Phrase, Derives, or_one, or_more, and_one, and_more, equality_one, equality_more, relational_one, relational_more, additive_one, additive_more, mult_one, mult_more, unary_one, unary_minus, union_one, union_more, path_location, path_filter, path_slash, path_slash_slash, filter_one, filter_more, primary_bracket, primary_variable, primary_literal, primary_number, call_none, call_some, arguments_one, arguments_more, location_rel, location_root, location_slash, location_slash_slash, rel_one, rel_slash, rel_slash_slash, step, step_dot, step_dots, predicates_none, predicates_more, predicate, plus, minus, IsAdditive, ends, IsEquality, IsRelational, IsMult, depth, ended, OrExpr, AndExpr, EqualityExpr, RelationalExpr, AdditiveExpr, MultExpr, UnaryExpr, UnionExpr, PathExpr, Arguments, RelPath, StepPart}
 
 -- of each minus in a derivation, in their order, whether it is binary there
 abbrev pub minuses : {s : Symbol} {ts : List Token} {e : Phrase} → Derives s ts e → List Bool
@@ -60,25 +60,44 @@ flags b [] = []
 flags b (Arithmetic Subtract ∷ ts) = b ∷ flags false ts
 flags b (t ∷ ts) = flags (ends t) ts
 
--- the operators of a symbol; a comma is that of the arguments of a call
-pub data IsOperator : Level → Token → Type 0 where
-  by_or : IsOperator OrLevel Or
-  by_and : IsOperator AndLevel And
-  by_equality : {how : Comparison} → IsEquality how → IsOperator EqualityLevel (Compare how)
-  by_relational : {how : Comparison} → IsRelational how → IsOperator RelationalLevel (Compare how)
-  by_additive : {op : Operator} → IsAdditive op → IsOperator AdditiveLevel (Arithmetic op)
-  by_mult : {op : Operator} → IsMult op → IsOperator MultLevel (Arithmetic op)
-  by_bar : IsOperator UnionLevel Bar
-  by_slash : IsOperator RelLevel Slash
-  by_slash_slash : IsOperator RelLevel SlashSlash
-  by_comma : IsOperator ArgumentLevel Comma
+-- the productions with two parts: the symbol, the operator, and the symbol of the part behind it; a comma is that of the
+-- arguments of a call
+pub data IsForm : Symbol → Token → Symbol → Type 0 where
+  by_or : IsForm OrExpr Or AndExpr
+  by_and : IsForm AndExpr And EqualityExpr
+  by_equality : {how : Comparison} → IsEquality how → IsForm EqualityExpr (Compare how) RelationalExpr
+  by_relational : {how : Comparison} → IsRelational how → IsForm RelationalExpr (Compare how) AdditiveExpr
+  by_additive : {op : Operator} → IsAdditive op → IsForm AdditiveExpr (Arithmetic op) MultExpr
+  by_mult : {op : Operator} → IsMult op → IsForm MultExpr (Arithmetic op) UnaryExpr
+  by_bar : IsForm UnionExpr Bar PathExpr
+  by_slash : IsForm RelPath Slash StepPart
+  by_slash_slash : IsForm RelPath SlashSlash StepPart
+  by_comma : IsForm Arguments Comma OrExpr
+
+-- a token is one of the operators of a symbol
+abbrev pub IsOperator : Symbol → Token → Type 0
+IsOperator s t = (o : Symbol) × IsForm s t o
+
+-- what stands behind these tokens stands outside all brackets
+abbrev pub IsOutside : List Token → Type 0
+IsOutside before = depth 0 before ≡ 0
+
+-- a minus is an operator only where it is binary: where a token that is /, or can end an operand, stands before it
+abbrev pub Counts : List Token → Token → Type 0
+Counts before t = t ≡ Arithmetic Subtract → ended false before ≡ true
+
+-- the operator is the last token outside all brackets that is one of the symbol's operators
+pub record IsLastOperator (s : Symbol) (us : List Token) (t : Token) (vs : List Token) : Type 0 where
+  pub outside : IsOutside us
+  pub counts : Counts us t
+  pub last : (ws xs : List Token) (u : Token) → vs ≡ ws ++ u ∷ xs → IsOutside (us ++ t ∷ ws) → IsOperator s u → Counts (us ++ t ∷ ws) u → ⊥
 
 -- a / or // with steps behind it
 pub data IsSlash : Token → Type 0 where
   one : IsSlash Slash
   two : IsSlash SlashSlash
 
--- a list goes on outside all brackets by a token, and has no / or // outside all brackets before it
-pub record IsFirstSlash (us : List Token) (t : Token) : Type 0 where
-  pub outside : depth 0 us ≡ 0
-  pub before : Free 9 0 false us
+-- what stands behind these tokens stands outside all brackets, and no / or // among them does
+pub record IsFirstSlash (us : List Token) : Type 0 where
+  pub outside : IsOutside us
+  pub first : (ws xs : List Token) (u : Token) → us ≡ ws ++ u ∷ xs → IsOutside ws → IsSlash u → ⊥

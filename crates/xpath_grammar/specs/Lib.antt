@@ -1,8 +1,10 @@
 pub mod Tree
 pub mod Grammar
+pub mod Cutting
 pub mod Shape
 pub mod Laws
 pub mod Parse
 pub mod Bindings
 pub mod Functions
 pub mod Static
+pub mod Checking

@@ -1,21 +1,33 @@
 -- The refusals that an expression shows before it meets a document, in the order of its tokens: this project's own rules
 -- for what XPath 1.0 calls errors, and for what is left out.
-use Rattle.std.specs.Prelude.{ℕ, ◌+◌, ◌*◌, ◌-◌, Bool, true, false, cond, not, ◌||◌, ◌==◌, nat_lt, List, [], ◌∷◌, length, Option, Some, None, is_some, unwrap_or}
-use Rattle.std.specs.List.{list_any}
+use Rattle.std.specs.Prelude.{◌≡◌, ℕ, ◌+◌, ◌*◌, ◌-◌, Bool, true, false, cond, not, ◌&&◌, ◌==◌, nat_lt, List, [], ◌∷◌, ◌++◌, length, Option, Some, None, is_some}
+use Rattle.std.specs.List.{list_any, flat_map}
 use Rattle.xml_model.specs.declared.Axis.TheVariants as axis
 use Rattle.xpath_tokens.specs.declared.StepAxis.{StepAxis}
 use Rattle.xpath_tokens.specs.declared.StepAxis.TheVariants.{Known, Namespace}
-use Rattle.xpath_tokens.specs.Tokens.{or_else}
 use Rattle.xpath_grammar.specs.declared.expr.StepTest.{StepTest}
 use Rattle.xpath_grammar.specs.declared.expr.StepTest.TheVariants as test
-use Rattle.xpath_grammar.specs.declared.held.Binding.{Binding}
 use Rattle.xpath_grammar.specs.declared.functions.Signature.{Signature}
 use Rattle.xpath_grammar.specs.declared.faults.StaticFault.{StaticFault}
 use Rattle.xpath_grammar.specs.declared.faults.StaticFault.TheVariants as fault
-use Rattle.xpath_grammar.specs.declared.faults.NumberScan.{NumberScan}
 use Rattle.xpath_grammar.specs.Tree.{Tree, Trees, Walk, or, and, union, compare, arithmetic, negate, path, from, filter, literal, number, variable, call, none, more, stop, go}
 use Rattle.xpath_grammar.specs.Bindings.{uri_in}
 use Rattle.xpath_grammar.specs.Functions.{signature_of, gives_nodes, fits}
+
+-- A token of an expression that can be refused, or with which an expression can begin. The others, brackets, commas,
+-- operators behind an operand and slashes behind a step, are left aside.
+pub data Word : Type 0 where
+  axis_word : StepAxis → Word
+  test_word : StepTest → Word
+  function_word : List ℕ → Trees → Word
+  variable_word : Word
+  number_word : List ℕ → Word
+  other_word : Word
+
+-- a token, and whether an expression begins with it that gives no nodes where nodes are needed
+pub record Mark : Type 0 where
+  pub word : Word
+  pub not_nodes : Bool
 
 -- the greatest number: this project's own limit, that of whole numbers in XPath's floating point
 abbrev pub greatest : ℕ
@@ -31,21 +43,25 @@ abbrev pub whole_value : ℕ → List ℕ → ℕ
 whole_value v [] = v
 whole_value v (c ∷ cs) = cond (c == 46) v (whole_value (10 * v + (c - 48)) cs)
 
+-- Fraction, where a digit behind the point is not 0; Range, where the number is else above the greatest
 abbrev pub number_fault : List ℕ → Option StaticFault
 number_fault t = cond (has_fraction t) (Some fault.Fraction) (cond (nat_lt greatest (whole_value 0 t)) (Some fault.Range) None)
 
+-- Axis, where it is namespace
 abbrev pub axis_fault : StepAxis → Option StaticFault
 axis_fault (Known a) = None
 axis_fault Namespace = Some fault.Axis
 
-abbrev pub prefix_fault : List Binding → List ℕ → Option StaticFault
+-- Prefix, where it is not bound
+abbrev pub prefix_fault : List (List ℕ × List ℕ) → List ℕ → Option StaticFault
 prefix_fault bs p = cond (is_some (uri_in bs p)) None (Some fault.Prefix)
 
-abbrev pub test_fault : List Binding → StepTest → Option StaticFault
+abbrev pub test_fault : List (List ℕ × List ℕ) → StepTest → Option StaticFault
 test_fault bs (test.AnyIn p) = prefix_fault bs p
 test_fault bs (test.Named p n) = cond (length p == 0) None (prefix_fault bs p)
 test_fault bs _ = None
 
+-- Function, where it is not known; Arguments, where it is, and their number does not fit
 abbrev pub arguments_fault : Option Signature → Trees → Option StaticFault
 arguments_fault None es = Some fault.Function
 arguments_fault (Some s) es = cond (fits s es) None (Some fault.Arguments)
@@ -53,81 +69,78 @@ arguments_fault (Some s) es = cond (fits s es) None (Some fault.Arguments)
 abbrev pub call_fault : List ℕ → Trees → Option StaticFault
 call_fault f es = arguments_fault (signature_of f) es
 
--- what a step refuses at its first token; where nothing stands for child:: that is its node test
-abbrev pub first_of_step : List Binding → StepAxis → StepTest → Option StaticFault
-first_of_step bs (Known axis.Child) t = test_fault bs t
-first_of_step bs Namespace t = Some fault.Axis
-first_of_step bs _ t = None
+-- what a token itself is refused for
+abbrev pub word_fault : List (List ℕ × List ℕ) → Word → Option StaticFault
+word_fault bs (axis_word a) = axis_fault a
+word_fault bs (test_word t) = test_fault bs t
+word_fault bs (function_word f es) = call_fault f es
+word_fault bs variable_word = Some fault.Variable
+word_fault bs (number_word t) = number_fault t
+word_fault bs other_word = None
 
-abbrev pub first_of_walk : List Binding → Walk → Option StaticFault
-first_of_walk bs stop = None
-first_of_walk bs (go a t ps w) = first_of_step bs a t
+abbrev pub listed : Option StaticFault → List StaticFault
+listed (Some f) = f ∷ []
+listed None = []
 
-abbrev pub first_of_path : List Binding → Bool → Walk → Option StaticFault
-first_of_path bs true w = None
-first_of_path bs false w = first_of_walk bs w
+-- the refusals that stand at a token, in the order of StaticFault
+abbrev pub refused_at : List (List ℕ × List ℕ) → Mark → List StaticFault
+refused_at bs m = listed (word_fault bs m.word) ++ cond m.not_nodes (fault.NotNodes ∷ []) []
 
--- what an expression refuses at its first token, its own type aside
-abbrev pub first_fault : List Binding → Tree → Option StaticFault
-first_fault bs (or a b) = first_fault bs a
-first_fault bs (and a b) = first_fault bs a
-first_fault bs (compare how a b) = first_fault bs a
-first_fault bs (arithmetic op a b) = first_fault bs a
-first_fault bs (negate a) = None
-first_fault bs (union a b) = first_fault bs a
-first_fault bs (path absolute w) = first_of_path bs absolute w
-first_fault bs (from e w) = first_fault bs e
-first_fault bs (filter e ps) = first_fault bs e
-first_fault bs (literal t) = None
-first_fault bs (number t) = number_fault t
-first_fault bs (variable n) = Some fault.Variable
-first_fault bs (call f es) = call_fault f es
+abbrev pub plain : Word → Mark
+plain w = record { word = w; not_nodes = false }
 
--- where nodes are needed, the type stands at the first token, behind what else stands there
-abbrev pub needed : List Binding → Tree → Option StaticFault → Option StaticFault
-needed bs e inner = cond (gives_nodes e) inner (Some (unwrap_or (first_fault bs e) fault.NotNodes))
+abbrev pub marked : List Mark → List Mark
+marked [] = []
+marked (m ∷ ms) = record { word = m.word; not_nodes = true } ∷ ms
 
-abbrev pub needed_if : Bool → List Binding → Tree → Option StaticFault → Option StaticFault
-needed_if true bs e inner = needed bs e inner
-needed_if false bs e inner = inner
+-- the tokens of an expression of which nodes are needed, or not: where it is of another type, that stands at its first
+abbrev pub wanted : Bool → Tree → List Mark → List Mark
+wanted nodes e ms = cond (nodes && not (gives_nodes e)) (marked ms) ms
 
 abbrev pub wants_nodes : Option Signature → Bool
 wants_nodes None = false
 wants_nodes (Some s) = s.nodes
 
--- the first refusal of an expression
+-- the token of an axis; child:: is left out, since nothing stands for it too
+abbrev pub axis_marks : StepAxis → List Mark
+axis_marks (Known axis.Child) = []
+axis_marks a = plain (axis_word a) ∷ []
+
+-- a path that is not absolute begins with a step
+abbrev pub begun : List Mark → List Mark
+begun [] = plain other_word ∷ []
+begun (m ∷ ms) = m ∷ ms
+
+-- the tokens of an expression in their order, with the brackets round it left aside
 abbrev mutual
-  pub static : List Binding → Tree → Option StaticFault
-  static bs (or a b) = or_else (static bs a) (static bs b)
-  static bs (and a b) = or_else (static bs a) (static bs b)
-  static bs (compare how a b) = or_else (static bs a) (static bs b)
-  static bs (arithmetic op a b) = or_else (static bs a) (static bs b)
-  static bs (negate a) = static bs a
-  static bs (union a b) = or_else (needed bs a (static bs a)) (needed bs b (static bs b))
-  static bs (path absolute w) = static_steps bs w
-  static bs (from e w) = or_else (needed bs e (static bs e)) (static_steps bs w)
-  static bs (filter e ps) = or_else (needed bs e (static bs e)) (static_list false bs ps)
-  static bs (literal t) = None
-  static bs (number t) = number_fault t
-  static bs (variable n) = Some fault.Variable
-  static bs (call f es) = or_else (call_fault f es) (static_list (wants_nodes (signature_of f)) bs es)
+  pub marks : Tree → List Mark
+  marks (or a b) = marks a ++ marks b
+  marks (and a b) = marks a ++ marks b
+  marks (compare how a b) = marks a ++ marks b
+  marks (arithmetic op a b) = marks a ++ marks b
+  marks (negate a) = plain other_word ∷ marks a
+  marks (union a b) = wanted true a (marks a) ++ wanted true b (marks b)
+  marks (path true w) = plain other_word ∷ step_marks w
+  marks (path false w) = begun (step_marks w)
+  marks (from e w) = wanted true e (marks e) ++ step_marks w
+  marks (filter e ps) = wanted true e (marks e) ++ list_marks false ps
+  marks (literal t) = plain other_word ∷ []
+  marks (number t) = plain (number_word t) ∷ []
+  marks (variable n) = plain variable_word ∷ []
+  marks (call f es) = plain (function_word f es) ∷ list_marks (wants_nodes (signature_of f)) es
 
   -- of a list, of which the first is needed as nodes, or not
-  pub static_list : Bool → List Binding → Trees → Option StaticFault
-  static_list first bs none = None
-  static_list first bs (more e es) = or_else (needed_if first bs e (static bs e)) (static_list false bs es)
+  pub list_marks : Bool → Trees → List Mark
+  list_marks nodes none = []
+  list_marks nodes (more e es) = wanted nodes e (marks e) ++ list_marks false es
 
-  pub static_steps : List Binding → Walk → Option StaticFault
-  static_steps bs stop = None
-  static_steps bs (go a t ps w) = or_else (axis_fault a) (or_else (test_fault bs t) (or_else (static_list false bs ps) (static_steps bs w)))
+  pub step_marks : Walk → List Mark
+  step_marks stop = []
+  step_marks (go a t ps w) = axis_marks a ++ plain (test_word t) ∷ (list_marks false ps ++ step_marks w)
 
--- one more character of a number that is scanned
-abbrev pub scan_next : NumberScan → ℕ → NumberScan
-scan_next s c =
-    cond s.behind
-    (record { value = s.value; behind = true; fraction = s.fraction || not (c == 48) })
-    (cond (c == 46) (record { value = s.value; behind = true; fraction = s.fraction })
-    (record { value = cond (nat_lt greatest s.value) s.value (10 * s.value + (c - 48)); behind = false; fraction = s.fraction }))
+-- all refusals of an expression, in the order of its tokens, and at one token in that of StaticFault
+abbrev pub refusals : List (List ℕ × List ℕ) → Tree → List StaticFault
+refusals bs e = flat_map (refused_at bs) (marks e)
 
-abbrev pub scan_start : NumberScan
-scan_start = record { value = 0; behind = false; fraction = false }
+abbrev pub IsFirst : StaticFault → List StaticFault → Type 0
+IsFirst f fs = (rest : List StaticFault) × (fs ≡ f ∷ rest)

@@ -3,17 +3,20 @@
 use crate::held::{Binding, can_bind, find, put};
 use std::alloc::{AllocError, AllocFailed, Global};
 use std::marker::Model;
+use thiserror::Error;
 use xpath_tokens::{make_text, same_str};
 
 /// The URI that the prefix `xml` is bound to (Namespaces in XML 1.0, section 3).
 const XML: &str = "http://www.w3.org/XML/1998/namespace";
 
 /// Why a prefix is not bound.
-#[derive(Clone, Copy, Debug, PartialEq, Eq)]
+#[derive(Clone, Copy, Debug, PartialEq, Eq, Error)]
 pub enum BindFault {
     /// The prefix is no NCName, or is `xml` or `xmlns`, or the URI is empty.
+    #[error("the prefix cannot be bound to that URI")]
     Name,
     /// Memory was not to be had.
+    #[error("no memory")]
     NoMemory,
 }
 
@@ -39,18 +42,17 @@ impl<T: Drop> From<AllocFailed<T>> for BindFault {
     }
 }
 
-/// The prefixes that an expression may use, with their URIs (XPath 1.0, section 1). Contracts see the list of the
-/// bindings that were set; `xml` is bound always, and stands in no list.
+/// The prefixes that an expression may use, with their URIs (XPath 1.0, section 1). Contracts see the prefixes that were
+/// set, each with its URI; `xml` is bound always, and stands in no list.
 #[derive(Drop)]
 pub struct Bindings {
     held: Vec<Binding>,
 }
 
 impl Model for Bindings {
-    ghost use Rattle.std.specs.Prelude.{List};
-    ghost use Rattle.xpath_grammar.specs.declared.held.Binding.{Binding};
+    ghost use Rattle.std.specs.Prelude.{List, ℕ};
 
-    ghost Value = { List Binding };
+    ghost Value = { List (List ℕ × List ℕ) };
 
     ghost view = { λ b. b.held.items };
 }

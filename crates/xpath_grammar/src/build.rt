@@ -2,7 +2,8 @@
 
 ghost use Rattle.std.specs.Prelude.{◌≡◌, ℕ, true, IfOk};
 ghost use Rattle.xpath_grammar.specs.Tree.{tree_of, trees_of, walk_of, negate, from as from_tree, filter as filter_with, more as more_trees, call as call_tree, number as number_tree, literal as literal_tree, variable as variable_tree, path as path_tree};
-ghost use Rattle.xpath_grammar.specs.Grammar.{any_depth as any_depth_lem, behind_slash as behind_slash_lem, joined as joined_walks, step_walk, Gives, as_expr, combined, IsBinary, negations, applied as applied_lem, AreBinary};
+ghost use Rattle.xpath_grammar.specs.Grammar.{any_depth as any_depth_lem, joined as joined_walks};
+ghost use Rattle.xpath_grammar.specs.Cutting.{behind_slash as behind_slash_lem, step_walk, Gives, as_expr, combined, IsBinary, negations, applied as applied_lem, AreBinary};
 
 use crate::expr::{Expr, Exprs, Step, StepTest, Steps};
 use std::alloc::{AllocError, Global};

@@ -2,15 +2,16 @@
 
 ghost use Rattle.std.specs.Prelude.{◌≡◌, fold, is_some, cond};
 ghost use Rattle.std.specs.Str.{chars};
-ghost use Rattle.xpath_tokens.specs.Tokens.{or_else};
-ghost use Rattle.xpath_grammar.specs.Tree.{tree_of, trees_of, walk_of};
-ghost use Rattle.xpath_grammar.specs.Static.{scan_next as scan_next_lem, scan_start, number_fault as number_fault_lem, axis_fault as axis_fault_lem, prefix_fault as prefix_fault_lem, test_fault as test_fault_lem, call_fault as call_fault_lem, first_of_step as first_of_step_lem, first_of_path as first_of_path_lem, first_fault as first_fault_lem, needed as needed_lem, needed_if as needed_if_lem, wants_nodes as wants_nodes_lem};
+ghost use Rattle.xpath_tokens.specs.Reading.{or_else};
+ghost use Rattle.xpath_grammar.specs.Tree.{trees_of};
+ghost use Rattle.xpath_grammar.specs.Static.{number_fault as number_fault_lem, axis_fault as axis_fault_lem, prefix_fault as prefix_fault_lem, test_fault as test_fault_lem, call_fault as call_fault_lem, wants_nodes as wants_nodes_lem};
+ghost use Rattle.xpath_grammar.specs.Checking.{scan_next as scan_next_lem, scan_start};
 ghost use Rattle.xpath_grammar.specs.Functions.{signature_of as signature_of_lem};
 
 use crate::bindings::Bindings;
-use crate::expr::{Expr, Exprs, StepTest, Steps};
-use crate::functions::{fits, gives_nodes, signature_of};
-use xml_model::{Axis, Text};
+use crate::expr::{Exprs, StepTest};
+use crate::functions::{fits, signature_of};
+use xml_model::Text;
 use xpath_tokens::{StepAxis, as_str, is_empty};
 
 /// The greatest number.
@@ -161,79 +162,6 @@ pub fn wants_nodes(name: &Text) -> bool
     match signature_of(name) {
         None => false,
         Some(signature) => signature.nodes,
-    }
-}
-
-fn first_of_step(bindings: &Bindings, axis: StepAxis, test: &StepTest) -> Option<StaticFault>
-    ensures { result ≡ first_of_step_lem bindings.now axis test.now }
-{
-    match axis {
-        StepAxis::Known(Axis::Child) => test_fault(bindings, test),
-        StepAxis::Namespace => Some(StaticFault::Axis),
-        _ => None,
-    }
-}
-
-fn first_of_path(bindings: &Bindings, absolute: bool, steps: &Steps) -> Option<StaticFault>
-    ensures { result ≡ first_of_path_lem bindings.now absolute (walk_of steps.now) }
-{
-    if absolute {
-        return None;
-    }
-    match steps {
-        Steps::End => None,
-        Steps::More(step, _) => first_of_step(bindings, step.axis, &step.test),
-    }
-}
-
-/// What an expression refuses at its first token, its own type aside.
-fn first_fault(bindings: &Bindings, expr: &Expr) -> Option<StaticFault>
-    ensures { result ≡ first_fault_lem bindings.now (tree_of expr.now) }
-{
-    match expr {
-        Expr::Or(left, _) | Expr::And(left, _) | Expr::Union(left, _) => first_fault(
-            bindings, left,
-        ),
-        Expr::Compare(_, left, _) | Expr::Arithmetic(_, left, _) => first_fault(bindings, left),
-        Expr::From { start, steps: _ } => first_fault(bindings, start),
-        Expr::Filter {
-            start,
-            predicates: _,
-        } => first_fault(bindings, start),
-        Expr::Path { absolute, steps } => first_of_path(bindings, *absolute, steps),
-        Expr::Negate(_) | Expr::Literal(_) => None,
-        Expr::Number(text) => number_fault(text),
-        Expr::Variable(_) => Some(StaticFault::Variable),
-        Expr::Call { name, arguments } => call_fault(name, arguments),
-    }
-}
-
-/// What an expression refuses where nodes are needed.
-pub fn needed(bindings: &Bindings, expr: &Expr, inner: Option<StaticFault>) -> Option<StaticFault>
-    ensures { result ≡ needed_lem bindings.now (tree_of expr.now) inner }
-{
-    if gives_nodes(expr) {
-        return inner;
-    }
-    match first_fault(bindings, expr) {
-        Some(fault) => Some(fault),
-        None => Some(StaticFault::NotNodes),
-    }
-}
-
-/// What an expression refuses where nodes are needed, or not.
-pub fn needed_if(
-    nodes: bool,
-    bindings: &Bindings,
-    expr: &Expr,
-    inner: Option<StaticFault>,
-) -> Option<StaticFault>
-    ensures { result ≡ needed_if_lem nodes bindings.now (tree_of expr.now) inner }
-{
-    if nodes {
-        needed(bindings, expr, inner)
-    } else {
-        inner
     }
 }
 

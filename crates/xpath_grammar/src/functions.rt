@@ -1,7 +1,8 @@
 // The core functions, and the types of expressions.
 
 ghost use Rattle.std.specs.Prelude.{◌≡◌};
-ghost use Rattle.xpath_tokens.specs.Tokens.{find_named, or_else};
+ghost use Rattle.xpath_tokens.specs.Tokens.{find_named};
+ghost use Rattle.xpath_tokens.specs.Reading.{or_else};
 ghost use Rattle.xpath_grammar.specs.Tree.{tree_of, trees_of};
 ghost use Rattle.xpath_grammar.specs.Functions.{takes as takes_lem, takes_nodes as takes_nodes_lem, takes_many as takes_many_lem, node_set_functions, string_functions, finding_functions, boolean_functions, number_functions, signature_of as signature_of_lem, answer_of as answer_of_lem, type_of as type_of_lem, gives_nodes as gives_nodes_lem, at_least as at_least_lem, fits as fits_lem};
 

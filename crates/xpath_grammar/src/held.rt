@@ -5,14 +5,24 @@ ghost use Rattle.std.specs.Str.{bytes_eq, chars};
 ghost use Rattle.xpath_grammar.specs.Bindings.{lookup, place_in, can_bind as can_bind_lem};
 
 use std::alloc::AllocError;
+use std::marker::Model;
+use xml_chars::is_ncname;
 use xml_model::Text;
-use xpath_tokens::{as_str, is_empty, is_ncname, is_text, same_str};
+use xpath_tokens::{as_str, is_empty, is_text, same_str};
 
-/// A prefix and the URI that it is bound to.
+/// A prefix and the URI that it is bound to, which contracts see as a pair.
 #[derive(Drop)]
 pub struct Binding {
     pub prefix: Text,
     pub uri: Text,
+}
+
+impl Model for Binding {
+    ghost use Rattle.std.specs.Prelude.{List, ℕ};
+
+    ghost Value = { List ℕ × List ℕ };
+
+    ghost view = { λ b. (b.prefix, b.uri) };
 }
 
 /// Whether a prefix may be bound to a URI.
@@ -22,13 +32,25 @@ pub fn can_bind(prefix: &str, uri: &str) -> bool
     is_ncname(prefix) && !same_str("xml", prefix) && !same_str("xmlns", prefix) && !is_empty(uri)
 }
 
+fn is_of(binding: &Binding, prefix: &str) -> bool
+    ensures { result ≡ bytes_eq binding.now.0 (chars prefix.now) }
+{
+    is_text(&binding.prefix, prefix)
+}
+
+fn uri(binding: &Binding) -> &str
+    ensures { chars result.now ≡ binding.now.1 }
+{
+    as_str(&binding.uri)
+}
+
 // The place of the first binding of a prefix, or the length where there is none.
 fn place_of(held: &[Binding], prefix: &str) -> usize
     ensures place { result ≡ place_in held.now (chars prefix.now) }
     ensures within { result ≤ length held.now }
 {
     let mut place: usize = 0;
-    while place < held.len() && !is_text(&held[place].prefix, prefix) {
+    while place < held.len() && !is_of(&held[place], prefix) {
         place += 1;
     }
     place
@@ -40,8 +62,7 @@ pub fn find<'a>(held: &'a [Binding], prefix: &str) -> Option<&'a str>
 {
     let place = place_of(held, prefix);
     if place < held.len() {
-        let binding = &held[place];
-        Some(as_str(&binding.uri))
+        Some(uri(&held[place]))
     } else {
         None
     }
@@ -49,8 +70,8 @@ pub fn find<'a>(held: &'a [Binding], prefix: &str) -> Option<&'a str>
 
 /// Puts a binding in the place of an earlier one of its prefix, or behind all.
 pub fn put(held: &mut Vec<Binding>, prefix: &str, binding: Binding) -> Result<(), AllocError>
-    requires { binding.prefix ≡ chars prefix.now }
-    ensures bound { OnOk result ((q : List ℕ) → lookup held.new.items q ≡ cond (bytes_eq (chars prefix.now) q) (Some binding.uri) (lookup held.old.items q)) }
+    requires { binding.0 ≡ chars prefix.now }
+    ensures bound { OnOk result ((q : List ℕ) → lookup held.new.items q ≡ cond (bytes_eq (chars prefix.now) q) (Some binding.1) (lookup held.old.items q)) }
     ensures unchanged { OnErr result (held.new.items ≡ held.old.items) }
 {
     let place = place_of(held.as_slice(), prefix);

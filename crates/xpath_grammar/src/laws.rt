@@ -2,8 +2,8 @@
 
 ghost use Rattle.std.specs.Prelude.{◌≡◌, List, false, ◌++◌, ◌∷◌};
 ghost use Rattle.xpath_tokens.specs.declared.Token.{Token};
-ghost use Rattle.xpath_grammar.specs.Grammar.{Derives, Symbol, Phrase, Stands, Level, symbol, operand, rank_of, Cuts, FilterExpr, RelPath};
-ghost use Rattle.xpath_grammar.specs.Laws.{minuses, flags, IsOperator, IsSlash, IsFirstSlash};
+ghost use Rattle.xpath_grammar.specs.Grammar.{Derives, Symbol, Phrase, Stands, FilterExpr, RelPath};
+ghost use Rattle.xpath_grammar.specs.Laws.{minuses, flags, IsForm, IsLastOperator, IsSlash, IsFirstSlash};
 
 pub use xpath_tokens::laws::one_split;
 
@@ -12,10 +12,10 @@ pub fn one_phrase()
     ensures { (s : Symbol) (ts : List Token) (e f : Phrase) → Derives s ts e → Derives s ts f → e ≡ f }
 {}
 
-/// The operator of a form with two parts is the last token outside all brackets that is one of that symbol's
+/// The operator of a production with two parts is the last token outside all brackets that is one of that symbol's
 /// operators, where a minus counts only if it is binary.
 pub fn last_operator()
-    ensures { (l : Level) (us vs : List Token) (t : Token) (x y : Phrase) → IsOperator l t → Derives (symbol l) us x → Derives (operand l) vs y → Cuts (rank_of l) us t vs }
+    ensures { (s o : Symbol) (us vs : List Token) (t : Token) (x y : Phrase) → IsForm s t o → Derives s us x → Derives o vs y → IsLastOperator s us t vs }
 {}
 
 /// A minus is binary exactly where a token that is `/`, or can end an operand, stands before it.
@@ -25,5 +25,5 @@ pub fn binary_minus()
 
 /// Behind an expression with its predicates, the slash before the steps is the first one outside all brackets.
 pub fn first_slash()
-    ensures { (us vs : List Token) (t : Token) (x y : Phrase) → IsSlash t → Derives FilterExpr us x → Derives RelPath vs y → IsFirstSlash us t }
+    ensures { (us vs : List Token) (t : Token) (x y : Phrase) → IsSlash t → Derives FilterExpr us x → Derives RelPath vs y → IsFirstSlash us }
 {}

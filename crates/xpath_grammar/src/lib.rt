@@ -11,6 +11,7 @@ mod functions;
 mod held;
 pub mod laws;
 mod parser;
+mod parts;
 mod refusal;
 mod scan;
 mod shape;
@@ -19,7 +20,7 @@ pub use bindings::{BindFault, Bindings};
 pub use entry::{GrammarFault, parse};
 pub use expr::{Expr, Exprs, Step, StepTest, Steps};
 pub use faults::StaticFault;
-pub use functions::gives_nodes;
+pub use functions::{Signature, ValueType, gives_nodes};
 pub use refusal::check;
 pub use xpath_tokens::{Comparison, Operator, StepAxis};
 

@@ -2,7 +2,8 @@
 
 ghost use Rattle.std.specs.Prelude.{◌≡◌, true};
 ghost use Rattle.xpath_grammar.specs.Shape.{first, starts_primary};
-ghost use Rattle.xpath_grammar.specs.Grammar.{AnswersFilter, as_step, Answers, as_expr, as_exprs, as_walk, form, symbol, operand as operand_lem, rank_of, UnaryExpr, PathExpr, PrimaryExpr, Arguments, RelPath, StepPart, Predicates};
+ghost use Rattle.xpath_grammar.specs.Grammar.{UnaryExpr, PathExpr, PrimaryExpr, Arguments, RelPath, StepPart, Predicates};
+ghost use Rattle.xpath_grammar.specs.Cutting.{AnswersFilter, as_step, Answers, as_expr, as_exprs, as_walk, form, symbol, operand as operand_lem, rank_of};
 
 use crate::build::{
     applied, behind_slash, call, deep, filtered, from, literal, more, negated_times, number,

@@ -1,91 +1,105 @@
 // The first refusal of an expression.
 
-ghost use Rattle.std.specs.Prelude.{◌≡◌, Some, None, MatchResult};
+ghost use Rattle.std.specs.Prelude.{◌≡◌, ◌&&◌, not, [], IfOk, IfErr};
 ghost use Rattle.xpath_grammar.specs.Tree.{tree_of, trees_of, walk_of};
-ghost use Rattle.xpath_grammar.specs.Static.{static, static_list, static_steps};
+ghost use Rattle.xpath_grammar.specs.Static.{refusals, IsFirst, wanted, marks, list_marks, step_marks};
+ghost use Rattle.xpath_grammar.specs.Functions.{gives_nodes as gives_nodes_lem};
+ghost use Rattle.xpath_grammar.specs.Checking.{first_in, marks_behind};
 
 use crate::bindings::Bindings;
 use crate::expr::{Expr, Exprs, Steps};
-use crate::faults::{
-    StaticFault, axis_fault, call_fault, earlier, needed, needed_if, number_fault, test_fault,
-    wants_nodes,
-};
+use crate::faults::{StaticFault, axis_fault, earlier, test_fault};
+use crate::functions::gives_nodes;
+use crate::parts::{Tail, inner_part, needed_fault, needs_nodes, own_fault, tail_of};
 
+/// Whether nodes are needed of an expression of another type.
+fn lacks_nodes(nodes: bool, expr: &Expr) -> bool
+    ensures { result ≡ (nodes && not (gives_nodes_lem (tree_of expr.now))) }
+{
+    nodes && !gives_nodes(expr)
+}
+
+/// The first refusal. It goes down the expressions at the front, so that a chain of operators is a loop.
 #[cycle(refusal)]
 fn expr_fault(bindings: &Bindings, expr: &Expr) -> Option<StaticFault>
-    ensures { result ≡ static bindings.now (tree_of expr.now) }
+    ensures { result ≡ first_in bindings.now (marks (tree_of expr.now)) }
 {
-    match expr {
-        Expr::Or(left, right) | Expr::And(left, right) => {
-            earlier(expr_fault(bindings, left), expr_fault(bindings, right))
+    let mut front = expr;
+    let mut found = tail_fault(bindings, tail_of(front));
+    while let Some(part) = inner_part(front) {
+        if lacks_nodes(needs_nodes(front), part) {
+            return Some(needed_fault(bindings, part));
         }
-        Expr::Compare(_, left, right) | Expr::Arithmetic(_, left, right) => {
-            earlier(expr_fault(bindings, left), expr_fault(bindings, right))
-        }
-        Expr::Negate(part) => expr_fault(bindings, part),
-        Expr::Union(left, right) => {
-            let first = needed(bindings, left, expr_fault(bindings, left));
-            earlier(first, needed(bindings, right, expr_fault(bindings, right)))
-        }
-        Expr::Path { absolute: _, steps } => steps_fault(bindings, steps),
-        Expr::From { start, steps } => {
-            let first = needed(bindings, start, expr_fault(bindings, start));
-            earlier(first, steps_fault(bindings, steps))
-        }
-        Expr::Filter { start, predicates } => {
-            let first = needed(bindings, start, expr_fault(bindings, start));
-            earlier(first, list_fault(false, bindings, predicates))
-        }
-        Expr::Literal(_) => None,
-        Expr::Number(text) => number_fault(text),
-        Expr::Variable(_) => Some(StaticFault::Variable),
-        Expr::Call { name, arguments } => {
-            earlier(
-                call_fault(name, arguments),
-                list_fault(wants_nodes(name), bindings, arguments),
-            )
-        }
+        front = part;
+        found = earlier(tail_fault(bindings, tail_of(front)), found);
     }
+    earlier(own_fault(front), found)
 }
 
 #[cycle(refusal)]
-fn list_fault(nodes: bool, bindings: &Bindings, list: &Exprs) -> Option<StaticFault>
-    ensures { result ≡ static_list nodes bindings.now (trees_of list.now) }
+fn tail_fault(bindings: &Bindings, tail: Tail<'_>) -> Option<StaticFault>
+    ensures { result ≡ first_in bindings.now (marks_behind tail.entry) }
 {
-    match list {
-        Exprs::End => None,
-        Exprs::More(first, rest) => {
-            let fault = needed_if(nodes, bindings, first, expr_fault(bindings, first));
-            earlier(fault, list_fault(false, bindings, rest))
-        }
+    match tail {
+        Tail::Nothing => None,
+        Tail::Operand(nodes, expr) => wanted_fault(nodes, bindings, expr),
+        Tail::Steps(steps) => steps_fault(bindings, steps),
+        Tail::List(nodes, list) => list_fault(nodes, bindings, list),
     }
+}
+
+/// The first refusal of an expression of which nodes are needed, or not.
+#[cycle(refusal)]
+fn wanted_fault(nodes: bool, bindings: &Bindings, expr: &Expr) -> Option<StaticFault>
+    ensures { result ≡ first_in bindings.now (wanted nodes (tree_of expr.now) (marks (tree_of expr.now))) }
+{
+    if lacks_nodes(nodes, expr) {
+        return Some(needed_fault(bindings, expr));
+    }
+    expr_fault(bindings, expr)
+}
+
+/// The first refusal of a list, and whether nodes are needed of the first expression.
+#[cycle(refusal)]
+fn list_fault(nodes: bool, bindings: &Bindings, list: &Exprs) -> Option<StaticFault>
+    ensures { result ≡ first_in bindings.now (list_marks nodes (trees_of list.now)) }
+{
+    let mut needed = nodes;
+    let mut rest = list;
+    while let Exprs::More(first, behind) = rest {
+        let fault = wanted_fault(needed, bindings, first);
+        if fault.is_some() {
+            return fault;
+        }
+        needed = false;
+        rest = behind;
+    }
+    None
 }
 
 #[cycle(refusal)]
 fn steps_fault(bindings: &Bindings, steps: &Steps) -> Option<StaticFault>
-    ensures { result ≡ static_steps bindings.now (walk_of steps.now) }
+    ensures { result ≡ first_in bindings.now (step_marks (walk_of steps.now)) }
 {
-    match steps {
-        Steps::End => None,
-        Steps::More(step, rest) => {
-            let behind = earlier(
-                list_fault(false, bindings, &step.predicates),
-                steps_fault(bindings, rest),
-            );
-            earlier(
-                axis_fault(step.axis),
-                earlier(test_fault(bindings, &step.test), behind),
-            )
+    let mut rest = steps;
+    while let Steps::More(step, behind) = rest {
+        let own = earlier(axis_fault(step.axis), test_fault(bindings, &step.test));
+        let fault = earlier(own, list_fault(false, bindings, &step.predicates));
+        if fault.is_some() {
+            return fault;
         }
+        rest = behind;
     }
+    None
 }
 
-/// Whether an expression may meet a document, with the prefixes that are bound.
+/// Whether an expression may meet a document, with the prefixes that are bound. No call takes memory.
 ///
 /// Errors: the refusal at the earliest token, and at one token the first in the order of `StaticFault`. The first token
 /// of an expression is taken with the brackets round it left aside, and with `child::` left out.
 pub fn check(expr: &Expr, bindings: &Bindings) -> Result<(), StaticFault>
-    ensures { MatchResult result (λ _. static bindings.now (tree_of expr.now) ≡ None) (λ fault. static bindings.now (tree_of expr.now) ≡ Some fault) }
+    ensures none { IfOk result (λ _. refusals bindings.now (tree_of expr.now) ≡ []) }
+    ensures first { IfErr result (λ fault. IsFirst fault (refusals bindings.now (tree_of expr.now))) }
 {
     match expr_fault(bindings, expr) {
         None => Ok(()),

@@ -1,7 +1,8 @@
 // Where a list of tokens is cut.
 
 ghost use Rattle.std.specs.Prelude.{◌≡◌, ◌+◌, ◌<◌, ◌≤◌, ◌^◌, ◌↔◌, IsTrue, length, take, drop, slice_index_or as get_or};
-ghost use Rattle.xpath_grammar.specs.Grammar.{rank as rank_lem, ends as ends_lem, behind as behind_lem, is_minus as is_minus_lem, minus_len, Gives, AreCuts, FoundFirst};
+ghost use Rattle.xpath_grammar.specs.Grammar.{ends as ends_lem, behind as behind_lem};
+ghost use Rattle.xpath_grammar.specs.Cutting.{rank as rank_lem, is_minus as is_minus_lem, minus_len, Gives, AreCuts, FoundFirst};
 
 use std::alloc::Global;
 use xpath_tokens::{Comparison, Fault, Operator, Token};

@@ -1,5 +1,6 @@
 pub mod Runs
 pub mod Longest
 pub mod Spaces
+pub mod Reading
 pub mod Splitting
 pub mod Same

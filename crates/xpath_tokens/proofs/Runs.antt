@@ -2,7 +2,7 @@
 use Rattle.std.proofs.Common.{◌≡◌, ◌≢◌, ℕ, zero, suc, ◌+◌, ◌<◌, ◌≤◌, Bool, true, false, cond, not, ◌&&◌, ◌||◌, ◌==◌, List, [], ◌∷◌, ◌++◌, length, take, drop, refl, sym, ◌∙◌, ap, subst, arith}
 use Rattle.std.specs.List.{list_all, list_any}
 use Rattle.xml_model.specs.Chars.{is_name_start, is_name_char, is_name, is_ncname}
-use Rattle.xpath_tokens.specs.Words.{run, is_ncname_start, is_ncname_char, ncname_len, starts_ncname}
+use Rattle.xpath_tokens.specs.Words.{run, is_ncname_start, is_ncname_char, ncname_len}
 
 pub and_parts : (a b : Bool) → (a && b) ≡ true → (a ≡ true) × (b ≡ true)
 and_parts true b h = (refl, h)
@@ -97,19 +97,3 @@ ncname_some (c ∷ cs) h = omega arith
 -- a name before a colon ends there
 pub ncname_len-colon : (w vs : List ℕ) → is_ncname w ≡ true → ncname_len (w ++ 58 ∷ vs) ≡ length w
 ncname_len-colon w vs h = ncname_len-append w (58 ∷ vs) h ∙ omega arith
-
-start_char : (c : ℕ) → is_ncname_start c ≡ true → is_ncname_char c ≡ true
-unfolding is_name_char
-start_char c h =
-    let p = and_parts (not (c == 58)) (is_name_start c) h in
-    rw (p.0, p.1) refl
-
--- a name without a colon by its first character and all of them
-pub ncname_by : (cs : List ℕ) → is_ncname cs ≡ (starts_ncname cs && list_all is_ncname_char cs)
-unfolding is_ncname is_name
-ncname_by [] = refl
-ncname_by (c ∷ cs) = ncname_cons c cs ∙ this (is_ncname_start c) refl
-  where
-    this : (b : Bool) → is_ncname_start c ≡ b → (b && list_all is_ncname_char cs) ≡ (b && (is_ncname_char c && list_all is_ncname_char cs))
-    this true e = rw (start_char c e) refl
-    this false e = refl

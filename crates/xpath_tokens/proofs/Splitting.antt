@@ -5,14 +5,16 @@ use Rattle.std.proofs.lemmas.Bool.{eqb-true, eqb-false, leb-true}
 use Rattle.std.proofs.lemmas.List.{take-append-drop, append_cancel_left, append-nil, length-take}
 use Rattle.xml_model.specs.Chars.{is_space, is_blank, is_ncname, is_name_start, in_ranges}
 use Rattle.xpath_tokens.specs.declared.Token.{Token}
-use Rattle.xpath_tokens.specs.Tokens.{IsWord, symbol, name, any_in, literal, number, variable, plain, prefixed, whole, pointed, behind_point, are_digits, is_decimal_digit, is_quote, is_symbol, is_single, is_pair, IsLongest, Splits, done, next, token_of, closes_operand, behind_space}
+use Rattle.xpath_tokens.specs.Tokens.{IsWord, symbol, name, any_in, literal, number, variable, plain, prefixed, whole, pointed, behind_point, are_digits, is_decimal_digit, is_quote, is_symbol, is_single, is_pair, IsLongest, IsToken, Splits, done, next, closes_operand, behind_space}
 use Rattle.std.proofs.Common.{Result, Err}
 use Rattle.std.specs.Result.{IsErrAnd}
 use Rattle.std.proofs.lemmas.Result.{err_from_is_err_and}
 use Rattle.xpath_tokens.specs.declared.Fault.{Fault}
 use Rattle.xpath_tokens.specs.declared.Fault.TheVariants.{Syntax, NoMemory}
 use Rattle.xpath_tokens.specs.Words.{is_ncname_start, is_ncname_char, word_len, IsFound}
+use Rattle.xpath_tokens.specs.Reading.{token_of}
 use Rattle.xpath_tokens.proofs.Runs.{and_parts, ncname_cons, ncname_nil}
+use Rattle.xpath_tokens.proofs.Reading.{is_read, read_is}
 use Rattle.xpath_tokens.proofs.Longest.{longest_word, no_longer}
 
 -- no word begins with white space
@@ -150,7 +152,7 @@ behind_twice (c ∷ cs) = this (behind_twice cs) (is_space c) refl
 -- what a split is behind the white space at the front
 pub data Canon (after : Bool) (cs : List ℕ) : List Token → Type 0 where
   ended : behind_space cs ≡ [] → Canon after cs []
-  starts : (w rest : List ℕ) {t : Token} {ts : List Token} → behind_space cs ≡ w ++ rest → IsWord w → IsLongest w rest → token_of after w rest ≡ Some t → Splits (closes_operand t) rest ts → Canon after cs (t ∷ ts)
+  starts : (w rest : List ℕ) {t : Token} {ts : List Token} → behind_space cs ≡ w ++ rest → IsWord w → IsLongest w rest → IsToken after rest w t → Splits (closes_operand t) rest ts → Canon after cs (t ∷ ts)
 
 pub canon : {after : Bool} {cs : List ℕ} {ts : List Token} → Splits after cs ts → Canon after cs ts
 canon {cs = cs} (done h) = ended (blank_none cs h)
@@ -187,7 +189,7 @@ is_longest cs h beyond behind e w =
 
 pub word_next : {after : Bool} (cs : List ℕ) {t : Token} {ts : List Token} → word_len cs ≢ 0 → word_len cs ≤ length cs → token_of after (take (word_len cs) cs) (drop (word_len cs) cs) ≡ Some t → Splits (closes_operand t) (drop (word_len cs) cs) ts → Splits after cs (t ∷ ts)
 word_next {after} cs {t} {ts} n h tok d =
-    subst (λ x. Splits after x (t ∷ ts)) (take-append-drop (word_len cs) cs) (next [] (take (word_len cs) cs) (drop (word_len cs) cs) blank_nil (longest_word cs n) (is_longest cs h) tok d)
+    subst (λ x. Splits after x (t ∷ ts)) (take-append-drop (word_len cs) cs) (next [] (take (word_len cs) cs) (drop (word_len cs) cs) blank_nil (longest_word cs n) (is_longest cs h) (read_is (longest_word cs n) tok) d)
 
 -- two lists that begin one list: one of them begins the other
 first_parts : {A : Type 0} (us vs us' vs' : List A) → us ++ vs ≡ us' ++ vs' → ((more : List A) × (us' ≡ us ++ more)) ⊎ ((more : List A) × (us ≡ us' ++ more))
@@ -239,7 +241,8 @@ one_split {after} (next space w rest {t} {ts} blank is longest tok d) e = this (
         let h : w ++ rest ≡ w' ++ rest' = sym (blank_skip space (w ++ rest) blank (word_kept rest is)) ∙ k in
         let ew = same_words w rest w' rest' is is' longest longest' h in
         let er = same_rests w rest w' rest' ew h in
-        let tok2 : token_of after w rest ≡ Some t' = ap (λ x. token_of after x rest) ew ∙ ap (token_of after w') er ∙ tok' in
+        let tok1 = is_read tok in
+        let tok2 : token_of after w rest ≡ Some t' = ap (λ x. token_of after x rest) ew ∙ ap (token_of after w') er ∙ is_read tok' in
         let et : t ≡ t' = cc in
         let d2 = subst (λ x. Splits (closes_operand x) rest ts') (sym et) (subst (λ x. Splits (closes_operand t') x ts') (sym er) d') in
         ap (λ x. x ∷ ts) et ∙ ap (λ x. t' ∷ x) (only ts' d2)
@@ -283,7 +286,7 @@ first_token {after} {rest} trimmed some within d = this (canon d)
           token = t;
           others = ts;
           whole = refl;
-          read = ap (λ x. token_of after x (drop (word_len rest) rest)) ew ∙ ap (token_of after w) er ∙ tok;
+          read = ap (λ x. token_of after x (drop (word_len rest) rest)) ew ∙ ap (token_of after w) er ∙ is_read tok;
           split = subst (λ x. Splits (closes_operand t) x ts) (sym er) d;
           some = positive;
         }

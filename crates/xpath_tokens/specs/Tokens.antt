@@ -1,15 +1,13 @@
 -- How a text splits into tokens. A text is a list of code points.
-use Rattle.std.specs.Prelude.{◌≡◌, ℕ, Bool, true, false, cond, ◌&&◌, ◌||◌, List, [], ◌∷◌, ◌++◌, ◌==◌, ◌-◌, nat_lt, slice_index, length, take, drop, Option, Some, None, codes, option_map}
+use Rattle.std.specs.Prelude.{◌≡◌, ℕ, Bool, true, false, cond, ◌&&◌, ◌||◌, List, [], ◌∷◌, ◌++◌, ◌==◌, Option, Some, None, codes}
 use Rattle.std.specs.List.{list_all, list_any}
 use Rattle.std.specs.Str.{bytes_eq}
 use Rattle.xml_model.specs.declared.Axis.TheVariants as axis
-use Rattle.xml_model.specs.Chars.{is_space, is_blank, is_ncname, has_colon, prefix_of, local_of}
+use Rattle.xml_model.specs.Chars.{is_space, is_blank, is_ncname}
 use Rattle.xpath_tokens.specs.declared.Comparison.TheVariants.{Equal, Unequal, Less, Greater, AtMost, AtLeast}
 use Rattle.xpath_tokens.specs.declared.Operator.TheVariants.{Add, Subtract, Multiply, Divide, Modulo}
 use Rattle.xpath_tokens.specs.declared.StepAxis.{StepAxis}
 use Rattle.xpath_tokens.specs.declared.StepAxis.TheVariants.{Known, Namespace}
-use Rattle.xpath_tokens.specs.declared.lexer.WordKind.{WordKind}
-use Rattle.xpath_tokens.specs.declared.lexer.WordKind.TheVariants as word
 use Rattle.xpath_tokens.specs.declared.NodeType.{NodeType}
 use Rattle.xpath_tokens.specs.declared.NodeType.TheVariants as kind
 use Rattle.xpath_tokens.specs.declared.Token.{Token}
@@ -122,10 +120,7 @@ axis_names =
     ∷ (codes "descendant-or-self", Known axis.DescendantOrSelf) ∷ (codes "ancestor-or-self", Known axis.AncestorOrSelf)
     ∷ (codes "namespace", Namespace) ∷ []
 
--- what stands before a name, and behind it, white space aside
-pub data Place : Type 0 where
-  behind_operand before_open before_colons elsewhere : Place
-
+-- what stands behind a word, white space aside
 abbrev pub starts_open : List ℕ → Bool
 starts_open (c ∷ cs) = c == 40
 starts_open [] = false
@@ -139,81 +134,34 @@ abbrev pub behind_space : List ℕ → List ℕ
 behind_space [] = []
 behind_space (c ∷ cs) = cond (is_space c) (behind_space cs) (c ∷ cs)
 
-abbrev pub place : Bool → List ℕ → Place
-place after rest =
-    let behind = behind_space rest in
-    cond after behind_operand (cond (starts_open behind) before_open (cond (starts_colons behind) before_colons elsewhere))
+abbrev pub before_open : List ℕ → Bool
+before_open rest = starts_open (behind_space rest)
 
-abbrev pub call_token : List ℕ → Option NodeType → Token
-call_token w (Some k) = Kind k
-call_token w None = Function w
+abbrev pub before_colons : List ℕ → Bool
+before_colons rest = starts_colons (behind_space rest)
 
-abbrev pub named_token : List ℕ → Token
-named_token w = Named (prefix_of w) (local_of w)
-
-abbrev pub axis_token : List ℕ → Option Token
-axis_token w = cond (has_colon w) (Some (named_token w)) (option_map AxisName (find_named axis_names w))
-
--- the three rules: behind an operand a name is an operator; else before a ( it is a node type or a function, a name
--- without a colon before :: is an axis, and any other is a name test
-abbrev pub name_token : List ℕ → Place → Option Token
-name_token w behind_operand = find_named operator_names w
-name_token w before_open = Some (call_token w (find_named node_types w))
-name_token w before_colons = axis_token w
-name_token w elsewhere = Some (named_token w)
-
-abbrev pub star_token : Bool → Token
-star_token true = Arithmetic Multiply
-star_token false = Any
-
-abbrev pub without_last : {X : Type 0} → List X → List X
-without_last xs = take (length xs - 1) xs
-
--- a prefix with :* behind it
-abbrev pub any_in_token : Bool → List ℕ → Option Token
-any_in_token true w = None
-any_in_token false w = Some (AnyIn (prefix_of w))
-
-abbrev pub ends_with_star : List ℕ → Bool
-ends_with_star cs = nat_lt 0 (length cs) && slice_index cs (length cs - 1) == 42
-
-abbrev pub or_else : {X : Type 0} → Option X → Option X → Option X
-or_else (Some x) o = Some x
-or_else None o = o
-
--- a word that is a symbol but *, by its spelling
-abbrev pub fixed_token : List ℕ → Option Token
-fixed_token w = or_else (find_named delimiters w) (find_named operator_signs w)
-
--- the kind of a word, which its first characters show
-abbrev pub kind_by_first : List ℕ → WordKind
-kind_by_first [] = word.Name
-kind_by_first (c ∷ cs) =
-    cond (is_quote c) word.Literal
-    (cond (c == 36) word.Variable
-    (cond (is_decimal_digit c || c == 46) word.Number
-    (cond (ends_with_star cs) word.AnyIn word.Name)))
-
-abbrev pub kind_of : List ℕ → WordKind
-kind_of w = cond (is_symbol w) word.Symbol (kind_by_first w)
-
-abbrev pub symbol_token : Bool → List ℕ → Option Token
-symbol_token after w = cond (bytes_eq w (codes "*")) (Some (star_token after)) (fixed_token w)
-
-abbrev pub token_by_kind : WordKind → Bool → List ℕ → List ℕ → Option Token
-token_by_kind word.Symbol after w rest = symbol_token after w
-token_by_kind word.Literal after w rest = Some (Literal (without_last (drop 1 w)))
-token_by_kind word.Variable after w rest = Some (Variable (drop 1 w))
-token_by_kind word.Number after w rest = Some (Number w)
-token_by_kind word.AnyIn after w rest = any_in_token after w
-token_by_kind word.Name after w rest = name_token w (place after rest)
-
--- the token that a word is, where an operand ends before it or not, and before the rest
-abbrev pub token_of : Bool → List ℕ → List ℕ → Option Token
-token_of after w rest = token_by_kind (kind_of w) after w rest
+-- the token that a word is, behind an operand or not, and before the rest: a case for each class of tokens (XPath 1.0,
+-- section 3.7). Behind an operand * is an operator, and a name is one or no token. Elsewhere a name before ( is a node
+-- type or a function's name, a name without a colon before :: is an axis name, and any other name is a name test, as * is.
+-- A prefix with :* is a name test everywhere
+pub data IsToken (after : Bool) (rest : List ℕ) : List ℕ → Token → Type 0 where
+  is_delimiter : {w : List ℕ} {t : Token} → find_named delimiters w ≡ Some t → IsToken after rest w t
+  is_sign : {w : List ℕ} {t : Token} → find_named operator_signs w ≡ Some t → IsToken after rest w t
+  is_times : after ≡ true → IsToken after rest (codes "*") (Arithmetic Multiply)
+  is_operator_name : {w : List ℕ} {t : Token} → after ≡ true → find_named operator_names w ≡ Some t → IsToken after rest w t
+  is_node_type : {w : List ℕ} {k : NodeType} → after ≡ false → before_open rest ≡ true → find_named node_types w ≡ Some k → IsToken after rest w (Kind k)
+  is_function : {w : List ℕ} → after ≡ false → before_open rest ≡ true → find_named node_types w ≡ None → IsQName w → IsToken after rest w (Function w)
+  is_axis : {w : List ℕ} {a : StepAxis} → after ≡ false → before_colons rest ≡ true → find_named axis_names w ≡ Some a → IsToken after rest w (AxisName a)
+  is_any : after ≡ false → IsToken after rest (codes "*") Any
+  is_any_in : {p : List ℕ} → is_ncname p ≡ true → IsToken after rest (p ++ 58 ∷ 42 ∷ []) (AnyIn p)
+  is_name : {n : List ℕ} → after ≡ false → before_open rest ≡ false → before_colons rest ≡ false → is_ncname n ≡ true → IsToken after rest n (Named [] n)
+  is_prefixed : {p n : List ℕ} → after ≡ false → before_open rest ≡ false → is_ncname p ≡ true → is_ncname n ≡ true → IsToken after rest (p ++ 58 ∷ n) (Named p n)
+  is_literal : {q : ℕ} {t : List ℕ} → is_quote q ≡ true → list_any (λ c. c == q) t ≡ false → IsToken after rest (q ∷ (t ++ q ∷ [])) (Literal t)
+  is_number : {w : List ℕ} → IsNumber w → IsToken after rest w (Number w)
+  is_variable : {n : List ℕ} → IsQName n → IsToken after rest (36 ∷ n) (Variable n)
 
 -- a text splits into tokens, behind an operand or not: white space, a word as long as it can be, and what is left
 -- behind the token that it is
 pub data Splits : Bool → List ℕ → List Token → Type 0 where
   done : {after : Bool} {space : List ℕ} → is_blank space ≡ true → Splits after space []
-  next : {after : Bool} (space w rest : List ℕ) {t : Token} {ts : List Token} → is_blank space ≡ true → IsWord w → IsLongest w rest → token_of after w rest ≡ Some t → Splits (closes_operand t) rest ts → Splits after (space ++ (w ++ rest)) (t ∷ ts)
+  next : {after : Bool} (space w rest : List ℕ) {t : Token} {ts : List Token} → is_blank space ≡ true → IsWord w → IsLongest w rest → IsToken after rest w t → Splits (closes_operand t) rest ts → Splits after (space ++ (w ++ rest)) (t ∷ ts)

@@ -1,5 +1,5 @@
 -- How long the words of each kind are at the front of a text: what the working functions compute.
-use Rattle.std.specs.Prelude.{◌≡◌, ℕ, suc, ◌+◌, max, Bool, false, cond, not, ◌&&◌, ◌==◌, nat_lt, List, [], ◌∷◌, length, drop, Option, Some, None, Result, Ok, Err}
+use Rattle.std.specs.Prelude.{◌≡◌, ℕ, suc, ◌+◌, max, Bool, cond, not, ◌&&◌, ◌==◌, nat_lt, List, [], ◌∷◌, length, drop, Option, Some, None, Result, Ok, Err}
 use Rattle.xml_model.specs.Chars.{is_name_start, is_name_char}
 use Rattle.xpath_tokens.specs.declared.Token.{Token}
 use Rattle.xpath_tokens.specs.declared.Fault.{Fault}
@@ -17,10 +17,6 @@ is_ncname_start c = not (c == 58) && is_name_start c
 
 abbrev pub is_ncname_char : ℕ → Bool
 is_ncname_char c = not (c == 58) && is_name_char c
-
-abbrev pub starts_ncname : List ℕ → Bool
-starts_ncname [] = false
-starts_ncname (c ∷ cs) = is_ncname_start c
 
 abbrev pub not_colon : ℕ → Bool
 not_colon c = not (c == 58)

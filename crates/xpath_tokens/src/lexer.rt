@@ -1,12 +1,14 @@
 // Which token a word is, and all tokens of a text.
 
-ghost use Rattle.std.specs.Prelude.{◌≡◌, ◌≤◌, length, drop, List, IfOk, Err, false};
+ghost use Rattle.std.specs.Prelude.{◌≡◌, ◌≤◌, length, drop, List, IfOk, Some, Err, false};
 ghost use Rattle.std.specs.Str.{chars};
 ghost use Rattle.xpath_tokens.specs.declared.Token.{Token};
+ghost use Rattle.xpath_tokens.specs.declared.Token.TheVariants.{AnyIn};
 ghost use Rattle.xpath_tokens.specs.declared.Fault.TheVariants.{Syntax};
 ghost use Rattle.xml_model.specs.Chars.{prefix_of, local_of};
 ghost use Rattle.xml_model.specs.Chars.{has_colon as has_colon_lem};
-ghost use Rattle.xpath_tokens.specs.Tokens.{is_symbol as is_symbol_lem, find_named, delimiters, operator_signs, operator_names, node_types, axis_names, fixed_token as fixed_token_lem, behind_space as behind_space_lem, place, name_token as name_token_lem, any_in_token, kind_of, symbol_token as symbol_token_lem, star_token as star_token_lem, token_of, closes_operand as closes_operand_lem, without_last as without_last_lem, ends_with_star as ends_with_star_lem, starts_open as starts_open_lem, starts_colons as starts_colons_lem, Splits};
+ghost use Rattle.xpath_tokens.specs.Tokens.{is_symbol as is_symbol_lem, find_named, delimiters, operator_signs, operator_names, node_types, axis_names, behind_space as behind_space_lem, closes_operand as closes_operand_lem, starts_open as starts_open_lem, starts_colons as starts_colons_lem, Splits};
+ghost use Rattle.xpath_tokens.specs.Reading.{fixed_token as fixed_token_lem, place, name_token as name_token_lem, kind_of, symbol_token as symbol_token_lem, star_token as star_token_lem, token_of, without_last as without_last_lem, has_star as has_star_lem};
 ghost use Rattle.xpath_tokens.specs.Words.{IsFound};
 
 use crate::text::{equals, text_of};
@@ -218,10 +220,10 @@ fn without_last<'a>(chars: &'a [char]) -> &'a [char]
     }
 }
 
-fn ends_with_star(chars: &[char]) -> bool
-    ensures { result ≡ ends_with_star_lem chars.now }
+fn has_star(word: &[char]) -> bool
+    ensures { result ≡ has_star_lem word.now }
 {
-    0 < chars.len() && chars[chars.len() - 1] == '*'
+    word.iter().any(|c| *c == '*')
 }
 
 fn starts_open(chars: &[char]) -> bool
@@ -279,12 +281,9 @@ fn name_token(alloc: Global, after: bool, word: &[char], rest: &[char]) -> Resul
 }
 
 /// The token that a prefix with `:*` is.
-fn prefix_token(alloc: Global, after: bool, word: &[char]) -> Result<Token, Fault>
-    ensures { IsFound (any_in_token after word.now) result }
+fn prefix_token(alloc: Global, word: &[char]) -> Result<Token, Fault>
+    ensures { IsFound (Some (AnyIn (prefix_of word.now))) result }
 {
-    if after {
-        return Err(Fault::Syntax);
-    }
     let (prefix, _) = name_parts(word);
     Ok(Token::AnyIn(text_of(alloc, prefix)?))
 }
@@ -316,7 +315,7 @@ fn word_kind(word: &[char]) -> WordKind
                 WordKind::Variable
             } else if is_digit(*first) || *first == '.' {
                 WordKind::Number
-            } else if ends_with_star(inner) {
+            } else if has_star(inner) {
                 WordKind::AnyIn
             } else {
                 WordKind::Name
@@ -353,7 +352,7 @@ fn token(alloc: Global, after: bool, word: &[char], rest: &[char]) -> Result<Tok
         WordKind::Literal => Ok(Token::Literal(text_of(alloc, without_last(tail(word)))?)),
         WordKind::Variable => Ok(Token::Variable(text_of(alloc, tail(word))?)),
         WordKind::Number => Ok(Token::Number(text_of(alloc, word)?)),
-        WordKind::AnyIn => prefix_token(alloc, after, word),
+        WordKind::AnyIn => prefix_token(alloc, word),
         WordKind::Name => name_token(alloc, after, word, rest),
     }
 }

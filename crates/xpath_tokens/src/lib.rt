@@ -12,7 +12,6 @@ ghost use Rattle.xpath_tokens.specs.declared.Fault.TheVariants.{NoMemory};
 pub use lexer::tokens_of;
 use std::alloc::{AllocError, AllocFailed};
 pub use text::{as_str, is_empty, is_text, make_text, same_str};
-pub use words::is_ncname;
 use xml_model::{Axis, Text};
 
 /// How two values are compared (XPath 1.0, productions 23 and 24): `=`, `!=`, `<`, `>`, `<=`, `>=`.

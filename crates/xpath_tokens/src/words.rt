@@ -1,11 +1,9 @@
 // How long the words at the front of a text are.
 
 ghost use Rattle.std.specs.Prelude.{◌≡◌, ◌+◌, ◌≤◌, length, drop};
-ghost use Rattle.std.specs.List.{list_all};
-ghost use Rattle.std.specs.Str.{chars};
-ghost use Rattle.xml_model.specs.Chars.{is_space as is_space_lem, is_ncname as is_ncname_lem};
+ghost use Rattle.xml_model.specs.Chars.{is_space as is_space_lem};
 ghost use Rattle.xpath_tokens.specs.Tokens.{is_single as is_single_lem, is_pair as is_pair_lem, is_quote as is_quote_lem, is_decimal_digit, behind_space};
-ghost use Rattle.xpath_tokens.specs.Words.{run, is_ncname_start as is_ncname_start_lem, is_ncname_char as is_ncname_char_lem, starts_ncname as starts_ncname_lem, not_colon, is_other, ncname_len, symbol_len, qname_len, any_in_len, number_len, literal_len, variable_len, word_len};
+ghost use Rattle.xpath_tokens.specs.Words.{run, is_ncname_start as is_ncname_start_lem, is_ncname_char as is_ncname_char_lem, not_colon, is_other, ncname_len, symbol_len, qname_len, any_in_len, number_len, literal_len, variable_len, word_len};
 
 use xml_chars::{is_name_char, is_name_start};
 
@@ -259,27 +257,4 @@ pub fn word_length(chars: &[char]) -> usize
     let name = symbol_length(chars).max(qname_length(chars).max(any_in_length(chars)));
     let other = literal_length(chars).max(number_length(chars).max(variable_length(chars)));
     name.max(other)
-}
-
-fn are_ncname_chars(text: &str) -> bool
-    ensures { result ≡ list_all is_ncname_char_lem (chars text.now) }
-{
-    text.chars().all(|c| is_ncname_char(c))
-}
-
-fn starts_ncname(text: &str) -> bool
-    ensures { result ≡ starts_ncname_lem (chars text.now) }
-{
-    match text.chars().next() {
-        Some(c) => is_ncname_start(c),
-        None => false,
-    }
-}
-
-/// Whether a text is a name without a colon (Namespaces in XML 1.0, production 4).
-#[tactic(auto, using(crate::proofs::Runs::ncname_by))]
-pub fn is_ncname(text: &str) -> bool
-    ensures { result ≡ is_ncname_lem (chars text.now) }
-{
-    starts_ncname(text) && are_ncname_chars(text)
 }

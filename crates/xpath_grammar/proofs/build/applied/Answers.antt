@@ -1,6 +1,6 @@
 use Rattle.std.proofs.Common.{sym, ◌∙◌, ap, subst}
 use Rattle.xpath_grammar.specs.Tree.{tree_of}
-use Rattle.xpath_grammar.specs.Grammar.{applied, AreBinary}
+use Rattle.xpath_grammar.specs.Cutting.{applied, AreBinary}
 use Rattle.xpath_grammar.proofs.Applied.{AreBinary-pop, applied-push, joined_tree}
 use Rattle.xpath_grammar.proofs.build.applied.Goals as goal
 

@@ -1,6 +1,6 @@
 use Rattle.std.proofs.Common.{◌≡◌, vec_len}
 use Rattle.xpath_grammar.specs.Tree.{tree_of}
-use Rattle.xpath_grammar.specs.Grammar.{applied, AreBinary}
+use Rattle.xpath_grammar.specs.Cutting.{applied, AreBinary}
 use Rattle.xpath_grammar.proofs.build.applied.Given as goal
 
 abbrev pub invariant-loop-token : goal.invariant-loop-token

@@ -1,6 +1,6 @@
 use Rattle.std.proofs.Common.{◌≡◌}
 use Rattle.xpath_grammar.specs.Tree.{tree_of}
-use Rattle.xpath_grammar.specs.Grammar.{negations}
+use Rattle.xpath_grammar.specs.Cutting.{negations}
 use Rattle.xpath_grammar.proofs.build.negated_times.Given as goal
 
 abbrev pub invariant-loop : goal.invariant-loop

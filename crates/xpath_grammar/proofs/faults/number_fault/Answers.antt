@@ -1,6 +1,6 @@
 use Rattle.std.proofs.Common.{◌∙◌, ap}
 use Rattle.std.specs.Prelude.{fold}
-use Rattle.xpath_grammar.specs.Static.{scan_next, scan_start}
+use Rattle.xpath_grammar.specs.Checking.{scan_next, scan_start}
 use Rattle.xpath_grammar.proofs.Numbers.{is_fraction, is_range, is_fine}
 use Rattle.xpath_grammar.proofs.faults.number_fault.Goals as goal
 

@@ -11,7 +11,7 @@ returns-then-place-held c =
     let n = c.place_of-place.ensures.place in
     let within : place_in bs p < length bs = let t = c.if-place-held.true in omega (arith, n, t) in
     let d = c.index-held-place.result in
-    ap Some c.as_str.ensures ∙ ap (λ x. Some x.uri) c.index-held-place.is ∙ ap (λ k. Some (get_or bs k d).uri) n ∙ sym (lookup_at bs p d within)
+    ap Some c.uri.ensures ∙ ap (λ x. Some x.1) c.index-held-place.is ∙ ap (λ k. Some (get_or bs k d).1) n ∙ sym (lookup_at bs p d within)
 
 pub returns-else-place-held : goal.returns-else-place-held
 returns-else-place-held c =

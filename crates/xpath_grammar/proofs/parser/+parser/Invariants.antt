@@ -1,5 +1,6 @@
 use Rattle.std.proofs.Common.{vec_len, length, ◌+◌, ◌*◌, ◌-◌}
-use Rattle.xpath_grammar.specs.Grammar.{AreCuts, rank_of, height, Arguments, Predicates, RelPath, joined, exprs, walk, expr, symbol, form, applied, AreBinary}
+use Rattle.xpath_grammar.specs.Grammar.{Arguments, Predicates, RelPath, joined, exprs, walk, expr}
+use Rattle.xpath_grammar.specs.Cutting.{AreCuts, rank_of, height, symbol, form, applied, AreBinary}
 use Rattle.xpath_grammar.proofs.Remaining.{Remaining, adds}
 use Rattle.xpath_grammar.specs.Tree.{trees_of, walk_of}
 use Rattle.xpath_grammar.proofs.parser.+parser.Given as goal

@@ -1,5 +1,5 @@
 use Rattle.std.proofs.Common.{take, false}
-use Rattle.xpath_grammar.specs.Grammar.{Free}
+use Rattle.xpath_grammar.specs.Cutting.{Free}
 use Rattle.xpath_grammar.proofs.Going.{Scanned}
 use Rattle.xpath_grammar.proofs.scan.first_operator.Given as goal
 

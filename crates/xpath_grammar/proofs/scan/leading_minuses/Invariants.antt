@@ -1,5 +1,5 @@
 use Rattle.std.proofs.Common.{◌≡◌, ◌+◌, ◌-◌, ◌≤◌, length, drop}
-use Rattle.xpath_grammar.specs.Grammar.{minus_len}
+use Rattle.xpath_grammar.specs.Cutting.{minus_len}
 use Rattle.xpath_grammar.proofs.scan.leading_minuses.Given as goal
 
 abbrev pub invariant-loop-count : goal.invariant-loop-count

@@ -1,6 +1,6 @@
 use Rattle.std.proofs.Common.{arith, refl, [], sym, subst}
 use Rattle.std.proofs.lemmas.List.{take_all}
-use Rattle.xpath_grammar.specs.Grammar.{AreCuts, no_more}
+use Rattle.xpath_grammar.specs.Cutting.{AreCuts, no_more}
 use Rattle.xpath_grammar.proofs.Going.{goes_on, finds, keeps}
 use Rattle.xpath_grammar.proofs.scan.operators.Goals as goal
 use Rattle.xpath_grammar.proofs.scan.operators.Goals.{then-is_cut+in_ok-push, else-is_cut}

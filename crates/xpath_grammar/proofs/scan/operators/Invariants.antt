@@ -1,5 +1,5 @@
 use Rattle.std.proofs.Common.{take}
-use Rattle.xpath_grammar.specs.Grammar.{AreCuts}
+use Rattle.xpath_grammar.specs.Cutting.{AreCuts}
 use Rattle.xpath_grammar.proofs.Going.{Scanned}
 use Rattle.xpath_grammar.proofs.scan.operators.Given as goal
 

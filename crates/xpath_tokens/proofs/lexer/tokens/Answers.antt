@@ -1,5 +1,5 @@
 use Rattle.std.proofs.Common.{◌≡◌, ◌≢◌, ◌≤◌, length, take, drop, sym, ◌∙◌, ap, arith}
-use Rattle.xpath_tokens.specs.Tokens.{token_of}
+use Rattle.xpath_tokens.specs.Reading.{token_of}
 use Rattle.xpath_tokens.specs.Words.{word_len}
 use Rattle.xpath_tokens.proofs.Splitting.{lexed_begin, lexed_on, lexed_no_word, lexed_no_token, lexed_end, some_list, empty_list, refused_none, same_fault}
 use Rattle.xpath_tokens.proofs.lexer.tokens.Goals as goal
