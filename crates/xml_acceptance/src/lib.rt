@@ -1,0 +1,4 @@
+//! Which bytes are XML documents, as far as the widths of records (XML 1.0, productions 1, 22, 27 and 39): the nesting of items.
+#![tactic(auto)]
+
+pub mod laws;
