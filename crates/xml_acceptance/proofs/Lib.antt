@@ -4,3 +4,7 @@ pub mod Fronts
 pub mod Places
 pub mod OneAnswer
 pub mod SomeAnswer
+pub mod ByteLemmas
+pub mod AmpersandLemmas
+pub mod Standing
+pub mod EntityLaws
