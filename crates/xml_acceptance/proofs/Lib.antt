@@ -5,3 +5,5 @@ pub mod ByteLemmas
 pub mod AmpersandLemmas
 pub mod Standing
 pub mod EntityLaws
+pub mod RecordLaws
+pub mod SpaceLaws

@@ -1,2 +1,4 @@
 pub mod Machine
 pub mod Ampersands
+pub mod Counts
+pub mod Widths

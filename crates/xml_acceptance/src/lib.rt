@@ -3,3 +3,4 @@
 
 mod entities;
 pub mod laws;
+mod parts;

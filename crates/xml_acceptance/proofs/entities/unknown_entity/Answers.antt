@@ -3,13 +3,10 @@ use Rattle.xml_model.specs.Items.{spelling, Item}
 use Rattle.xml_items.specs.Shown.{item_shown, item_kind}
 use Rattle.xml_items.specs.declared.Item.{Item as ItemShown}
 use Rattle.xml_acceptance.specs.Ampersands.{first, next_ampersand, has_references}
-use Rattle.xml_acceptance.proofs.Standing.{stand}
+use Rattle.xml_acceptance.proofs.Standing.{stand, end_of}
 use Rattle.xml_acceptance.proofs.AmpersandLemmas.{next_stays}
 use Rattle.xml_acceptance.proofs.EntityLaws.{none_before, places_behind, no_places}
 use Rattle.xml_acceptance.proofs.entities.unknown_entity.Goals as goal
-
-end_of : (item : ItemShown) (i : Item) (at : ℕ) → item ≡ item_shown at i → item.span.end ≡ at + length (spelling i)
-end_of item i at e = ap (λ (x : ItemShown). x.span.end) e
 
 kind_of : (item : ItemShown) (i : Item) (at : ℕ) → item ≡ item_shown at i → has_references item.kind ≡ has_references (item_kind i)
 kind_of item i at e = ap (λ (x : ItemShown). has_references x.kind) e
