@@ -7,3 +7,6 @@ pub mod Standing
 pub mod EntityLaws
 pub mod RecordLaws
 pub mod SpaceLaws
+pub mod WidthLemmas
+pub mod WidthLaws
+pub mod WidthItems

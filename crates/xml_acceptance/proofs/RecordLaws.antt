@@ -1,11 +1,11 @@
 -- The number of records of an item.
-use Rattle.std.proofs.Common.{◌≡◌, ℕ, zero, suc, ◌+◌, ◌*◌, ◌<◌, ◌≤◌, Bool, true, false, cond, List, [], ◌∷◌, ◌++◌, length, Option, Some, None, refl, sym, ap, ◌∙◌, arith}
+use Rattle.std.proofs.Common.{◌≡◌, ℕ, zero, suc, ◌+◌, ◌*◌, ◌≤◌, Bool, true, cond, List, [], ◌∷◌, ◌++◌, length, Option, Some, None, refl, sym, ap, arith}
 use Rattle.std.specs.Prelude.{nat_lt, codes, option_to_list}
 use Rattle.std.proofs.lemmas.List.{length-append}
 use Rattle.std.proofs.lemmas.Bool.{lt-ltb}
 use Rattle.xml_model.specs.Items.{Attribute, Declaration, Tag, Leaf, Item, leaf, start_tag, empty_tag, end_tag, written, written_attribute, written_attributes, written_option, before_value, written_pieces, quote_char, meets, spelling}
 use Rattle.xml_model.specs.Chars.{size}
-use Rattle.xml_model.specs.Records.{Token, attributes_tokens, attributes_place, declaration_part_tokens, declaration_attributes, leaf_tokens, depth_at}
+use Rattle.xml_model.specs.Records.{attributes_tokens, attributes_place, declaration_part_tokens, declaration_attributes, leaf_tokens, depth_at}
 use Rattle.xml_items.specs.Shown.{item_kind}
 use Rattle.xml_items.specs.declared.ItemKind.{ItemKind}
 use Rattle.xml_items.specs.AttributeList.{item_attributes}

@@ -4,3 +4,4 @@
 mod entities;
 pub mod laws;
 mod parts;
+mod widths;
