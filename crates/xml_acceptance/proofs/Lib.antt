@@ -10,3 +10,4 @@ pub mod SpaceLaws
 pub mod WidthLemmas
 pub mod WidthLaws
 pub mod WidthItems
+pub mod EncodingLaws

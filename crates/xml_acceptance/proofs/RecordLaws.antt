@@ -3,7 +3,7 @@ use Rattle.std.proofs.Common.{◌≡◌, ℕ, zero, suc, ◌+◌, ◌*◌, ◌�
 use Rattle.std.specs.Prelude.{nat_lt, codes, option_to_list}
 use Rattle.std.proofs.lemmas.List.{length-append}
 use Rattle.std.proofs.lemmas.Bool.{lt-ltb}
-use Rattle.xml_model.specs.Items.{Attribute, Declaration, Tag, Leaf, Item, leaf, start_tag, empty_tag, end_tag, written, written_attribute, written_attributes, written_option, before_value, written_pieces, quote_char, meets, spelling}
+use Rattle.xml_model.specs.Items.{Attribute, Declaration, Tag, Leaf, Item, leaf, start_tag, empty_tag, end_tag, written, written_attribute, written_attributes, written_option, before_value, written_pieces, quote_char, meets, spelling, begins_at}
 use Rattle.xml_model.specs.Chars.{size}
 use Rattle.xml_model.specs.Records.{attributes_tokens, attributes_place, declaration_part_tokens, declaration_attributes, leaf_tokens, depth_at}
 use Rattle.xml_items.specs.Shown.{item_kind}
@@ -11,7 +11,7 @@ use Rattle.xml_items.specs.declared.ItemKind.{ItemKind}
 use Rattle.xml_items.specs.AttributeList.{item_attributes}
 use Rattle.xml_acceptance.specs.Machine.{item_tokens}
 use Rattle.xml_acceptance.specs.Counts.{record_count}
-use Rattle.xml_acceptance.proofs.Standing.{spelled, long, written_pos}
+use Rattle.xml_acceptance.proofs.Standing.{spelled, long, written_pos, stand}
 
 attributes_count : (depth at : ℕ) (xs : List Attribute) → length (attributes_tokens depth at xs) ≡ 2 * length xs
 attributes_count depth at [] = refl
@@ -98,3 +98,21 @@ written_bound level at (leaf (Leaf.doctype d)) m = written_pos (leaf (Leaf.docty
 
 pub count_bound : (level at : ℕ) (i : Item) → meets i ≡ true → length (item_tokens level at i) ≤ length (spelling i)
 count_bound level at i m = omega (arith, written_bound level at i m, spelled i, long (written i))
+
+pub count_within : (bytes : List ℕ) (level at : ℕ) (i : Item) → begins_at bytes at i ≡ true → length (item_tokens level at i) ≤ length (spelling i)
+count_within bytes level at i b = count_bound level at i (stand bytes at i b).meets
+
+attributes_written : (i : Item) → 2 * length (item_attributes i) ≤ length (written i)
+attributes_written (start_tag t) = omega (arith, tag_long t (codes ">"))
+attributes_written (empty_tag t) = omega (arith, tag_long t (codes "/>"))
+attributes_written (end_tag n s) = omega arith
+attributes_written (leaf (Leaf.text ps)) = omega arith
+attributes_written (leaf (Leaf.cdata cs)) = omega arith
+attributes_written (leaf (Leaf.comment cs)) = omega arith
+attributes_written (leaf (Leaf.instruction x)) = omega arith
+attributes_written (leaf (Leaf.declaration d)) = parts_long d
+attributes_written (leaf (Leaf.doctype d)) = omega arith
+
+-- and at most half as many attributes
+pub attributes_within : (bytes : List ℕ) (at : ℕ) (i : Item) → begins_at bytes at i ≡ true → 2 * length (item_attributes i) ≤ length bytes
+attributes_within bytes at i b = omega (arith, attributes_written i, spelled i, long (written i), (stand bytes at i b).within)

@@ -15,7 +15,7 @@ use Rattle.xml_chars.proofs.StandLemmas.{size-append}
 use Rattle.xml_items.specs.Shown.{item_kind, item_shown, item_name, item_content}
 use Rattle.xml_items.specs.declared.Item.{Item as ItemShown}
 use Rattle.xml_items.specs.AttributeList.{attributes_shown, item_attributes, has_attributes}
-use Rattle.xml_items.proofs.SpanLemmas.{size_xml}
+use Rattle.xml_items.proofs.SpanLemmas.{size_xml, size_slash}
 use Rattle.xml_items.proofs.DeclarationLaws.{declared}
 use Rattle.xml_acceptance.specs.Machine.{item_tokens}
 use Rattle.xml_acceptance.specs.Widths.{span_len, span_bytes, InBytes, AttributesInBytes, wide_token, wide_target, wide_name, wide_attributes, wide_by}
@@ -67,13 +67,20 @@ tag_stand bytes at i t close s e =
     subst (λ (p : ℕ). AttributesStand bytes p t.attributes) (tag_place at t.name)
     (stand_by bytes at i (60 ∷ t.name) (t.space ++ close) t.attributes s (e ∙ tag_split t.name (written_attributes t.attributes) t.space close))
 
+size_nil : size [] ≡ 0
+unfolding size
+size_nil = refl
+
+end_name : (bytes : List ℕ) (at : ℕ) (n x : List ℕ) → Stand bytes at (end_tag n x) → at + 2 + size n ≤ length bytes
+end_name bytes at n x s = omega (arith, s.within, spelled (end_tag n x), size-append (codes "</" ++ n ++ x) (codes ">"), size-append (codes "</" ++ n) x, size-append (codes "</") n, size_slash)
+
 pub item_stand : (bytes : List ℕ) (at : ℕ) (i : Item) → Stand bytes at i → has_attributes (item_kind i) ≡ true → AttributesStand bytes (item_content at i).start (item_attributes i)
 item_stand bytes at (start_tag t) s k = tag_stand bytes at (start_tag t) t (codes ">") s refl
 item_stand bytes at (empty_tag t) s k = tag_stand bytes at (empty_tag t) t (codes "/>") s refl
 item_stand bytes at (leaf (Leaf.declaration d)) s k =
     subst (λ (p : ℕ). AttributesStand bytes (at + p) (declaration_attributes d)) size_xml
     (stand_by bytes at (leaf (Leaf.declaration d)) (codes "<?xml") (d.space ++ codes "?>") (declaration_attributes d) s (declaration_split d))
-item_stand bytes at (end_tag n x) s k = absurd (false≢true k)
+item_stand bytes at (end_tag n x) s k = record { rest = drop (at + 2 + size n) bytes; whole = refl; within = omega (arith, end_name bytes at n x s, size_nil) }
 item_stand bytes at (leaf (Leaf.text x)) s k = absurd (false≢true k)
 item_stand bytes at (leaf (Leaf.cdata x)) s k = absurd (false≢true k)
 item_stand bytes at (leaf (Leaf.comment x)) s k = absurd (false≢true k)
@@ -98,7 +105,7 @@ pub item_name_in : (bytes : List ℕ) (at : ℕ) (i : Item) → Stand bytes at i
 item_name_in bytes at (start_tag t) s k = tag_in bytes at (start_tag t) t.name (written_attributes t.attributes ++ (t.space ++ codes ">")) s (name_split t.name (written_attributes t.attributes) t.space (codes ">"))
 item_name_in bytes at (empty_tag t) s k = tag_in bytes at (empty_tag t) t.name (written_attributes t.attributes ++ (t.space ++ codes "/>")) s (name_split t.name (written_attributes t.attributes) t.space (codes "/>"))
 item_name_in bytes at (leaf (Leaf.declaration d)) s k = record { order = omega arith; within = omega (arith, s.within) }
-item_name_in bytes at (end_tag n x) s k = absurd (false≢true k)
+item_name_in bytes at (end_tag n x) s k = record { order = omega arith; within = end_name bytes at n x s }
 item_name_in bytes at (leaf (Leaf.text x)) s k = absurd (false≢true k)
 item_name_in bytes at (leaf (Leaf.cdata x)) s k = absurd (false≢true k)
 item_name_in bytes at (leaf (Leaf.comment x)) s k = absurd (false≢true k)

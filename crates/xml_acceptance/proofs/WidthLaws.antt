@@ -1,5 +1,5 @@
 -- The first record of an item that is too wide, by spans in the bytes.
-use Rattle.std.proofs.Common.{◌≡◌, ℕ, ◌+◌, ◌-◌, ◌≤◌, Bool, true, false, cond, inl, inr, List, [], ◌∷◌, ◌++◌, length, drop, Option, Some, None, refl, sym, ap, ◌∙◌, arith, lit<, append_assoc}
+use Rattle.std.proofs.Common.{◌≡◌, ℕ, ◌+◌, ◌-◌, ◌≤◌, Bool, true, false, cond, inl, inr, List, [], ◌∷◌, ◌++◌, length, drop, Option, Some, None, refl, sym, ap, subst, ◌∙◌, arith, lit<, append_assoc}
 use Rattle.std.specs.Prelude.{codes, ◌||◌, ◌==◌, not, nat_lt, option_to_list}
 use Rattle.std.specs.Option.{option_or}
 use Rattle.std.specs.List.{list_all}
@@ -132,16 +132,25 @@ behind bytes w z rest at e =
     ap (λ (k : ℕ). drop k bytes) place ∙ sym (drop-drop (length (encodes w)) at bytes)
     ∙ ap (drop (length (encodes w))) (e ∙ ap (λ (l : List ℕ). l ++ rest) (encodes-append w z) ∙ append_assoc (encodes w) (encodes z) rest) ∙ drop_at (encodes w) (encodes z ++ rest) (length (encodes w)) refl
 
-stand_next : (bytes : List ℕ) (at : ℕ) (a : Attribute) (xs : List Attribute) → AttributesStand bytes at (a ∷ xs) → AttributesStand bytes (at + size (written_attribute a)) xs
+pub stand_next : (bytes : List ℕ) (at : ℕ) (a : Attribute) (xs : List Attribute) → AttributesStand bytes at (a ∷ xs) → AttributesStand bytes (at + size (written_attribute a)) xs
 stand_next bytes at a xs s = record {
   rest = s.rest;
   whole = behind bytes (written_attribute a) (written_attributes xs) s.rest at s.whole;
   within = omega (arith, s.within, size-append (written_attribute a) (written_attributes xs));
 }
 
-stand_name : (bytes : List ℕ) (at : ℕ) (a : Attribute) (xs : List Attribute) → AttributesStand bytes at (a ∷ xs) → span_bytes bytes (span_from (at + size a.space) a.name) ≡ encodes a.name
+pub stand_name : (bytes : List ℕ) (at : ℕ) (a : Attribute) (xs : List Attribute) → AttributesStand bytes at (a ∷ xs) → span_bytes bytes (span_from (at + size a.space) a.name) ≡ encodes a.name
 stand_name bytes at a xs s =
     middle bytes a.space a.name (attribute_tail a ++ written_attributes xs) s.rest at (s.whole ∙ ap (λ (l : List ℕ). encodes l ++ s.rest) (attribute_split a (written_attributes xs)))
+
+pub stand_value : (bytes : List ℕ) (at : ℕ) (a : Attribute) (xs : List Attribute) → AttributesStand bytes at (a ∷ xs) → span_bytes bytes (span_from (at + size a.space + size (before_value a)) (written_pieces a.value)) ≡ encodes (written_pieces a.value)
+stand_value bytes at a xs s =
+    let w = a.space ++ before_value a in
+    let v = written_pieces a.value in
+    let q = quote_char a.quote ∷ [] in
+    let place : at + size w ≡ at + size a.space + size (before_value a) = omega (arith, size-append a.space (before_value a)) in
+    let split : written_attribute a ++ written_attributes xs ≡ w ++ (v ++ (q ++ written_attributes xs)) = append_assoc (w ++ v) q (written_attributes xs) ∙ append_assoc w v (q ++ written_attributes xs) in
+    subst (λ (p : ℕ). span_bytes bytes (span_from p v) ≡ encodes v) place (middle bytes w v (q ++ written_attributes xs) s.rest at (s.whole ∙ ap (λ (l : List ℕ). encodes l ++ s.rest) split))
 
 -- the parts of an attribute are no longer than the whole
 pub name_within : (a : Attribute) → size a.space + size a.name ≤ size (written_attribute a)

@@ -2,3 +2,4 @@ pub mod Machine
 pub mod Ampersands
 pub mod Counts
 pub mod Widths
+pub mod Encodings

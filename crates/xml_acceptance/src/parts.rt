@@ -7,12 +7,12 @@ ghost use Rattle.xml_model.specs.Chars.{is_space};
 ghost use Rattle.xml_model.specs.Items.{Piece, Item as ModelItem, leaf, text, begins_at};
 ghost use Rattle.xml_model.specs.Nest.{is_misc};
 ghost use Rattle.xml_items.specs.declared.ItemKind.TheVariants as kinds;
-ghost use Rattle.xml_items.specs.Shown.{item_kind, item_shown, IsItemAt};
+ghost use Rattle.xml_items.specs.Shown.{item_shown, IsItemAt};
 ghost use Rattle.xml_items.specs.AttributeList.{item_attributes};
 ghost use Rattle.xml_acceptance.specs.Counts.{record_count};
 ghost use Rattle.xml_acceptance.specs.Machine.{item_tokens};
 
-use xml_items::{Item, ItemKind};
+use xml_items::{Counted, Item, ItemKind};
 
 fn record_count(kind: ItemKind, attributes: u32, inside: bool) -> u32
     requires { attributes < 2 ^ 30 }
@@ -28,13 +28,13 @@ fn record_count(kind: ItemKind, attributes: u32, inside: bool) -> u32
     }
 }
 
-/// The number of records of an item with so many attributes, or parts of the XML declaration, where an element holds it or
-/// none does.
-pub fn records_of(item: Item, attributes: u32, inside: bool) -> u32
-    requires { attributes < 2 ^ 30 }
-    ensures { (i : ModelItem) (level at : ℕ) → item.kind ≡ item_kind i → attributes ≡ length (item_attributes i) → inside ≡ nat_lt 0 level → result ≡ length (item_tokens level at i) }
+/// The number of records of the item, where an element holds it or none does. End tags have none, and a text that no
+/// element holds has none.
+pub fn records_of(counted: Counted, inside: bool) -> u32
+    requires { counted.attributes < 2 ^ 30 }
+    ensures { (i : ModelItem) (level at : ℕ) → counted.item ≡ item_shown at i → counted.attributes ≡ length (item_attributes i) → inside ≡ nat_lt 0 level → result ≡ length (item_tokens level at i) }
 {
-    record_count(item.kind, attributes, inside)
+    record_count(counted.item.kind, counted.attributes, inside)
 }
 
 /// Whether the byte is white space (XML 1.0, production 3).
