@@ -27,7 +27,7 @@ all_places p [] h = refl
 all_places p (x ∷ xs) h = and_from (p x) _ (h 0 (omega arith)) (all_places p xs (λ k lt. h (suc k) (omega arith)))
 
 -- a character that passes has bytes that pass, where only ASCII fails
-one_passes : (p : ℕ → Bool) → ((b : ℕ) → p b ≡ false → b < 128) → (c : ℕ) → p c ≡ true → list_all p (encode c) ≡ true
+pub one_passes : (p : ℕ → Bool) → ((b : ℕ) → p b ≡ false → b < 128) → (c : ℕ) → p c ≡ true → list_all p (encode c) ≡ true
 one_passes p low c h = all_places p (encode c) (λ k lt. true_from_ne_false _ (λ f.
     let at : get_or (encode c ++ []) k 0 ≡ get_or (encode c) k 0 = get_or_append_left (encode c) [] 0 k lt in
     let b : get_or (encode c ++ []) k 0 < 128 = omega (arith, low (get_or (encode c) k 0) f) in

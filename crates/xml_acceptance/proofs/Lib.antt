@@ -8,3 +8,9 @@ pub mod ByteLemmas
 pub mod AmpersandLemmas
 pub mod Standing
 pub mod EntityLaws
+pub mod RecordLaws
+pub mod SpaceLaws
+pub mod WidthLemmas
+pub mod WidthLaws
+pub mod WidthItems
+pub mod EncodingLaws

@@ -8,6 +8,8 @@ use Rattle.std.proofs.lemmas.Str.{length-le-encodes}
 use Rattle.xml_model.specs.Chars.{size, begins, lacks}
 use Rattle.xml_model.specs.Items.{Leaf, Item, leaf, start_tag, empty_tag, end_tag, written, written_pieces, meets, meets_piece, spelling, begins_at, ends_well, may_stand, first_place, is_nil}
 use Rattle.xml_chars.proofs.Readers.{begins_split}
+use Rattle.xml_items.specs.Shown.{item_shown}
+use Rattle.xml_items.specs.declared.Item.{Item as ItemShown}
 
 pub long : (cs : List ℕ) → length cs ≤ size cs
 unfolding size
@@ -63,3 +65,6 @@ part_of bytes w v rest at from n whole e l =
   where
     back : drop (length w) ((w ++ v) ++ rest) ≡ v ++ rest
     back = ap (drop (length w)) (Rattle.std.proofs.lemmas.List.append_assoc w v rest) ∙ Rattle.std.proofs.lemmas.List.drop_at w (v ++ rest) (length w) refl
+
+pub end_of : (found : ItemShown) (i : Item) (at : ℕ) → found ≡ item_shown at i → found.span.end ≡ at + length (spelling i)
+end_of found i at e = ap (λ (x : ItemShown). x.span.end) e
