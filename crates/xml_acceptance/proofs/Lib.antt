@@ -1,0 +1,16 @@
+pub mod Nests
+pub mod Tokens
+pub mod Fronts
+pub mod Places
+pub mod OneAnswer
+pub mod SomeAnswer
+pub mod ByteLemmas
+pub mod AmpersandLemmas
+pub mod Standing
+pub mod EntityLaws
+pub mod RecordLaws
+pub mod SpaceLaws
+pub mod WidthLemmas
+pub mod WidthLaws
+pub mod WidthItems
+pub mod EncodingLaws

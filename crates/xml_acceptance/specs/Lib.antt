@@ -1,0 +1,6 @@
+pub mod Machine
+pub mod Laws
+pub mod Ampersands
+pub mod Counts
+pub mod Widths
+pub mod Encodings
