@@ -1,9 +1,9 @@
-mod Fields
-mod Unpacked
-mod Shown
+pub mod Fields
+pub mod Unpacked
+pub mod Shown
 pub mod Fitting
-mod Steps
-mod Begins
+pub mod Steps
+pub mod Begins
 pub mod Nodes
 pub mod Owners
 pub mod Same

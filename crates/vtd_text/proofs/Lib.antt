@@ -1,0 +1,12 @@
+mod EntityLemmas
+mod PieceLemmas
+mod Shown
+mod JoinedLemmas
+mod SliceLemmas
+mod Standing
+mod Function
+mod Leaves
+mod Written
+mod NodeFacts
+mod NameFacts
+mod CharsLemmas

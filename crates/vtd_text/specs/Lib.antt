@@ -1,0 +1,4 @@
+pub mod Tokens
+pub mod Joined
+pub mod Resolved
+pub mod NameRecords

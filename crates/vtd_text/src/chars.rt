@@ -1,0 +1,151 @@
+//! The code points of a text, resolved, one after another. No call takes memory.
+#![tactic(auto)]
+
+ghost use Rattle.std.specs.Prelude.{◌≡◌, ℕ, suc, ◌+◌, ◌-◌, ◌<◌, ◌≤◌, List, [], ◌∷◌, ◌++◌, length, take, drop, MatchOption, IsSome};
+ghost use Rattle.std.specs.Iterator.{YieldsFirst, item_count};
+ghost use Rattle.std.specs.Str.{chars};
+ghost use Rattle.xml_model.specs.Content.{content, value_content};
+ghost use Rattle.xml_model.specs.Items.{Attribute};
+ghost use Rattle.xml_model.specs.Nest.{Forest};
+ghost use Rattle.xml_model.specs.Records.{Token};
+ghost use Rattle.xml_model.specs.Scan.{record_at};
+ghost use Rattle.xml_model.specs.Tree.{Entry, Stands};
+ghost use Rattle.vtd_words.specs.Lists.{list_of};
+ghost use Rattle.vtd_words.specs.Table.{IsNestOf, IsNodeOf, Shows, nodes_of};
+ghost use Rattle.vtd_text.specs.Joined.{Joined};
+ghost use Rattle.vtd_text.specs.NameRecords.{IsDeclaration, IsNameOf};
+ghost use Rattle.vtd_text.specs.Resolved.{IsRecord, IsResolved, IsRow};
+
+use crate::row::{Row, parts_at, text_of};
+use crate::token::{Rule, TokenChars};
+use std::marker::Model;
+use vtd_words::{Part, Table, Words};
+use xml_model::{Kind, Node};
+
+/// The code points that are left of a text, resolved: line ends, references, the white space of attribute values, and CDATA
+/// sections beside texts (XML 1.0, sections 2.11, 3.3.3, 4.1 and 4.6). Contracts see the list of them. Nothing is copied.
+#[derive(Drop)]
+pub struct Chars<'a, W: Words> {
+    row: Row<'a, W>,
+}
+
+impl<'a, W: Words> Model for Chars<'a, W> {
+    ghost use Rattle.std.specs.Prelude.{List, ℕ};
+    ghost use Rattle.vtd_text.specs.Joined.{left_of};
+    ghost use Rattle.vtd_text.specs.Resolved.{HasLeft};
+
+    ghost Value = { List ℕ };
+
+    ghost view = { λ s. left_of s.row.bytes.now (W.lists s.row.words.now).records s.row.token.rule s.row.token.text.now s.row.at s.row.past };
+
+    ghost invariant = { λ s. HasLeft s.row.bytes.now (W.lists s.row.words.now).records s.row.token.rule s.row.token.text.now s.row.at s.row.past };
+}
+
+/// The index behind that of a record, where there is one.
+fn behind<W: Words>(words: &W, at: u32) -> u32
+    requires { at + 1 < length (list_of Part.Records (W.lists words.now)) }
+    ensures { result ≡ at + 1 }
+{
+    let records = words.len(Part::Records);
+    prove!(at < records);
+    at + 1
+}
+
+impl<'a, W: Words> Chars<'a, W> {
+    /// The code points of a node's string-value (XPath 1.0, section 5): for the root and an element those of all texts in it,
+    /// in document order.
+    pub fn of(table: &Table<'a, W>, node: Node) -> Chars<'a, W>
+        requires { IsNodeOf table.now.bytes (W.lists table.now.words) node }
+        ensures { (nest : Forest) → IsNestOf table.now.bytes (W.lists table.now.words) nest →
+            (e : Entry) → Stands node.kind node.at e (nodes_of table.now.bytes nest) → result ≡ content e.what }
+    {
+        let bytes = table.bytes();
+        let words = table.words();
+        match node.kind {
+            Kind::Root | Kind::Element | Kind::Text => Chars::of_row(
+                bytes,
+                words,
+                node.at,
+                table.end_of(node),
+            ),
+            Kind::Attribute => Chars::of_record(bytes, words, Rule::Value, behind(words, node.at)),
+            Kind::Comment => Chars::of_record(bytes, words, Rule::Literal, node.at),
+            Kind::Instruction => Chars::of_record(
+                bytes,
+                words,
+                Rule::Literal,
+                behind(words, node.at),
+            ),
+        }
+    }
+
+    /// The code points of the value of a declaration of a namespace, by the index of the record of its name, which has the
+    /// type 3 (Namespaces in XML 1.0, section 2); its value is resolved as that of an attribute.
+    pub fn of_declaration(table: &Table<'a, W>, at: u32) -> Chars<'a, W>
+        requires { IsDeclaration table.now.bytes (W.lists table.now.words) at }
+        ensures { (nest : Forest) → IsNestOf table.now.bytes (W.lists table.now.words) nest →
+            (a : Attribute) → IsNameOf table.now.bytes nest at a → result ≡ value_content a.value }
+    {
+        let words = table.words();
+        Chars::of_record(table.bytes(), words, Rule::Value, behind(words, at))
+    }
+
+    /// Takes code points that stand in the document as they are: those up to the next that does not, or to the end of a text or
+    /// of a CDATA section. There may be none.
+    pub(crate) fn next_plain(&mut self) -> &'a str
+        ensures { self.old ≡ chars result.now ++ self.new }
+    {
+        self.row.next_plain()
+    }
+
+    /// The code points of the texts and CDATA sections among the records from one on, below another.
+    fn of_row(bytes: &'a [u8], words: &'a W, at: u32, past: u32) -> Chars<'a, W>
+        requires within { past ≤ length (list_of Part.Records (W.lists words.now)) }
+        requires row { IsRow bytes.now (list_of Part.Records (W.lists words.now)) at past }
+        ensures { (rs : List Token) → Shows (list_of Part.Records (W.lists words.entry.now)) rs →
+            (content : List ℕ) → Joined bytes.entry.now (take (past - at) (drop at rs)) content → result ≡ content }
+    {
+        let row = Row {
+            bytes,
+            words,
+            token: TokenChars {
+                text: "",
+                rule: Rule::Text,
+            },
+            at,
+            past,
+        };
+        Chars { row }
+    }
+
+    /// The code points of one record, by a rule.
+    fn of_record(bytes: &'a [u8], words: &'a W, rule: Rule, at: u32) -> Chars<'a, W>
+        requires within { at < length (list_of Part.Records (W.lists words.now)) }
+        requires record { IsRecord bytes.now (list_of Part.Records (W.lists words.now)) rule at }
+        ensures { (rs : List Token) → Shows (list_of Part.Records (W.lists words.entry.now)) rs →
+            (content : List ℕ) → IsResolved bytes.entry.now rule (record_at at rs) content → result ≡ content }
+    {
+        let text = text_of(bytes, parts_at(words, at));
+        let row = Row {
+            bytes,
+            words,
+            token: TokenChars { text, rule },
+            at: 0,
+            past: 0,
+        };
+        Chars { row }
+    }
+}
+
+impl<'a, W: Words> Iterator for Chars<'a, W> {
+    type Item = char;
+
+    ghost next_gives = { YieldsFirst (λ s. s) };
+
+    ghost remaining = { item_count (λ s. s) };
+
+    /// The next code point; `None` exactly at the end.
+    fn next(&mut self) -> Option<char> {
+        self.row.next()
+    }
+}

@@ -1,0 +1,12 @@
+//! Resolved texts: the characters of a node's string-value, with line ends, references, CDATA sections and the white space of
+//! attribute values resolved (XML 1.0, sections 2.11, 3.3.3 and 4.6). Nothing is copied.
+#![tactic(auto)]
+
+mod chars;
+mod entities;
+mod row;
+mod texts;
+mod token;
+
+pub use chars::Chars;
+pub use texts::equals;
