@@ -1,0 +1,9 @@
+pub mod Shown
+pub mod SpelledLemmas
+pub mod StandingLemmas
+pub mod FaultLemmas
+pub mod NodeLemmas
+pub mod ChainLemmas
+pub mod OpenLemmas
+pub mod DeclarationLemmas
+pub mod RepeatLemmas

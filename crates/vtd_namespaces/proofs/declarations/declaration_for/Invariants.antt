@@ -1,0 +1,13 @@
+use Rattle.std.proofs.Common.{◌≡◌, ℕ, List, length}
+use Rattle.std.specs.Prelude.{encode_utf8_all}
+use Rattle.xml_model.specs.Nest.{Forest}
+use Rattle.xml_model.specs.Tree.{Holder}
+use Rattle.vtd_words.specs.Table.{IsNestOf, nodes_of}
+use Rattle.vtd_namespaces.specs.Scope.{Chain, Opened}
+use Rattle.vtd_namespaces.proofs.DeclarationLemmas.{Left}
+use Rattle.vtd_namespaces.proofs.declarations.declaration_for.Given as goal
+
+abbrev pub invariant-loop-depth : goal.invariant-loop-depth
+invariant-loop-depth g l =
+    (nest : Forest) → IsNestOf l.bytes (g.W.Words.lists l.words) nest → (hs : List Holder) → Chain (nodes_of l.bytes nest) hs → Opened l.open_tags hs → length hs ≡ l.count →
+    (p : List ℕ) → l.prefix ≡ encode_utf8_all p → Left (nodes_of l.bytes nest) l.open_tags hs p l.depth

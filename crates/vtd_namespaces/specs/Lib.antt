@@ -1,0 +1,5 @@
+pub mod Standing
+pub mod Faults
+pub mod Filter
+pub mod Repeats
+pub mod Scope

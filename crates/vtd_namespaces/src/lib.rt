@@ -1,0 +1,8 @@
+//! Names as Namespaces in XML 1.0 has them: which names of a document repeat or offend, and prefixes, local parts, URIs and
+//! name tests of its nodes. No call takes memory.
+#![tactic(auto)]
+
+mod declarations;
+mod filter;
+mod records;
+mod repeats;
