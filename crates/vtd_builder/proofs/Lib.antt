@@ -1,11 +1,7 @@
-mod Texts
-mod Nests
-mod Tokens
-mod Spelled
-mod Readers
-mod Bridge
-mod Next
-mod Stacks
-pub mod Walks
-mod Passes
-mod Fronts
+pub mod Colons
+pub mod InParts
+pub mod Placed
+pub mod Recorded
+pub mod Counted
+pub mod Going
+pub mod Refused

@@ -1,6 +1,2 @@
-pub mod PlainBytes
-pub mod Plain
-pub mod Reading
-pub mod Machine
-pub mod Open
-pub mod Walk
+pub mod Offered
+pub mod Found

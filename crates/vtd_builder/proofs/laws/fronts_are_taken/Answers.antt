@@ -1,5 +1,0 @@
-use Rattle.vtd_builder.proofs.Fronts.{begins_taken, taken_begins}
-use Rattle.vtd_builder.proofs.laws.fronts_are_taken.Goals as goal
-
-pub returns : goal.returns
-returns c = λ items. (begins_taken items, λ t. taken_begins items t.0 t.1)

@@ -1,0 +1,76 @@
+-- The records of an item by the places that are found (this project's own).
+use Rattle.std.specs.Prelude.{◌≡◌, ℕ, zero, suc, ◌+◌, ◌-◌, ◌≤◌, true, List, [], ◌∷◌, ◌++◌, length, take, drop}
+use Rattle.xml_model.specs.declared.Span.{Span}
+use Rattle.xml_model.specs.Chars.{prefix_of}
+use Rattle.xml_model.specs.Items.{Item, begins_at}
+use Rattle.xml_model.specs.Records.{Token, name_token, depth_at, text_tokens}
+use Rattle.xml_items.specs.declared.ItemKind.{ItemKind}
+use Rattle.xml_items.specs.declared.ItemKind.TheVariants as kinds
+use Rattle.xml_items.specs.declared.Item.{Item as ItemShown}
+use Rattle.xml_items.specs.declared.AttributeItem.{AttributeItem}
+use Rattle.xml_items.specs.Shown.{item_shown}
+
+-- the bytes of a span
+abbrev pub bytes_of : List ℕ → Span → List ℕ
+bytes_of bytes span = take (span.end - span.start) (drop span.start bytes)
+
+-- a span of the bytes
+pub record IsWithin (bytes : List ℕ) (span : Span) : Type 0 where
+  pub ordered : span.start ≤ span.end
+  pub within : span.end ≤ length bytes
+
+-- the record of a span that is no name
+abbrev pub plain_span : ℕ → ℕ → Span → Token
+plain_span token depth span = record { token = token; depth = depth; prefix = 0; len = span.end - span.start; offset = span.start }
+
+-- the record of a name. A colon is one byte, so the bytes before the first one are those of the prefix
+abbrev pub named_span : List ℕ → ℕ → ℕ → Span → Token
+named_span bytes token depth span = record { token = token; depth = depth; prefix = length (prefix_of (bytes_of bytes span)); len = span.end - span.start; offset = span.start }
+
+abbrev pub attribute_found : List ℕ → ℕ → AttributeItem → List Token
+attribute_found bytes depth a = named_span bytes (name_token (bytes_of bytes a.name)) depth a.name ∷ plain_span 4 depth a.value ∷ []
+
+abbrev pub attributes_found : List ℕ → ℕ → List AttributeItem → List Token
+attributes_found bytes depth [] = []
+attributes_found bytes depth (a ∷ others) = attribute_found bytes depth a ++ attributes_found bytes depth others
+
+-- the parts of the XML declaration
+abbrev pub part_found : ℕ → AttributeItem → List Token
+part_found depth a = plain_span 9 depth a.name ∷ plain_span 10 depth a.value ∷ []
+
+abbrev pub parts_found : ℕ → List AttributeItem → List Token
+parts_found depth [] = []
+parts_found depth (a ∷ others) = part_found depth a ++ parts_found depth others
+
+-- the records of an item of a kind, with so many elements open round it
+abbrev pub found_by : ItemKind → List ℕ → ℕ → ItemShown → List AttributeItem → List Token
+found_by kinds.Text bytes level found attributes = text_tokens level (plain_span 5 (depth_at level) found.content)
+found_by kinds.StartTag bytes level found attributes = named_span bytes 0 level found.name ∷ attributes_found bytes level attributes
+found_by kinds.EmptyTag bytes level found attributes = named_span bytes 0 level found.name ∷ attributes_found bytes level attributes
+found_by kinds.EndTag bytes level found attributes = []
+found_by kinds.Comment bytes level found attributes = plain_span 6 (depth_at level) found.content ∷ []
+found_by kinds.Instruction bytes level found attributes = plain_span 7 (depth_at level) found.name ∷ plain_span 8 (depth_at level) found.content ∷ []
+found_by kinds.Cdata bytes level found attributes = plain_span 11 (depth_at level) found.content ∷ []
+found_by kinds.Declaration bytes level found attributes = parts_found (depth_at level) attributes
+found_by kinds.Doctype bytes level found attributes = plain_span 12 (depth_at level) found.content ∷ []
+
+-- how many elements stand open behind an item of a kind
+abbrev pub level_by : ItemKind → ℕ → ℕ
+level_by kinds.StartTag level = level + 1
+level_by kinds.EndTag level = level - 1
+level_by _ level = level
+
+-- the item is found where it begins
+pub record ShowsItem (bytes : List ℕ) (found : ItemShown) (i : Item) : Type 0 where
+  pub begins : begins_at bytes found.span.start i ≡ true
+  pub shown : found ≡ item_shown found.span.start i
+
+-- each place of an attribute is a span
+pub record AreOrdered (a : AttributeItem) : Type 0 where
+  pub name : a.name.start ≤ a.name.end
+  pub value : a.value.start ≤ a.value.end
+
+-- the same, with the name inside the bytes
+pub record HasPlaces (bytes : List ℕ) (a : AttributeItem) : Type 0 where
+  pub name : IsWithin bytes a.name
+  pub value : a.value.start ≤ a.value.end

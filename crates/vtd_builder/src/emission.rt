@@ -1,0 +1,85 @@
+//! The records of an accepted document, handed over in order.
+
+ghost use Rattle.std.specs.Prelude.{◌≡◌, ℕ, ◌+◌, ◌<◌, ◌≤◌, ◌^◌, ◌++◌, ◌↔◌, length, take, Err, IfErr, OnOk};
+ghost use Rattle.xml_model.specs.Items.{first_place};
+ghost use Rattle.xml_model.specs.Nest.{Forest};
+ghost use Rattle.xml_model.specs.Accepted.{Accepted};
+ghost use Rattle.vtd_builder.specs.Offered.{IsFirstRefused, offer, outcome, record_words};
+ghost use Rattle.vtd_builder.specs.Found.{level_by};
+
+use crate::offers::{offer, offer_item};
+use crate::sink::RecordSink;
+use vtd_words::Parts;
+use xml_items::{ItemKind, next_item};
+
+/// The record of the document, which comes first.
+const DOCUMENT: Parts = Parts {
+    token: 13,
+    depth: 255,
+    prefix: 0,
+    length: 0,
+    offset: 0,
+};
+
+/// Where the items begin: behind a byte order mark, which belongs to no item (XML 1.0, section 4.3.3).
+fn first_place(bytes: &[u8]) -> u32
+    ensures { result ≡ first_place bytes.now }
+{
+    if bytes.starts_with(&[0xEF, 0xBB, 0xBF]) {
+        3
+    } else {
+        0
+    }
+}
+
+/// How many elements stand open behind an item.
+fn level_after(kind: ItemKind, level: u32) -> u32
+    requires { level ≤ 256 }
+    ensures { result ≡ level_by kind level }
+{
+    match kind {
+        ItemKind::StartTag => level + 1,
+        ItemKind::EndTag => level.saturating_sub(1),
+        _ => level,
+    }
+}
+
+/// Offers all records, and answers how many there are, or the number of the record that the sink refused.
+fn offer_records<R: RecordSink>(bytes: &[u8], into: &mut R) -> Result<u32, u32>
+    requires size { length bytes.now < 2 ^ 30 }
+    requires accepted { (nest : Forest) × Accepted 6 bytes.now nest }
+    ensures outcome { (nest : Forest) → Accepted 6 bytes.now nest →
+        outcome (R.taken into.new) result ≡ offer (R.refuses into.old) (R.taken into.old) 0 (record_words bytes.now nest) }
+    ensures rest { R.rest into.new ≡ R.rest into.old }
+    ensures test { R.refuses into.new ≡ R.refuses into.old }
+{
+    let mut count = offer(DOCUMENT, 0, into)?;
+    let mut level = 0;
+    let mut at = first_place(bytes);
+    while let Ok(Some(item)) = next_item(bytes, at) {
+        count = offer_item(bytes, item, level, count, into)?;
+        level = level_after(item.kind, level);
+        at = item.span.end;
+    }
+    Ok(count)
+}
+
+/// Hands over the words of all records of an accepted document, in order. It takes no memory.
+///
+/// # Errors
+/// `Err(k)` exactly where the sink refuses record k, behind what it had taken and the records before k; these were then
+/// taken.
+pub fn emit<R: RecordSink>(bytes: &[u8], into: &mut R) -> Result<(), u32>
+    requires size { length bytes.now < 2 ^ 30 }
+    requires accepted { (nest : Forest) × Accepted 6 bytes.now nest }
+    ensures refused { (nest : Forest) → Accepted 6 bytes.now nest →
+        (k : ℕ) → (result ≡ Err k) ↔ IsFirstRefused (R.refuses into.old) (R.taken into.old) (record_words bytes.now nest) k }
+    ensures taken_before { (nest : Forest) → Accepted 6 bytes.now nest →
+        IfErr result (λ k. R.taken into.new ≡ R.taken into.old ++ take k (record_words bytes.now nest)) }
+    ensures taken { (nest : Forest) → Accepted 6 bytes.now nest → OnOk result (R.taken into.new ≡ R.taken into.old ++ record_words bytes.now nest) }
+    ensures rest { R.rest into.new ≡ R.rest into.old }
+    ensures test { R.refuses into.new ≡ R.refuses into.old }
+{
+    offer_records(bytes, into)?;
+    Ok(())
+}

@@ -1,0 +1,35 @@
+//! What a record tells of a name: how long its prefix is, and whether it declares a namespace (Namespaces in XML 1.0,
+//! productions 1 to 3 and 7 to 10). A colon is one byte, and so is each letter of `xmlns`: all is told by the bytes.
+
+ghost use Rattle.std.specs.Prelude.{◌≡◌, ◌≤◌, ◌==◌, length, position};
+ghost use Rattle.xml_model.specs.Chars.{prefix_of};
+ghost use Rattle.xml_model.specs.Records.{declares, name_token};
+
+/// The place of the first colon.
+fn first_colon(name: &[u8]) -> Option<usize>
+    ensures { result ≡ position (λ b. b == 58) name.now }
+{
+    name.iter().position(|b| *b == b':')
+}
+
+/// How many bytes stand before the first colon; 0 where there is no colon.
+pub fn prefix_len(name: &[u8]) -> usize
+    ensures value { result ≡ length (prefix_of name.now) }
+    ensures within { result ≤ length name.now }
+{
+    first_colon(name).unwrap_or(0)
+}
+
+/// Whether the name declares a namespace: it is `xmlns` or begins with `xmlns:`.
+fn declares(name: &[u8]) -> bool
+    ensures { result ≡ declares name.now }
+{
+    name == b"xmlns".as_slice() || name.starts_with(b"xmlns:")
+}
+
+/// The type of the record of an attribute's name: 3 where it declares a namespace, else 2.
+pub fn name_token(name: &[u8]) -> u8
+    ensures { result ≡ name_token name.now }
+{
+    if declares(name) { 3 } else { 2 }
+}
