@@ -2,7 +2,7 @@
 #![tactic(auto)]
 
 ghost use Rattle.std.specs.Prelude.{◌≡◌, ◌≤◌, ◌<◌, ◌+◌, length, option_map, IfSome, codes, true, false};
-ghost use Rattle.std.specs.List.{prefix_len, list_all};
+ghost use Rattle.std.specs.List.{list_all};
 ghost use Rattle.std.specs.Option.{option_copied};
 ghost use Rattle.std.specs.Str.{chars};
 ghost use Rattle.xml_model.specs.Chars.{is_char, begins};
@@ -13,25 +13,11 @@ ghost use Rattle.xml_items.specs.Plain.{is_plain_text, is_plain_value, is_plain_
 ghost use Rattle.xml_items.specs.Reading.{is_literal, read_piece, ends_text, in_text, read_pieces, ends_value, in_value, read_value};
 ghost use Rattle.xml_items.specs.Quotes.{quote_of};
 
-use crate::classes;
+use crate::classes::{plain_char_len, plain_text_len, plain_value_len};
 use xml_chars::references::reference_of;
 use xml_chars::text::{head, step, word_of};
 
-/// The length of the longest front of ASCII Chars that mean themselves in a text.
-#[inline(always)]
-fn plain_text_len(bytes: &[u8]) -> usize
-    ensures value { result ≡ prefix_len is_plain_text bytes.now }
-    ensures within { result ≤ length bytes.now }
-{
-    for (i, b) in bytes.iter().enumerate() {
-        if !classes::is_plain_text(*b) {
-            return i;
-        }
-    }
-    bytes.len()
-}
-
-/// What follows the longest front of ASCII Chars that mean themselves in a text.
+/// What follows the longest front of plain characters of a text.
 #[inline(always)]
 fn after_plain_text(text: &str) -> &str
     ensures rest { chars result.now ≡ after_run is_plain_text (chars text.now) }
@@ -40,21 +26,7 @@ fn after_plain_text(text: &str) -> &str
     text.split_at(plain_text_len(text.as_bytes())).1
 }
 
-/// The length of the longest front of ASCII Chars that mean themselves in a value.
-#[inline(always)]
-fn plain_value_len(bytes: &[u8]) -> usize
-    ensures value { result ≡ prefix_len is_plain_value bytes.now }
-    ensures within { result ≤ length bytes.now }
-{
-    for (i, b) in bytes.iter().enumerate() {
-        if !classes::is_plain_value(*b) {
-            return i;
-        }
-    }
-    bytes.len()
-}
-
-/// What follows the longest front of ASCII Chars that mean themselves in a value.
+/// What follows the longest front of plain characters of a value.
 #[inline(always)]
 pub fn after_plain_value(text: &str) -> &str
     ensures rest { chars result.now ≡ after_run is_plain_value (chars text.now) }
@@ -63,20 +35,7 @@ pub fn after_plain_value(text: &str) -> &str
     text.split_at(plain_value_len(text.as_bytes())).1
 }
 
-/// The length of the longest front of ASCII Chars.
-fn plain_char_len(bytes: &[u8]) -> usize
-    ensures value { result ≡ prefix_len is_plain_char bytes.now }
-    ensures within { result ≤ length bytes.now }
-{
-    for (i, b) in bytes.iter().enumerate() {
-        if !classes::is_plain_char(*b) {
-            return i;
-        }
-    }
-    bytes.len()
-}
-
-/// What follows the longest front of ASCII Chars.
+/// What follows the longest front of plain Chars.
 fn after_plain_char(text: &str) -> &str
     ensures rest { chars result.now ≡ after_run is_plain_char (chars text.now) }
     ensures shorter { length result.now ≤ length text.now }
