@@ -11,3 +11,4 @@ mod NodeFacts
 mod NameFacts
 mod CharsLemmas
 mod TextsLemmas
+mod AppendLemmas
