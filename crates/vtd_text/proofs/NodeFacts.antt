@@ -76,7 +76,7 @@ says_row : (bytes : List ℕ) (what : Thing) (l at : ℕ) → HasRow (kind_of wh
 unfolding content
 says_row bytes (Thing.root first f) l at k s = s
 says_row bytes (Thing.element t inside) l at k s = s.0
-says_row bytes (Thing.text xs) l at k s = s
+says_row bytes (Thing.text xs) l at k s = s.0
 says_row bytes (Thing.attribute a) l at k s = absurd k
 says_row bytes (Thing.comment cs) l at k s = absurd k
 says_row bytes (Thing.instruction i) l at k s = absurd k
@@ -110,9 +110,9 @@ HasRecord _ rule k = ⊥
 
 says_record : (bytes : List ℕ) (what : Thing) (l at : ℕ) (rule : Rule) (k : ℕ) (rest : List Token) → HasRecord (kind_of what) rule k → SaysOf bytes what l at → IsResolved bytes rule (record_at k (records_of what l at ++ rest)) (content what)
 unfolding content
-says_record bytes (Thing.attribute a) l at rule k rest h s = rw (h.0, h.1) s
-says_record bytes (Thing.comment cs) l at rule k rest h s = rw (h.0, h.1) s
-says_record bytes (Thing.instruction i) l at rule k rest h s = rw (h.0, h.1) s
+says_record bytes (Thing.attribute a) l at rule k rest h s = rw (h.0, h.1) s.0
+says_record bytes (Thing.comment cs) l at rule k rest h s = rw (h.0, h.1) s.0
+says_record bytes (Thing.instruction i) l at rule k rest h s = rw (h.0, h.1) s.0
 says_record bytes (Thing.root first f) l at rule k rest h s = absurd h
 says_record bytes (Thing.element t inside) l at rule k rest h s = absurd h
 says_record bytes (Thing.text xs) l at rule k rest h s = absurd h
