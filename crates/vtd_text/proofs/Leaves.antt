@@ -182,15 +182,13 @@ instruction_resolved bytes depth at i s =
 abbrev pub LeafIs : List ℕ → ℕ → ℕ → Leaf → Type 0
 LeafIs bytes l at (text ps) = WrittenIs bytes (plain 5 (depth_at l) (written_pieces ps) at) (written_pieces ps)
 LeafIs bytes l at (cdata cs) = WrittenIs bytes (plain 11 (depth_at l) cs (at + 9)) cs
-LeafIs bytes l at _ = Unit {0}
+LeafIs bytes l at _ = ⊥
 
-pub leaf_is : (bytes : List ℕ) (x : Leaf) (l at : ℕ) → StandsAt bytes at (written_leaf x) → LeafIs bytes l at x
-leaf_is bytes (text ps) l at s = written_at bytes 5 (depth_at l) at (written_pieces ps) s
-leaf_is bytes (cdata cs) l at s = written_at bytes 11 (depth_at l) (at + 9) cs (cdata_stands bytes at cs s)
-leaf_is bytes (Leaf.comment cs) l at s = tt
-leaf_is bytes (Leaf.instruction i) l at s = tt
-leaf_is bytes (declaration v) l at s = tt
-leaf_is bytes (doctype v) l at s = tt
+pub text_is : (bytes : List ℕ) (ps : List Piece) (l at : ℕ) → StandsAt bytes at (written_leaf (text ps)) → LeafIs bytes l at (text ps)
+text_is bytes ps l at s = written_at bytes 5 (depth_at l) at (written_pieces ps) s
+
+pub cdata_is : (bytes : List ℕ) (cs : List ℕ) (l at : ℕ) → StandsAt bytes at (written_leaf (cdata cs)) → LeafIs bytes l at (cdata cs)
+cdata_is bytes cs l at s = written_at bytes 11 (depth_at l) (at + 9) cs (cdata_stands bytes at cs s)
 
 -- ---- tags
 

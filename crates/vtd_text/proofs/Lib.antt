@@ -12,3 +12,4 @@ mod NameFacts
 mod CharsLemmas
 mod TextsLemmas
 mod AppendLemmas
+mod RawFacts

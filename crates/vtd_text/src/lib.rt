@@ -6,9 +6,11 @@ mod append;
 mod chars;
 mod entities;
 mod row;
+mod slices;
 mod texts;
 mod token;
 
 pub use append::append_to;
 pub use chars::Chars;
+pub use slices::raw;
 pub use texts::{equals, equals_str};
