@@ -3,7 +3,7 @@ use Rattle.std.proofs.Common.{◌≡◌, ℕ, zero, suc, ◌+◌, ◌≤◌, Boo
 use Rattle.std.specs.List.{AllByRecursion as Each, list_all}
 use Rattle.std.specs.Str.{IsUtf8, chars}
 use Rattle.std.proofs.lemmas.Bool.{and_parts, and_from, false≢true}
-use lib.Utf8.{encode}
+use lib.Utf8.{encode, encodes}
 use Rattle.xml_model.specs.Chars.{is_char, size, lacks, is_white, is_name, is_blank}
 use Rattle.xml_model.specs.Items.{Piece, literal, entity, decimal, hexadecimal, Quote, Attribute, Tag, Instruction, Leaf, text, cdata, declaration, doctype, quote_char, before_value, written_piece, written_pieces, written_attribute, written_attributes, written_leaf, written_tag, meets_piece, meets_attribute, meets_tag, meets_leaf, is_nil}
 use Rattle.xml_model.specs.Records.{Token, plain, named, name_token, declares, attribute_tokens, attributes_tokens, attributes_place, tag_tokens, declaration_part_tokens, declaration_attributes, depth_at, leaf_tokens}
@@ -80,6 +80,14 @@ pub resolved_at : (bytes : List ℕ) (rule : Rule) (token depth at : ℕ) (ps : 
 resolved_at bytes rule token depth at ps f s =
     let t = slice_is bytes at (written_pieces ps) s in
     record { text = (t.within, t.utf8); resolved = slice_content rule (drop at bytes) ps s.utf8 f s.there }
+
+-- a record is of the bytes of these characters
+pub record WrittenIs (bytes : List ℕ) (r : Token) (w : List ℕ) : Type 0 where
+  pub text : IsText bytes r
+  pub slice : slice_of bytes r ≡ encodes w
+
+pub written_at : (bytes : List ℕ) (token depth at : ℕ) (w : List ℕ) → StandsAt bytes at w → WrittenIs bytes (plain token depth w at) w
+written_at bytes token depth at w s = let t = slice_is bytes at w s in record { text = (t.within, t.utf8); slice = t.bytes_are }
 
 literal_is : (cs : List ℕ) → content_by Literal (map literal cs) ≡ literal_content cs
 unfolding literal_content
@@ -160,18 +168,35 @@ outside_joined bytes (Leaf.instruction i) at p = silent_joined bytes (leaf_token
 outside_joined bytes (declaration v) at p = silent_joined bytes (leaf_tokens 0 at (declaration v)) (parts_silent 255 (at + 5) (declaration_attributes v))
 outside_joined bytes (doctype v) at p = silent_joined bytes (leaf_tokens 0 at (doctype v)) (refl, tt)
 
-pub comment_resolved : (bytes : List ℕ) (depth at : ℕ) (cs : List ℕ) → StandsAt bytes at (written_leaf (Leaf.comment cs)) → IsResolved bytes Literal (plain 6 depth cs (at + 4)) (literal_content cs)
-comment_resolved bytes depth at cs s = literal_at bytes 6 depth (at + 4) cs (comment_stands bytes at cs s)
+pub comment_resolved : (bytes : List ℕ) (depth at : ℕ) (cs : List ℕ) → StandsAt bytes at (written_leaf (Leaf.comment cs)) →
+    IsResolved bytes Literal (plain 6 depth cs (at + 4)) (literal_content cs) × WrittenIs bytes (plain 6 depth cs (at + 4)) cs
+comment_resolved bytes depth at cs s = let t = comment_stands bytes at cs s in (literal_at bytes 6 depth (at + 4) cs t, written_at bytes 6 depth (at + 4) cs t)
 
 pub instruction_resolved : (bytes : List ℕ) (depth at : ℕ) (i : Instruction) → StandsAt bytes at (written_leaf (Leaf.instruction i)) →
-    IsResolved bytes Literal (plain 8 depth i.content (at + 2 + size i.target + size i.space)) (literal_content i.content)
-instruction_resolved bytes depth at i s = literal_at bytes 8 depth (at + 2 + size i.target + size i.space) i.content (instruction_stands bytes at i s)
+    IsResolved bytes Literal (plain 8 depth i.content (at + 2 + size i.target + size i.space)) (literal_content i.content) × WrittenIs bytes (plain 8 depth i.content (at + 2 + size i.target + size i.space)) i.content
+instruction_resolved bytes depth at i s =
+    let t = instruction_stands bytes at i s in
+    (literal_at bytes 8 depth (at + 2 + size i.target + size i.space) i.content t, written_at bytes 8 depth (at + 2 + size i.target + size i.space) i.content t)
+
+-- what the record of a text or of a CDATA section is of
+abbrev pub LeafIs : List ℕ → ℕ → ℕ → Leaf → Type 0
+LeafIs bytes l at (text ps) = WrittenIs bytes (plain 5 (depth_at l) (written_pieces ps) at) (written_pieces ps)
+LeafIs bytes l at (cdata cs) = WrittenIs bytes (plain 11 (depth_at l) cs (at + 9)) cs
+LeafIs bytes l at _ = ⊥
+
+pub text_is : (bytes : List ℕ) (ps : List Piece) (l at : ℕ) → StandsAt bytes at (written_leaf (text ps)) → LeafIs bytes l at (text ps)
+text_is bytes ps l at s = written_at bytes 5 (depth_at l) at (written_pieces ps) s
+
+pub cdata_is : (bytes : List ℕ) (cs : List ℕ) (l at : ℕ) → StandsAt bytes at (written_leaf (cdata cs)) → LeafIs bytes l at (cdata cs)
+cdata_is bytes cs l at s = written_at bytes 11 (depth_at l) (at + 9) cs (cdata_stands bytes at cs s)
 
 -- ---- tags
 
 -- the value of an attribute, if the white space before it stands at a place
 abbrev pub ValueIs : List ℕ → ℕ → ℕ → Attribute → Type 0
-ValueIs bytes depth at a = IsResolved bytes Value (plain 4 depth (written_pieces a.value) (at + size a.space + size (before_value a))) (value_content a.value)
+ValueIs bytes depth at a =
+    IsResolved bytes Value (plain 4 depth (written_pieces a.value) (at + size a.space + size (before_value a))) (value_content a.value)
+    × WrittenIs bytes (plain 4 depth (written_pieces a.value) (at + size a.space + size (before_value a))) (written_pieces a.value)
 
 abbrev pub ValuesAre : List ℕ → ℕ → ℕ → List Attribute → Type 0
 ValuesAre bytes depth at [] = Unit {0}
@@ -182,7 +207,10 @@ value_is bytes depth at a m s =
     let p = and_parts (is_white a.space && is_name a.name && is_blank a.left && is_blank a.right) (list_all (meets_piece (λ c. c == quote_char a.quote)) a.value) m in
     let t : StandsAt bytes at (a.space ++ (before_value a ++ (written_pieces a.value ++ quote_char a.quote ∷ []))) = subst (λ (l : List ℕ). StandsAt bytes at l) (four a.space (before_value a) (written_pieces a.value) (quote_char a.quote ∷ [])) s in
     let u : StandsAt bytes (at + size a.space) (before_value a ++ (written_pieces a.value ++ quote_char a.quote ∷ [])) = stands_right bytes at a.space (before_value a ++ (written_pieces a.value ++ quote_char a.quote ∷ [])) t in
-    resolved_at bytes Value 4 depth (at + size a.space + size (before_value a)) a.value (value_fit (λ c. c == quote_char a.quote) a.value p.1) (stands_middle bytes (at + size a.space) (before_value a) (written_pieces a.value) (quote_char a.quote ∷ []) u)
+    let v : StandsAt bytes (at + size a.space + size (before_value a)) (written_pieces a.value) = stands_middle bytes (at + size a.space) (before_value a) (written_pieces a.value) (quote_char a.quote ∷ []) u in (
+      resolved_at bytes Value 4 depth (at + size a.space + size (before_value a)) a.value (value_fit (λ c. c == quote_char a.quote) a.value p.1) v,
+      written_at bytes 4 depth (at + size a.space + size (before_value a)) (written_pieces a.value) v,
+    )
   where
     four : (a b c d : List ℕ) → a ++ b ++ c ++ d ≡ a ++ (b ++ (c ++ d))
     four a b c d = simp append_assoc

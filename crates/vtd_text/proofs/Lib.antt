@@ -11,3 +11,5 @@ mod NodeFacts
 mod NameFacts
 mod CharsLemmas
 mod TextsLemmas
+mod AppendLemmas
+mod RawFacts

@@ -46,7 +46,7 @@ attribute_at : (bytes : List ℕ) (others : List Attribute) (depth at j : ℕ) (
 attribute_at bytes [] depth at j a more g v = absurd cc
 attribute_at bytes (b ∷ others) depth at zero a more g v =
     let same : b ≡ a = cc in
-    subst (λ (x : Attribute). AttributeAt bytes depth 0 x (attributes_tokens depth at (b ∷ others) ++ more)) same (record { place = at + size b.space; name = refl; value = v.0; within = omega arith })
+    subst (λ (x : Attribute). AttributeAt bytes depth 0 x (attributes_tokens depth at (b ∷ others) ++ more)) same (record { place = at + size b.space; name = refl; value = v.0.0; within = omega arith })
 attribute_at bytes (b ∷ others) depth at (suc j) a more g v =
     let so = attribute_at bytes others depth (at + size (written_attribute b)) j a more g v.1 in
     record { place = so.place; name = so.name; value = so.value; within = omega (arith, so.within) }

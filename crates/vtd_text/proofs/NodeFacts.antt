@@ -39,7 +39,7 @@ part_of whole front mine rest place past s b e =
     let d : drop place whole ≡ mine ++ rest = ap (drop place) (s ∙ append_assoc front mine rest) ∙ drop_at front (mine ++ rest) place b in
     ap (λ (l : List Token). take (past - place) l) d ∙ take_at mine rest (past - place) (sym n)
 
-record_in : (whole front mine rest : List Token) (place k : ℕ) → whole ≡ front ++ mine ++ rest → length front ≡ place → record_at (place + k) whole ≡ record_at k (mine ++ rest)
+pub record_in : (whole front mine rest : List Token) (place k : ℕ) → whole ≡ front ++ mine ++ rest → length front ≡ place → record_at (place + k) whole ≡ record_at k (mine ++ rest)
 record_in whole front mine rest place k s b =
     ap (record_at (place + k)) (s ∙ append_assoc front mine rest) ∙ ap (λ (n : ℕ). record_at (n + k) (front ++ (mine ++ rest))) (sym b) ∙ record_behind front (mine ++ rest) k
 
@@ -55,11 +55,11 @@ nest_readable bytes nest lists at past s i l m = fine_at bytes (records nest (fi
 -- ---- a node
 
 -- the node's records, where they stand
-record Standing (bytes : List ℕ) (rs : List Token) (e : Entry) : Type 0 where
+pub record Standing (bytes : List ℕ) (rs : List Token) (e : Entry) : Type 0 where
   pub says : Says bytes e
   pub stand : RecordsStand rs e
 
-standing : (bytes : List ℕ) (lists : Lists) (nest : Forest) → IsNestOf bytes lists nest → (kind : Kind) (at : ℕ) (e : Entry) → Stands kind at e (nodes_of bytes nest) → Standing bytes (records nest (first_place bytes)) e
+pub standing : (bytes : List ℕ) (lists : Lists) (nest : Forest) → IsNestOf bytes lists nest → (kind : Kind) (at : ℕ) (e : Entry) → Stands kind at e (nodes_of bytes nest) → Standing bytes (records nest (first_place bytes)) e
 standing bytes lists nest s kind at e w = record {
   says = each_at (Says bytes) (all nest (first_place bytes)) e (all_say bytes nest s.accepted.utf8 s.accepted.document) w.0;
   stand = records_of_node nest (first_place bytes) s.accepted.document.nests e w.0;
@@ -76,7 +76,7 @@ says_row : (bytes : List ℕ) (what : Thing) (l at : ℕ) → HasRow (kind_of wh
 unfolding content
 says_row bytes (Thing.root first f) l at k s = s
 says_row bytes (Thing.element t inside) l at k s = s.0
-says_row bytes (Thing.text xs) l at k s = s
+says_row bytes (Thing.text xs) l at k s = s.0
 says_row bytes (Thing.attribute a) l at k s = absurd k
 says_row bytes (Thing.comment cs) l at k s = absurd k
 says_row bytes (Thing.instruction i) l at k s = absurd k
@@ -110,9 +110,9 @@ HasRecord _ rule k = ⊥
 
 says_record : (bytes : List ℕ) (what : Thing) (l at : ℕ) (rule : Rule) (k : ℕ) (rest : List Token) → HasRecord (kind_of what) rule k → SaysOf bytes what l at → IsResolved bytes rule (record_at k (records_of what l at ++ rest)) (content what)
 unfolding content
-says_record bytes (Thing.attribute a) l at rule k rest h s = rw (h.0, h.1) s
-says_record bytes (Thing.comment cs) l at rule k rest h s = rw (h.0, h.1) s
-says_record bytes (Thing.instruction i) l at rule k rest h s = rw (h.0, h.1) s
+says_record bytes (Thing.attribute a) l at rule k rest h s = rw (h.0, h.1) s.0
+says_record bytes (Thing.comment cs) l at rule k rest h s = rw (h.0, h.1) s.0
+says_record bytes (Thing.instruction i) l at rule k rest h s = rw (h.0, h.1) s.0
 says_record bytes (Thing.root first f) l at rule k rest h s = absurd h
 says_record bytes (Thing.element t inside) l at rule k rest h s = absurd h
 says_record bytes (Thing.text xs) l at rule k rest h s = absurd h
@@ -190,3 +190,7 @@ pub record_gives : (bytes : List ℕ) (lists : Lists) → length bytes < 2 ^ 30 
     (nest : Forest) → IsNestOf bytes lists nest → (e : Entry) → Stands kind at e (nodes_of bytes nest) → result ≡ content e.what
 record_gives bytes lists few kind at k rule result h f nest s e w =
     f (records nest (first_place bytes)) (nest_shown bytes lists nest few s) (content e.what) (record_content bytes lists nest s kind at k rule h e w)
+
+pub one_behind : (kind : Kind) → (kind ≡ kinds.Attribute) ⊎ (kind ≡ kinds.Instruction) → (rule : Rule) × HasRecord kind rule 1
+one_behind kind (inl e) = (Value, attribute_record kind e)
+one_behind kind (inr e) = (Literal, instruction_record kind e)

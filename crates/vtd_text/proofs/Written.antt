@@ -19,7 +19,7 @@ use Rattle.vtd_text.specs.declared.token.Rule.TheVariants.{Literal, Value}
 use Rattle.vtd_text.specs.Joined.{Joined}
 use Rattle.vtd_text.specs.Resolved.{IsResolved}
 use Rattle.vtd_text.proofs.Standing.{StandsAt, ItemStands, item_stands, stands_left, stands_past, first_stands}
-use Rattle.vtd_text.proofs.Leaves.{ValueIs, ValuesAre, Silent, Fine, joined_append, silent_joined, leaf_joined, outside_joined, comment_resolved, instruction_resolved, tag_values, tag_silent, silent_fine, leaf_fine}
+use Rattle.vtd_text.proofs.Leaves.{ValueIs, WrittenIs, LeafIs, text_is, cdata_is, ValuesAre, Silent, Fine, joined_append, silent_joined, leaf_joined, outside_joined, comment_resolved, instruction_resolved, tag_values, tag_silent, silent_fine, leaf_fine}
 
 -- a tag that stands at a place
 pub record TagStands (bytes : List ℕ) (at : ℕ) (t : Tag) : Type 0 where
@@ -142,28 +142,50 @@ run_joined bytes (single (Leaf.doctype v) f) d at w = refl
 
 -- ---- what the records of each node say
 
+-- what the first of some texts and CDATA sections is of
+abbrev pub FirstIs : List ℕ → ℕ → ℕ → List Leaf → Type 0
+FirstIs bytes l at [] = ⊥
+FirstIs bytes l at (x ∷ xs) = LeafIs bytes l at x
+
+-- texts and CDATA sections have a record each
+abbrev pub RunIs : List ℕ → ℕ → ℕ → List Leaf → Type 0
+RunIs bytes l at xs = (length (run_tokens l at xs) ≡ length xs) × FirstIs bytes l at xs
+
+run_length : (f : Forest) (d at : ℕ) → length (run_tokens (suc d) at (run f)) ≡ length (run f)
+run_length done d at = refl
+run_length (empty t f) d at = refl
+run_length (element t inside space f) d at = refl
+run_length (single (Leaf.text ps) f) d at = ap suc (run_length f d (past_leaf at (Leaf.text ps)))
+run_length (single (Leaf.cdata cs) f) d at = ap suc (run_length f d (past_leaf at (Leaf.cdata cs)))
+run_length (single (Leaf.comment cs) f) d at = refl
+run_length (single (Leaf.instruction i) f) d at = refl
+run_length (single (Leaf.declaration v) f) d at = refl
+run_length (single (Leaf.doctype v) f) d at = refl
+
 -- the content of what stands at a level and at a place
 abbrev pub SaysOf : List ℕ → Thing → ℕ → ℕ → Type 0
 SaysOf bytes (Thing.root first f) l at = Joined bytes (records_of (Thing.root first f) l at) (top_content f)
 SaysOf bytes (Thing.element t inside) l at = Joined bytes (records_of (Thing.element t inside) l at) (inner_content inside) × ValuesAre bytes l (attributes_place at t) t.attributes
-SaysOf bytes (Thing.attribute a) l at = IsResolved bytes Value (plain 4 (depth_at l) (written_pieces a.value) (at + size (before_value a))) (value_content a.value)
-SaysOf bytes (Thing.text xs) l at = Joined bytes (run_tokens l at xs) (flat_map leaf_content xs)
-SaysOf bytes (Thing.comment cs) l at = IsResolved bytes Literal (plain 6 (depth_at l) cs (at + 4)) (literal_content cs)
-SaysOf bytes (Thing.instruction i) l at = IsResolved bytes Literal (plain 8 (depth_at l) i.content (at + 2 + size i.target + size i.space)) (literal_content i.content)
+SaysOf bytes (Thing.attribute a) l at =
+    IsResolved bytes Value (plain 4 (depth_at l) (written_pieces a.value) (at + size (before_value a))) (value_content a.value) × WrittenIs bytes (plain 4 (depth_at l) (written_pieces a.value) (at + size (before_value a))) (written_pieces a.value)
+SaysOf bytes (Thing.text xs) l at = Joined bytes (run_tokens l at xs) (flat_map leaf_content xs) × RunIs bytes l at xs
+SaysOf bytes (Thing.comment cs) l at = IsResolved bytes Literal (plain 6 (depth_at l) cs (at + 4)) (literal_content cs) × WrittenIs bytes (plain 6 (depth_at l) cs (at + 4)) cs
+SaysOf bytes (Thing.instruction i) l at =
+    IsResolved bytes Literal (plain 8 (depth_at l) i.content (at + 2 + size i.target + size i.space)) (literal_content i.content) × WrittenIs bytes (plain 8 (depth_at l) i.content (at + 2 + size i.target + size i.space)) i.content
 
 abbrev pub Says : List ℕ → Entry → Type 0
 Says bytes e = SaysOf bytes e.what (length e.holders) e.start
 
-text_says : (bytes : List ℕ) (holders : List Holder) (at place number : ℕ) (joins : Bool) (xs : List Leaf) → ((d : ℕ) → length holders ≡ suc d → Joined bytes (run_tokens (suc d) at xs) (flat_map leaf_content xs)) →
+text_says : (bytes : List ℕ) (holders : List Holder) (at place number : ℕ) (joins : Bool) (xs : List Leaf) → ((d : ℕ) → length holders ≡ suc d → Joined bytes (run_tokens (suc d) at xs) (flat_map leaf_content xs) × RunIs bytes (suc d) at xs) →
     IfSome (text_node (record { holders = holders; at = at; place = place; number = number; joins = joins }) xs) (Says bytes)
 text_says bytes [] at place number joins xs k = tt
 text_says bytes (t ∷ hs) at place number joins xs k = if_some_cond (Says bytes) (begins_run (t ∷ hs) joins xs) _ (k (length hs) refl)
 
 leaf_says : (bytes : List ℕ) (h : Here) (x : Leaf) (f : Forest) → Written bytes h.at (single x f) → IfSome (leaf_node h x f) (Says bytes)
 leaf_says bytes h (Leaf.text ps) f w =
-    text_says bytes h.holders h.at h.place h.number h.joins (Leaf.text ps ∷ run f) (λ d e. run_joined bytes (single (Leaf.text ps) f) d h.at w)
+    text_says bytes h.holders h.at h.place h.number h.joins (Leaf.text ps ∷ run f) (λ d e. (run_joined bytes (single (Leaf.text ps) f) d h.at w, (run_length (single (Leaf.text ps) f) d h.at, text_is bytes ps (suc d) h.at w.0.stands)))
 leaf_says bytes h (Leaf.cdata cs) f w =
-    text_says bytes h.holders h.at h.place h.number h.joins (Leaf.cdata cs ∷ run f) (λ d e. run_joined bytes (single (Leaf.cdata cs) f) d h.at w)
+    text_says bytes h.holders h.at h.place h.number h.joins (Leaf.cdata cs ∷ run f) (λ d e. (run_joined bytes (single (Leaf.cdata cs) f) d h.at w, (run_length (single (Leaf.cdata cs) f) d h.at, cdata_is bytes cs (suc d) h.at w.0.stands)))
 leaf_says bytes h (Leaf.comment cs) f w = comment_resolved bytes (depth_at (length h.holders)) h.at cs w.0.stands
 leaf_says bytes h (Leaf.instruction i) f w = instruction_resolved bytes (depth_at (length h.holders)) h.at i w.0.stands
 leaf_says bytes h (Leaf.declaration v) f w = tt

@@ -42,7 +42,7 @@ impl<'a, W: Words> Model for Chars<'a, W> {
 }
 
 /// The index behind that of a record, where there is one.
-fn behind<W: Words>(words: &W, at: u32) -> u32
+pub(crate) fn behind<W: Words>(words: &W, at: u32) -> u32
     requires { at + 1 < length (list_of Part.Records (W.lists words.now)) }
     ensures { result ≡ at + 1 }
 {

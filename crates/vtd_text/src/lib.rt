@@ -2,11 +2,15 @@
 //! attribute values resolved (XML 1.0, sections 2.11, 3.3.3 and 4.6). Nothing is copied.
 #![tactic(auto)]
 
+mod append;
 mod chars;
 mod entities;
 mod row;
+mod slices;
 mod texts;
 mod token;
 
+pub use append::append_to;
 pub use chars::Chars;
+pub use slices::raw;
 pub use texts::{equals, equals_str};
