@@ -5,7 +5,7 @@ use Rattle.std.specs.List.{AllByRecursion as Each}
 use Rattle.std.proofs.lemmas.List.{get_or_append_left, get_or-append-add}
 use Rattle.std.proofs.lemmas.Bool.{false≢true}
 use Rattle.xml_model.specs.Chars.{size}
-use Rattle.xml_model.specs.Items.{Attribute, Tag, Instruction, Leaf, end_tag, begins_at, spelling, written_attribute, written_pieces, written_leaf, written_end, before_value}
+use Rattle.xml_model.specs.Items.{Attribute, Tag, Instruction, Leaf, end_tag, begins_at, spelling, written_attribute, written_pieces, written_leaf, written_end, before_value, start_tag}
 use Rattle.xml_model.specs.Nest.{Forest, done, single, empty, element, is_content_leaf}
 use Rattle.xml_model.specs.Records.{Token, document, named, plain, declares, attributes_tokens, attributes_place, tag_tokens, leaf_tokens, tokens, past_leaf, past_empty, past_start, past_forest, past_element}
 use Rattle.xml_model.specs.Tree.{one_if}
@@ -163,11 +163,11 @@ ending_at bytes rs level stop stop' c c' e k h = subst (λ n. IsEnding bytes rs 
 joined_length : (front a b : List Token) → length (front ++ a) + length b ≡ length front + length (a ++ b)
 joined_length front a b = omega (arith, length-append front a, length-append a b)
 
-start_spelled : (t : Tag) (at : ℕ) → at + length (spelling (tag_item false t)) ≡ past_start at t
+pub start_spelled : (t : Tag) (at : ℕ) → at + length (spelling (tag_item false t)) ≡ past_start at t
 unfolding spelling size
 start_spelled t at = refl
 
-empty_spelled : (t : Tag) (at : ℕ) → at + length (spelling (tag_item true t)) ≡ past_empty at t
+pub empty_spelled : (t : Tag) (at : ℕ) → at + length (spelling (tag_item true t)) ≡ past_empty at t
 unfolding spelling size
 empty_spelled t at = refl
 
@@ -217,6 +217,16 @@ forest_ending (element t inside space f) bytes whole front rest d at e p h =
     ending_at bytes whole l _ _ _ _ refl (joined_length front mine more)
     (forest_ending f bytes whole (front ++ mine) rest d stop (second_part whole front mine more rest e) p.3 (ending_at bytes whole l _ _ _ _ refl (sym (length-append front mine)) here))
 
+-- behind the last piece of what stands between the tags of an element, with the start tag counted to it
+pub inside_ending : (t : Tag) (inside : Forest) (bytes : List ℕ) (whole front rest : List Token) (l start : ℕ) → whole ≡ front ++ (tag_tokens l start t ++ tokens (suc l) (past_start start t) inside) ++ rest →
+    begins_at bytes start (start_tag t) ≡ true → Placed is_content_leaf bytes (past_start start t) inside →
+    IsEnding bytes whole (suc l) (past_forest (past_start start t) inside) (length (front ++ tag_tokens l start t) + length (tokens (suc l) (past_start start t) inside))
+inside_ending t inside bytes whole front rest l start e b p =
+    let tag = tag_tokens l start t in
+    let within = tokens (suc l) (past_start start t) inside in
+    let first = tag_behind bytes whole front (within ++ rest) false t l start (suc l) (past_start start t) (first_part whole front tag within rest e) b (add-one l) (start_spelled t start) in
+    forest_ending inside bytes whole (front ++ tag) rest l (past_start start t) (second_part whole front tag within rest e) p first
+
 -- and so behind the last piece of an element
 pub element_ending : (t : Tag) (inside : Forest) (bytes : List ℕ) (whole front rest : List Token) (l start stop : ℕ) → whole ≡ front ++ (tag_tokens l start t ++ tokens (suc l) (past_start start t) inside) ++ rest →
     ElementCloses bytes t inside start stop → IsEnding bytes whole l stop (length front + length (tag_tokens l start t ++ tokens (suc l) (past_start start t) inside))
@@ -227,8 +237,4 @@ element_ending t inside bytes whole front rest l start stop e (by_itself i b s) 
     ending_at bytes whole l _ stop _ _ (empty_spelled t start ∙ sym s) (ap (λ xs. length front + length xs) (sym mine))
     (tag_ending bytes whole front rest true t l start l (e ∙ ap (λ xs. front ++ xs ++ rest) mine) b (add-zero l))
 element_ending t inside bytes whole front rest l start stop e (by_end_tag space b p k s) =
-    let tag = tag_tokens l start t in
-    let within = tokens (suc l) (past_start start t) inside in
-    let first = tag_behind bytes whole front (within ++ rest) false t l start (suc l) (past_start start t) (first_part whole front tag within rest e) b (add-one l) (start_spelled t start) in
-    let inner = forest_ending inside bytes whole (front ++ tag) rest l (past_start start t) (second_part whole front tag within rest e) p first in
-    ending_at bytes whole l _ stop _ _ (sym s) refl (element_closed t inside space bytes whole front l start k inner)
+    ending_at bytes whole l _ stop _ _ (sym s) refl (element_closed t inside space bytes whole front l start k (inside_ending t inside bytes whole front rest l start e b p))

@@ -6,3 +6,4 @@ pub mod TagPlaces
 pub mod WordLemmas
 pub mod PieceLemmas
 pub mod SpanLemmas
+pub mod TagLemmas

@@ -30,7 +30,7 @@ pub record SpanShown (bytes : List ℕ) (rs : List Token) (kind : Kind) (l start
   pub element : kind ≡ kinds.Element → IsEnding bytes rs l stop past
   pub other : (kind ≡ kinds.Root → ⊥) → (kind ≡ kinds.Element → ⊥) → token_end (record_at (past - 1) rs) ≡ stop
 
-first_in : (whole front mine rest : List Token) (place : ℕ) → whole ≡ front ++ mine ++ rest → length front ≡ place → 0 < length mine → record_at place whole ≡ record_at 0 mine
+pub first_in : (whole front mine rest : List Token) (place : ℕ) → whole ≡ front ++ mine ++ rest → length front ≡ place → 0 < length mine → record_at place whole ≡ record_at 0 mine
 first_in whole front mine rest place e n h = ap (λ k. record_at k whole) (sym n ∙ sym (add-zero (length front))) ∙ in_place whole front mine rest 0 e h
 
 last_in : (whole front mine rest : List Token) (n place past : ℕ) → whole ≡ front ++ mine ++ rest → length front ≡ place → length mine ≡ suc n → place + length mine ≡ past → record_at (past - 1) whole ≡ record_at n mine

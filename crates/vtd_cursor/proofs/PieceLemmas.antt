@@ -61,10 +61,10 @@ found_shown bytes place offset i found b e f =
 
 -- The last piece, where it is a tag.
 
-abbrev FindsTag : List ℕ → List Token → ℕ → ItemShown → Type 0
+abbrev pub FindsTag : List ℕ → List Token → ℕ → ItemShown → Type 0
 FindsTag bytes rs last found = (place : ℕ) (closed : Bool) (t : Tag) → IsTagOf bytes rs last place closed t → found ≡ item_shown place (tag_item closed t)
 
-tag_kind_of : (closed : Bool) (place : ℕ) (t : Tag) → (item_shown place (tag_item closed t)).kind ≡ tag_kind closed
+pub tag_kind_of : (closed : Bool) (place : ℕ) (t : Tag) → (item_shown place (tag_item closed t)).kind ≡ tag_kind closed
 tag_kind_of true place t = refl
 tag_kind_of false place t = refl
 

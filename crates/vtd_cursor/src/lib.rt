@@ -4,4 +4,4 @@
 mod pieces;
 mod spans;
 
-pub use spans::span;
+pub use spans::{Tags, span, tags_of, value_span};

@@ -155,15 +155,16 @@ fn last_piece<W: Words>(bytes: &[u8], words: &W, last: u32) -> LastPiece
     }
 }
 
-/// Where an element of a depth ends whose subtree's last record has an index.
-pub fn element_end<W: Words>(bytes: &[u8], words: &W, depth: u8, last: u32) -> u32
+/// Where the last of the end tags ends that close the elements of a level and those in them, behind the piece whose last
+/// record has an index.
+pub fn end_of_level<W: Words>(bytes: &[u8], words: &W, level: u32, last: u32) -> u32
     requires utf8 { IsUtf8 bytes.now }
     requires few { length bytes.now < 2 ^ 30 }
     requires within { last < length (list_of Part.Records (W.lists words.now)) }
-    requires ending { HasEnding bytes.now (list_of Part.Records (W.lists words.now)) depth last }
+    requires ending { HasEnding bytes.now (list_of Part.Records (W.lists words.now)) level last }
     ensures { (rs : List Token) → Shows (list_of Part.Records (W.lists words.now)) rs →
-        (stop : ℕ) → IsEnding bytes.now rs depth stop (suc last) → result ≡ stop }
+        (stop : ℕ) → IsEnding bytes.now rs level stop (suc last) → result ≡ stop }
 {
     let piece = last_piece(bytes, words, last);
-    after_end_tags(bytes, piece.end, piece.opened - depth as u32)
+    after_end_tags(bytes, piece.end, piece.opened - level)
 }

@@ -1,14 +1,33 @@
 //! Where a node and its parts stand in the document's bytes.
 
-ghost use Rattle.std.specs.Prelude.{◌≡◌};
+ghost use Rattle.std.specs.Prelude.{◌≡◌, ◌+◌, true, false};
+ghost use Rattle.xml_model.specs.Chars.{size};
+ghost use Rattle.xml_model.specs.Items.{Attribute, Tag, begins_at, before_value, empty_tag, written_pieces};
 ghost use Rattle.xml_model.specs.Nest.{Forest};
-ghost use Rattle.xml_model.specs.Tree.{Entry, Stands};
+ghost use Rattle.xml_model.specs.Records.{past_forest, past_start};
+ghost use Rattle.xml_model.specs.Tree.{Entry, Stands, Thing};
+ghost use Rattle.xml_chars.specs.Places.{span_from};
 ghost use Rattle.vtd_words.specs.Table.{IsNestOf, IsNodeOf, nodes_of};
+ghost use Rattle.vtd_cursor.specs.Tags.{tags_by, HasEndTag};
 
-use crate::pieces::{element_end, parts_at, piece_start, token_end};
+use crate::pieces::{end_of_level, parts_at, piece_start, tag_of, token_end};
 use vtd_location::Nav;
 use vtd_words::{Table, Words};
+use xml_items::ItemKind;
 use xml_model::{Kind, Node, Span};
+
+/// Where the tags of an element stand, in bytes.
+#[derive(Clone, Copy, Debug, PartialEq, Eq)]
+pub struct Tags {
+    /// The name in the first tag.
+    pub name: Span,
+    /// The place after the first tag.
+    pub head_end: u32,
+    /// The `<` of the end tag; the place after the tag where there is none.
+    pub tail_start: u32,
+    /// Whether the element is one empty tag, with no end tag.
+    pub empty: bool,
+}
 
 /// Where a node begins that is not the root.
 fn node_start<W: Words>(table: &Table<'_, W>, node: Node) -> u32
@@ -30,7 +49,12 @@ fn node_end<W: Words>(table: &Table<'_, W>, node: Node) -> u32
     let words = table.words();
     let last = table.end_of(node) - 1;
     match node.kind {
-        Kind::Element => element_end(table.bytes(), words, parts_at(words, node.at).depth, last),
+        Kind::Element => end_of_level(
+            table.bytes(),
+            words,
+            parts_at(words, node.at).depth as u32,
+            last,
+        ),
         _ => token_end(parts_at(words, last)),
     }
 }
@@ -55,5 +79,67 @@ pub fn span<W: Words>(nav: &Nav<'_, W>, node: Node) -> Span
             start: node_start(table, node),
             end: node_end(table, node),
         },
+    }
+}
+
+/// Where the tags of an element stand (XML 1.0, productions 40, 42 and 44).
+pub fn tags_of<W: Words>(nav: &Nav<'_, W>, node: Node) -> Tags
+    requires node { IsNodeOf nav.now.bytes (W.lists nav.now.words) node }
+    requires element { node.kind ≡ Kind.Element }
+    ensures { (nest : Forest) → IsNestOf nav.now.bytes (W.lists nav.now.words) nest →
+        (e : Entry) → Stands node.kind node.at e (nodes_of nav.now.bytes nest) →
+        (t : Tag) (inside : Forest) → e.what ≡ Thing.element t inside → result ≡ tags_by (begins_at nav.now.bytes e.start (empty_tag t)) t inside e.start e.stop }
+{
+    let table = nav.table();
+    let tag = tag_of(table.bytes(), table.words(), node.at);
+    match tag.kind {
+        ItemKind::EmptyTag => Tags {
+            name: tag.name,
+            head_end: tag.span.end,
+            tail_start: tag.span.end,
+            empty: true,
+        },
+        _ => Tags {
+            name: tag.name,
+            head_end: tag.span.end,
+            tail_start: inside_end(table, node),
+            empty: false,
+        },
+    }
+}
+
+/// Where what stands in an element ends, which has an end tag.
+fn inside_end<W: Words>(table: &Table<'_, W>, node: Node) -> u32
+    requires node { IsNodeOf table.now.bytes (W.lists table.now.words) node }
+    requires element { HasEndTag table.now.bytes (W.lists table.now.words) node }
+    ensures { (nest : Forest) → IsNestOf table.now.bytes (W.lists table.now.words) nest →
+        (e : Entry) → Stands node.kind node.at e (nodes_of table.now.bytes nest) →
+        (t : Tag) (inside : Forest) → e.what ≡ Thing.element t inside → begins_at table.now.bytes e.start (empty_tag t) ≡ false → result ≡ past_forest (past_start e.start t) inside }
+{
+    let words = table.words();
+    let last = table.end_of(node) - 1;
+    end_of_level(
+        table.bytes(),
+        words,
+        parts_at(words, node.at).depth as u32 + 1,
+        last,
+    )
+}
+
+/// Where the value of an attribute stands, between its quotes (XML 1.0, production 10).
+pub fn value_span<W: Words>(nav: &Nav<'_, W>, node: Node) -> Span
+    requires node { IsNodeOf nav.now.bytes (W.lists nav.now.words) node }
+    requires attribute { node.kind ≡ Kind.Attribute }
+    ensures value { (nest : Forest) → IsNestOf nav.now.bytes (W.lists nav.now.words) nest →
+        (e : Entry) → Stands node.kind node.at e (nodes_of nav.now.bytes nest) →
+        (a : Attribute) → e.what ≡ Thing.attribute a → result ≡ span_from (e.start + size (before_value a)) (written_pieces a.value) }
+    ensures quote { (nest : Forest) → IsNestOf nav.now.bytes (W.lists nav.now.words) nest →
+        (e : Entry) → Stands node.kind node.at e (nodes_of nav.now.bytes nest) → result.end + 1 ≡ e.stop }
+{
+    let table = nav.table();
+    let value = parts_at(table.words(), table.end_of(node) - 1);
+    Span {
+        start: value.offset,
+        end: value.offset + value.length,
     }
 }

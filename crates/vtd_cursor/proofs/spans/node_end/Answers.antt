@@ -8,11 +8,11 @@ overflow_sub-last g c = (last_room _ _ c.words-words.ensures.table.few c.args.no
 pub parts_at-requires : goal.parts_at-requires
 parts_at-requires g c = rw c.words-words.ensures.value (at_room _ _ c.words-words.ensures.table.few c.args.node c.requires.node)
 
-pub element_end-requires-clause-within : goal.element_end-requires-clause-within
-element_end-requires-clause-within g c = rw c.words-words.ensures.value (last_room _ _ c.words-words.ensures.table.few c.args.node c.requires.node c.end_of-last.result c.end_of-last.ensures).within
+pub end_of_level-requires-clause-within : goal.end_of_level-requires-clause-within
+end_of_level-requires-clause-within g c = rw c.words-words.ensures.value (last_room _ _ c.words-words.ensures.table.few c.args.node c.requires.node c.end_of-last.result c.end_of-last.ensures).within
 
-pub element_end-requires-clause-ending : goal.element_end-requires-clause-ending
-element_end-requires-clause-ending g c =
+pub end_of_level-requires-clause-ending : goal.end_of_level-requires-clause-ending
+end_of_level-requires-clause-ending g c =
     rw (c.words-words.ensures.value, c.bytes.ensures.value) (element_has _ _ c.words-words.ensures.table.few c.args.node c.requires.node c.in-Element.is c.parts_at.result (rw c.words-words.ensures.value at c.parts_at.ensures.parts) c.end_of-last.result c.end_of-last.ensures)
 
 pub parts_at-requires-in_default : goal.parts_at-requires-in_default
@@ -20,8 +20,8 @@ parts_at-requires-in_default g c = rw c.words-words.ensures.value (last_room _ _
 
 pub returns-in-Element : goal.returns-in-Element
 returns-in-Element g c =
-    element_found _ _ c.words-words.ensures.table.few c.args.node c.in-Element.is c.parts_at.result (rw c.words-words.ensures.value at c.parts_at.ensures.parts) c.end_of-last.result c.end_of-last.ensures c.element_end.result
-    (rw (c.words-words.ensures.value, c.bytes.ensures.value) at c.element_end.ensures)
+    element_found _ _ c.words-words.ensures.table.few c.args.node c.in-Element.is c.parts_at.result (rw c.words-words.ensures.value at c.parts_at.ensures.parts) c.end_of-last.result c.end_of-last.ensures c.end_of_level.result
+    (rw (c.words-words.ensures.value, c.bytes.ensures.value) at c.end_of_level.ensures)
 
 pub returns-in_default : goal.returns-in_default
 returns-in_default g c =
