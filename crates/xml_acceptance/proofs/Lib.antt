@@ -14,3 +14,7 @@ pub mod WidthLemmas
 pub mod WidthLaws
 pub mod WidthItems
 pub mod EncodingLaws
+pub mod Stacks
+pub mod Shapes
+pub mod OneMore
+pub mod Exits

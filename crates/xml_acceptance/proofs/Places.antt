@@ -17,7 +17,7 @@ past_chars [] bs rest u e = subst IsUtf8 e u
 past_chars (c ∷ w) bs rest u e = past_chars w (encodes w ++ rest) rest (IsUtf8-past_char bs (encodes w ++ rest) c u (e ∙ append_assoc (encode c) (encodes w) rest)) refl
 
 -- what stands at a place is followed by the rest
-stands_at : (bytes : List ℕ) (at : ℕ) (i : Item) → begins_at bytes at i ≡ true → drop at bytes ≡ spelling i ++ drop (at + length (spelling i)) bytes
+pub stands_at : (bytes : List ℕ) (at : ℕ) (i : Item) → begins_at bytes at i ≡ true → drop at bytes ≡ spelling i ++ drop (at + length (spelling i)) bytes
 unfolding begins_at
 stands_at bytes at i b =
     let q = and_parts _ (may_stand i (first_place bytes) at) b in

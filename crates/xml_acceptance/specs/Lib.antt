@@ -4,3 +4,7 @@ pub mod Ampersands
 pub mod Counts
 pub mod Widths
 pub mod Encodings
+pub mod Phases
+pub mod Open
+pub mod Passes
+pub mod Verdicts
