@@ -4,5 +4,8 @@
 
 mod declarations;
 mod filter;
+mod qnames;
 mod records;
 mod repeats;
+mod scope;
+mod uri;
