@@ -10,3 +10,4 @@ mod Written
 mod NodeFacts
 mod NameFacts
 mod CharsLemmas
+mod TextsLemmas

@@ -9,4 +9,4 @@ mod texts;
 mod token;
 
 pub use chars::Chars;
-pub use texts::equals;
+pub use texts::{equals, equals_str};

@@ -1,11 +1,12 @@
 //! Comparing resolved texts. No call takes memory.
 #![tactic(auto)]
 
-ghost use Rattle.std.specs.Prelude.{◌≡◌, length};
-ghost use Rattle.std.specs.Str.{bytes_eq};
+ghost use Rattle.std.specs.Prelude.{◌≡◌, ℕ, List, [], ◌∷◌, ◌++◌, MatchOption, length};
+ghost use Rattle.std.specs.Str.{bytes_eq, chars};
 
 use crate::chars::Chars;
 use vtd_words::Words;
+use xml_chars::text::step;
 
 /// Whether two texts have the same code points.
 pub fn equals<W: Words, V: Words>(one: Chars<'_, W>, other: Chars<'_, V>) -> bool
@@ -19,4 +20,44 @@ pub fn equals<W: Words, V: Words>(one: Chars<'_, W>, other: Chars<'_, V>) -> boo
         }
     }
     other.next().is_none()
+}
+
+/// What follows the front, where the text begins with it.
+fn after_front<'a>(text: &'a str, front: &str) -> Option<&'a str>
+    ensures { MatchOption result ((rest : List ℕ) → chars text.now ≡ chars front.now ++ rest → ⊥) (λ r. chars text.now ≡ chars front.now ++ chars r.now) }
+{
+    if text.as_bytes().starts_with(front.as_bytes()) {
+        Some(text.split_at(front.len()).1)
+    } else {
+        None
+    }
+}
+
+/// What follows the character and then the front, where the text begins with them.
+fn after_both<'a>(text: &'a str, c: char, front: &str) -> Option<&'a str>
+    ensures { MatchOption result ((rest : List ℕ) → chars text.now ≡ c ∷ (chars front.now ++ rest) → ⊥) (λ r. chars text.now ≡ c ∷ (chars front.now ++ chars r.now)) }
+{
+    let (first, rest) = step(text)?;
+    if first == c {
+        after_front(rest, front)
+    } else {
+        None
+    }
+}
+
+/// Whether a text has the code points of another one. What stands in the document as it is is compared as slices.
+pub fn equals_str<W: Words>(one: Chars<'_, W>, text: &str) -> bool
+    ensures { result ≡ bytes_eq one.entry (chars text.now) }
+{
+    let mut one = one;
+    let Some(mut rest) = after_front(text, one.next_plain()) else {
+        return false;
+    };
+    while let Some(c) = one.next() {
+        let Some(behind) = after_both(rest, c, one.next_plain()) else {
+            return false;
+        };
+        rest = behind;
+    }
+    rest.is_empty()
 }

@@ -133,7 +133,9 @@ impl<'a> TokenChars<'a> {
             LeavesRest self.old.rule content (chars result.now) (chars self.new.text.now) }
         ensures rule { self.new.rule ≡ self.old.rule }
     {
-        let (front, rest) = self.text.split_at(plain_len(self.rule, self.text.as_bytes()));
+        let (front, rest) = self
+            .text
+            .split_at(plain_len(self.rule, self.text.as_bytes()));
         self.text = rest;
         front
     }
