@@ -7,4 +7,5 @@ pub mod ChainLemmas
 pub mod OpenLemmas
 pub mod DeclarationLemmas
 pub mod QNameLemmas
+pub mod ScopeLemmas
 pub mod RepeatLemmas

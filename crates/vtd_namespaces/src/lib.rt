@@ -2,6 +2,7 @@
 //! name tests of its nodes. No call takes memory.
 #![tactic(auto)]
 
+mod compare;
 mod declarations;
 mod filter;
 mod qnames;

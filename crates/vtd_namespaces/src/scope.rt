@@ -7,7 +7,8 @@ ghost use Rattle.xml_model.specs.Tree.{Holder};
 ghost use Rattle.vtd_words.specs.Table.{nodes_of};
 
 use crate::declarations::declaration_for;
-use crate::uri::{Uri, same_uri};
+use crate::compare::same_uri;
+use crate::uri::Uri;
 use vtd_text::Chars;
 use vtd_words::{Table, Words};
 
@@ -75,6 +76,12 @@ impl<'s, 'a, W: Words> Scope<'s, 'a, W> {
         ensures { (nest : Forest) (hs : List Holder) → IsScope self.now.table.now.bytes (W.lists self.now.table.now.words) self.now.open_tags.now self.now.count nest hs →
             (p : List ℕ) → prefix.now ≡ encode_utf8_all p → result ≡ is_bound p (tags_in hs) }
     {
-        prefix.is_empty() || prefix == XML || self.declaration(prefix).is_some()
+        if prefix.is_empty() {
+            return true;
+        }
+        if prefix == XML {
+            return true;
+        }
+        self.declaration(prefix).is_some()
     }
 }

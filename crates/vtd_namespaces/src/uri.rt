@@ -1,10 +1,6 @@
 //! The URI of an expanded name (Namespaces in XML 1.0, section 2.1).
 
-ghost use Rattle.std.specs.Prelude.{◌≡◌, List, ℕ, bytes_eq};
-ghost use Rattle.std.specs.Str.{chars};
-ghost use Rattle.xml_model.specs.Names.{xml_uri};
-
-use vtd_text::{Chars, equals};
+use vtd_text::Chars;
 use vtd_words::Words;
 
 /// The URI to which the prefix `xml` is bound for ever (Namespaces in XML 1.0, section 3).
