@@ -6,4 +6,6 @@ pub mod NodeLemmas
 pub mod ChainLemmas
 pub mod OpenLemmas
 pub mod DeclarationLemmas
+pub mod QNameLemmas
+pub mod ScopeLemmas
 pub mod RepeatLemmas

@@ -3,3 +3,4 @@ pub mod Faults
 pub mod Filter
 pub mod Repeats
 pub mod Scope
+pub mod Uris

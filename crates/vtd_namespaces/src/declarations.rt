@@ -1,10 +1,11 @@
 //! Declarations of namespaces (Namespaces in XML 1.0, sections 3 and 6): the nearest one of a prefix.
 
-ghost use Rattle.std.specs.Prelude.{◌≡◌, ℕ, ◌+◌, ◌≤◌, ◌<◌, ◌^◌, List, length, bytes_eq, encode_utf8_all};
+ghost use Rattle.std.specs.Prelude.{◌≡◌, ℕ, ◌+◌, ◌≤◌, ◌<◌, ◌^◌, List, length, bytes_eq, encode_utf8_all, IfSome};
 ghost use Rattle.std.specs.List.{slice_index_or};
 ghost use Rattle.xml_model.specs.Items.{Tag};
 ghost use Rattle.xml_model.specs.Nest.{Forest};
 ghost use Rattle.xml_model.specs.Records.{Token};
+ghost use Rattle.xml_model.specs.Scan.{record_at};
 ghost use Rattle.xml_model.specs.Tree.{Holder};
 ghost use Rattle.xml_model.specs.Names.{declaring};
 ghost use Rattle.vtd_words.specs.Lists.{list_of};
@@ -39,8 +40,9 @@ fn is_declaring(name: &[u8], prefix: &[u8]) -> bool
 /// attributes begin at `first`.
 pub fn declaration_in<W: Words>(bytes: &[u8], words: &W, first: u32, prefix: &[u8]) -> Option<u32>
     requires { first ≤ length (list_of Part.Records (W.lists words.now)) }
-    ensures { (rs : List Token) → Shows (list_of Part.Records (W.lists words.now)) rs → (at : ℕ) (t : Tag) → AttributesStand bytes.now rs first at t.attributes →
+    ensures found { (rs : List Token) → Shows (list_of Part.Records (W.lists words.now)) rs → (at : ℕ) (t : Tag) → AttributesStand bytes.now rs first at t.attributes →
         (p : List ℕ) → prefix.now ≡ encode_utf8_all p → IsDeclarationIn first t p result }
+    ensures declares { (rs : List Token) → Shows (list_of Part.Records (W.lists words.now)) rs → IfSome result (λ n. (record_at n rs).token ≡ 3) }
 {
     let mut number = 0;
     while let Some(parts) = attribute_at(words, first + 2 * number) {
@@ -64,8 +66,9 @@ pub fn declaration_for<W: Words>(
     requires count { count ≤ 256 }
     requires bound { length (list_of Part.Records (W.lists words.now)) < 2 ^ 32 }
     requires tags { (k : ℕ) → slice_index_or open_tags.now k 0 < length (list_of Part.Records (W.lists words.now)) }
-    ensures { (nest : Forest) → IsNestOf bytes.now (W.lists words.now) nest → (hs : List Holder) → Chain (nodes_of bytes.now nest) hs → Opened open_tags.now hs → length hs ≡ count →
+    ensures found { (nest : Forest) → IsNestOf bytes.now (W.lists words.now) nest → (hs : List Holder) → Chain (nodes_of bytes.now nest) hs → Opened open_tags.now hs → length hs ≡ count →
         (p : List ℕ) → prefix.now ≡ encode_utf8_all p → IsNearest (nodes_of bytes.now nest) hs p result }
+    ensures declares { (rs : List Token) → Shows (list_of Part.Records (W.lists words.now)) rs → IfSome result (λ n. (record_at n rs).token ≡ 3) }
 {
     for depth in (0..count as usize).rev() {
         let found = declaration_in(bytes, words, open_tags[depth] + 1, prefix);

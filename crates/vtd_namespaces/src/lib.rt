@@ -2,7 +2,11 @@
 //! name tests of its nodes. No call takes memory.
 #![tactic(auto)]
 
+mod compare;
 mod declarations;
 mod filter;
+mod qnames;
 mod records;
 mod repeats;
+mod scope;
+mod uri;

@@ -40,7 +40,7 @@ pub fn attribute_at<W: Words>(words: &W, at: u32) -> Option<Parts>
 }
 
 /// The bytes from a place on.
-fn behind(bytes: &[u8], at: u32) -> &[u8]
+pub fn behind(bytes: &[u8], at: u32) -> &[u8]
     ensures { result.now ≡ drop at bytes.now }
 {
     let at = at as usize;
@@ -48,7 +48,7 @@ fn behind(bytes: &[u8], at: u32) -> &[u8]
 }
 
 /// The first bytes, as many as there are up to a number.
-fn front(bytes: &[u8], len: u32) -> &[u8]
+pub fn front(bytes: &[u8], len: u32) -> &[u8]
     ensures { result.now ≡ take len bytes.now }
 {
     let len = len as usize;

@@ -6,8 +6,8 @@ use Rattle.vtd_namespaces.proofs.declarations.declaration_in.Goals.{else-parts-e
 pub loop-parts-init : goal.loop-parts-init
 loop-parts-init g c = record { room = omega arith; bound = omega arith; sought = λ rs s at t stand p e. none_sought c.args.bytes.now rs c.args.first at t p stand }
 
-pub returns-then-is_declaring : goal.returns-then-is_declaring
-returns-then-is_declaring g c = λ rs s at t stand p e.
+pub returns-then-is_declaring-clause-found : goal.returns-then-is_declaring-clause-found
+returns-then-is_declaring-clause-found g c = λ rs s at t stand p e.
     let n = next_sought c.args.bytes.now rs c.args.first c.loop-parts.number t p c.in-Some.parts c.slice_of.result.now (c.loop-parts.invariant.sought rs s at t stand p e) (c.in-Some.ensures.some rs s) c.in-Some.ensures.kind c.slice_of.ensures in
     n.hit (sym (c.is_declaring.ensures n.characters p n.written e) ∙ c.if-is_declaring.true)
 
@@ -25,5 +25,5 @@ loop-parts-preserved g c = record {
       ];
 }
 
-pub returns : goal.returns
-returns g c = λ rs s at t stand p e. all_sought c.args.bytes.now rs c.args.first c.loop-parts.number t p (c.loop-parts.invariant.sought rs s at t stand p e) (c.in_default.ensures.none rs s)
+pub returns-clause-found : goal.returns-clause-found
+returns-clause-found g c = λ rs s at t stand p e. all_sought c.args.bytes.now rs c.args.first c.loop-parts.number t p (c.loop-parts.invariant.sought rs s at t stand p e) (c.in_default.ensures.none rs s)

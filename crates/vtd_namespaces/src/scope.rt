@@ -1,0 +1,87 @@
+//! The declarations that reach a tag, and the URIs of prefixes under them (Namespaces in XML 1.0, sections 3 and 6).
+
+ghost use Rattle.std.specs.Prelude.{◌≡◌, ℕ, ◌<◌, ◌≤◌, ◌≢◌, ◌^◌, List, [], length, bytes_eq, encode_utf8_all, IfSome};
+ghost use Rattle.std.specs.List.{slice_index_or};
+ghost use Rattle.xml_model.specs.Nest.{Forest};
+ghost use Rattle.xml_model.specs.Tree.{Holder};
+ghost use Rattle.vtd_words.specs.Table.{nodes_of};
+
+use crate::declarations::declaration_for;
+use crate::compare::same_uri;
+use crate::uri::Uri;
+use vtd_text::Chars;
+use vtd_words::{Table, Words};
+
+/// The prefix that is always bound.
+const XML: &[u8] = b"xml";
+
+/// The tags that are open at a tag, itself included: the indexes of their records by their depth, and how many they are.
+pub struct Scope<'s, 'a, W: Words> {
+    pub table: &'s Table<'a, W>,
+    pub open_tags: &'s [u32; 256],
+    pub count: u32,
+    ghost few: { count ≤ 256 },
+    ghost fits: { length ((W.lists table.now.words).records) < 2 ^ 32 },
+    ghost within: { (k : ℕ) → slice_index_or open_tags.now k 0 < length ((W.lists table.now.words).records) },
+}
+
+impl<'s, 'a, W: Words> Scope<'s, 'a, W> {
+    ghost use Rattle.vtd_namespaces.specs.Scope.{IsNearest, tags_in};
+    ghost use Rattle.vtd_namespaces.specs.Uris.{IsScope, same_uri, uri_value};
+    ghost use Rattle.xml_model.specs.Accepted.{is_bound};
+    ghost use Rattle.xml_model.specs.Names.{attribute_uri};
+    ghost use Rattle.vtd_text.specs.NameRecords.{IsDeclaration};
+
+    /// The record of the name of the nearest declaration of a prefix, or `None` where there is none.
+    fn declaration(&self, prefix: &[u8]) -> Option<u32>
+        ensures found { (nest : Forest) (hs : List Holder) → IsScope self.now.table.now.bytes (W.lists self.now.table.now.words) self.now.open_tags.now self.now.count nest hs →
+            (p : List ℕ) → prefix.now ≡ encode_utf8_all p → IsNearest (nodes_of self.now.table.now.bytes nest) hs p result }
+        ensures declares { IfSome result (IsDeclaration self.now.table.now.bytes (W.lists self.now.table.now.words)) }
+    {
+        declaration_for(
+            self.table.bytes(),
+            self.table.words(),
+            self.open_tags,
+            self.count,
+            prefix,
+        )
+    }
+
+    /// The URI to which a prefix is bound that is not empty; none where it is not bound.
+    fn uri_of_prefix(&self, prefix: &[u8]) -> Uri<'a, W>
+        ensures { (nest : Forest) (hs : List Holder) → IsScope self.now.table.now.bytes (W.lists self.now.table.now.words) self.now.open_tags.now self.now.count nest hs →
+            (p : List ℕ) → prefix.now ≡ encode_utf8_all p → (p ≡ [] → ⊥) → uri_value result ≡ attribute_uri p (tags_in hs) }
+    {
+        if prefix == XML {
+            return Uri::Xml;
+        }
+        match self.declaration(prefix) {
+            Some(at) => Uri::Declared(Chars::of_declaration(self.table, at)),
+            None => Uri::None,
+        }
+    }
+
+    /// Whether two prefixes that are not empty are bound to one URI, or both not bound.
+    pub fn bound_alike(&self, one: &[u8], other: &[u8]) -> bool
+        ensures { (nest : Forest) (hs : List Holder) → IsScope self.now.table.now.bytes (W.lists self.now.table.now.words) self.now.open_tags.now self.now.count nest hs →
+            (p q : List ℕ) → one.now ≡ encode_utf8_all p → other.now ≡ encode_utf8_all q → (p ≡ [] → ⊥) → (q ≡ [] → ⊥) →
+            result ≡ same_uri (attribute_uri p (tags_in hs)) (attribute_uri q (tags_in hs)) }
+    {
+        same_uri(self.uri_of_prefix(one), self.uri_of_prefix(other))
+    }
+
+    /// Whether a prefix is bound (Namespaces in XML 1.0, section 5, constraint 'Prefix Declared'): the empty one needs no
+    /// binding, and `xml` always has one.
+    pub fn is_bound(&self, prefix: &[u8]) -> bool
+        ensures { (nest : Forest) (hs : List Holder) → IsScope self.now.table.now.bytes (W.lists self.now.table.now.words) self.now.open_tags.now self.now.count nest hs →
+            (p : List ℕ) → prefix.now ≡ encode_utf8_all p → result ≡ is_bound p (tags_in hs) }
+    {
+        if prefix.is_empty() {
+            return true;
+        }
+        if prefix == XML {
+            return true;
+        }
+        self.declaration(prefix).is_some()
+    }
+}
