@@ -1,7 +1,6 @@
 pub mod LineLemmas
 pub mod RunLemmas
 pub mod CarryLemmas
+pub mod Acceptance
 pub mod MeaningLemmas
-mod Steps
-mod Listed
-mod Lying
+mod Elements

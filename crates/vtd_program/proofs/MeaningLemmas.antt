@@ -9,16 +9,18 @@ use Rattle.vtd_outside.specs.Told.{NameMap}
 use Rattle.vtd_outside.specs.Gathered.{GathersAll, GathersFront}
 use Rattle.vtd_outside.specs.declared.GatherFault.{GatherFault}
 use Rattle.vtd_outside.specs.declared.GatherFault.TheVariants as gather
+use Rattle.xml_model.specs.declared.DocFault.{DocFault}
 use Rattle.xml_model.specs.Nest.{Forest}
-use Rattle.vtd_builder.proofs.Walks.{one_plain_nest}
-use Rattle.vtd_builder.specs.Plain.{IsPlain, IsNotPlain, Document, words_of}
+use Rattle.xml_model.specs.Accepted.{Accepted}
+use Rattle.vtd_location.specs.Nav.{IsNavOf, layers}
+use Rattle.vtd_builder.specs.Documents.{Document}
+use Rattle.vtd_program.proofs.Acceptance.{one_accepted, one_refused, not_both, some_answer}
 use Rattle.vtd_program.specs.declared.commands.Command.{Command}
 use Rattle.vtd_program.specs.declared.commands.Command.TheVariants.{Skip, Elements, Unknown}
 use Rattle.vtd_program.specs.declared.running.Status.{Status}
 use Rattle.vtd_program.specs.declared.running.Status.TheVariants as statuses
 use Rattle.vtd_program.specs.Lines.{lines, command}
-use Rattle.vtd_program.specs.Listing.{listed}
-use Rattle.vtd_program.specs.Meaning.{Outcome, Means, MeansName, MeansFile, MeansDocument, too_long, not_plain, plain, document_name, document_limit, script_limit, scripted, carried_out, step, refused, refused_line, usage_line, SendsAll, SendsFront, SendsAs, EndsAs, Ran, RanScript, Carries, CarriesTo, IsBuilt, ReadsDocument, IsFront, IsEnd, IsMeant, RanExactly, DocumentCause}
+use Rattle.vtd_program.specs.Meaning.{Outcome, Means, MeansName, MeansFile, MeansDocument, too_long, unfit, accepted, document_name, document_limit, script_limit, listed_in, fault_words, IsRefused, scripted, carried_out, step, refused, refused_line, usage_line, SendsAll, SendsFront, SendsAs, EndsUnfit, EndsAs, Ran, RanScript, Carries, CarriesTo, IsBuilt, ReadsDocument, IsFront, IsEnd, IsMeant, RanExactly, DocumentCause}
 use Rattle.vtd_program.specs.declared.running.NoDocument.{NoDocument}
 use Rattle.vtd_program.specs.declared.running.NoDocument.TheVariants as no
 
@@ -52,37 +54,37 @@ ends_carried m script out statuses.ReadFault e l h = absurd h
 ends_carried m script out statuses.FileFault e l h = absurd h
 
 -- a script within the limit
-scripted_within : (nest : Forest) (script : List ℕ) → length script ≤ script_limit → scripted nest script ≡ carried_out (listed nest 0) (lines script)
-scripted_within nest script h = ap (λ b. cond b (refused (codes "script-long") true (drop (script_limit + 1) script)) (carried_out (listed nest 0) (lines script))) (le-ltb _ _ h)
+scripted_within : (doc : List ℕ) (nest : Forest) (script : List ℕ) → length script ≤ script_limit → scripted doc nest script ≡ carried_out (listed_in doc nest) (lines script)
+scripted_within doc nest script h = ap (λ b. cond b (refused (codes "script-long") true (drop (script_limit + 1) script)) (carried_out (listed_in doc nest) (lines script))) (le-ltb _ _ h)
 
-scripted_long : (nest : Forest) (script : List ℕ) → script_limit < length script → scripted nest script ≡ refused (codes "script-long") true (drop (script_limit + 1) script)
-scripted_long nest script h = ap (λ b. cond b (refused (codes "script-long") true (drop (script_limit + 1) script)) (carried_out (listed nest 0) (lines script))) (lt-ltb _ _ h)
+scripted_long : (doc : List ℕ) (nest : Forest) (script : List ℕ) → script_limit < length script → scripted doc nest script ≡ refused (codes "script-long") true (drop (script_limit + 1) script)
+scripted_long doc nest script h = ap (λ b. cond b (refused (codes "script-long") true (drop (script_limit + 1) script)) (carried_out (listed_in doc nest) (lines script))) (lt-ltb _ _ h)
 
-scripted_reads : (nest : Forest) (script : List ℕ) → (scripted nest script).reads ≡ true
-scripted_reads nest script = by (nat_lt script_limit (length script)) (carried_reads (listed nest 0) (lines script))
+scripted_reads : (doc : List ℕ) (nest : Forest) (script : List ℕ) → (scripted doc nest script).reads ≡ true
+scripted_reads doc nest script = by (nat_lt script_limit (length script)) (carried_reads (listed_in doc nest) (lines script))
   where
-    by : (b : Bool) → (carried_out (listed nest 0) (lines script)).reads ≡ true → (cond b (refused (codes "script-long") true (drop (script_limit + 1) script)) (carried_out (listed nest 0) (lines script))).reads ≡ true
+    by : (b : Bool) → (carried_out (listed_in doc nest) (lines script)).reads ≡ true → (cond b (refused (codes "script-long") true (drop (script_limit + 1) script)) (carried_out (listed_in doc nest) (lines script))).reads ≡ true
     by true h = refl
     by false h = h
 
-pub script_carried : (nest : Forest) (script bytes before : List ℕ) (left_before left_after after : Option (List ℕ)) (status : Status) → left_before ≡ Some script
-    → GathersAll script_limit left_before left_after bytes → Carries (carried_out (listed nest 0) (lines bytes)) before after status → RanScript nest script before left_after after status
-script_carried nest script bytes before lb la after status e h c =
+pub script_carried : (doc : List ℕ) (nest : Forest) (script bytes before : List ℕ) (left_before left_after after : Option (List ℕ)) (status : Status) → left_before ≡ Some script
+    → GathersAll script_limit left_before left_after bytes → Carries (carried_out (listed_in doc nest) (lines bytes)) before after status → RanScript doc nest script before left_after after status
+script_carried doc nest script bytes before lb la after status e h c =
     let P : Option (List ℕ) → Type 0 = λ o. GathersAll script_limit o la bytes in
     by la (subst P e h)
   where
-    by : (la : Option (List ℕ)) → GathersAll script_limit (Some script) la bytes → RanScript nest script before la after status
+    by : (la : Option (List ℕ)) → GathersAll script_limit (Some script) la bytes → RanScript doc nest script before la after status
     by None h = absurd h
     by (Some left) h =
-        let m : scripted nest script ≡ carried_out (listed nest 0) (lines bytes) = scripted_within nest script h.2 ∙ ap (λ (s : List ℕ). carried_out (listed nest 0) (lines s)) (sym h.0) in
+        let m : scripted doc nest script ≡ carried_out (listed_in doc nest) (lines bytes) = scripted_within doc nest script h.2 ∙ ap (λ (s : List ℕ). carried_out (listed_in doc nest) (lines s)) (sym h.0) in
         let P : Outcome → Type 0 = λ o. EndsAs o script c.out [] left status in
-        let Q : List ℕ → Type 0 = λ l. EndsAs (carried_out (listed nest 0) (lines bytes)) script c.out [] l status in
+        let Q : List ℕ → Type 0 = λ l. EndsAs (carried_out (listed_in doc nest) (lines bytes)) script c.out [] l status in
         record {
           out = c.out;
           left = left;
           taken = c.taken;
           script_left = refl;
-          ends = subst P (sym m) (subst Q (sym h.1) (ends_carried _ script c.out status (carried_err (listed nest 0) (lines bytes)) (carried_left (listed nest 0) (lines bytes)) c.carries));
+          ends = subst P (sym m) (subst Q (sym h.1) (ends_carried _ script c.out status (carried_err (listed_in doc nest) (lines bytes)) (carried_left (listed_in doc nest) (lines bytes)) c.carries));
         }
 
 -- ---- refusals
@@ -154,35 +156,35 @@ same_taken : (before : List ℕ) (o : Option (List ℕ)) → o ≡ Some before �
 same_taken before o e = e ∙ ap (λ (xs : List ℕ). Some xs) (sym (append-nil before))
 
 -- a script that could not be read to its end, or for which there was no memory
-pub script_unread : (nest : Forest) (script before : List ℕ) (left_before left_after after : Option (List ℕ)) (status : Status) (fault : GatherFault) → left_before ≡ Some script → after ≡ Some before
-    → GathersFront script_limit left_before left_after fault → (fault ≡ gather.Long → ⊥) → EndsUnread status → RanScript nest script before left_after after status
-script_unread nest script before lb la after status fault e k h n s =
+pub script_unread : (doc : List ℕ) (nest : Forest) (script before : List ℕ) (left_before left_after after : Option (List ℕ)) (status : Status) (fault : GatherFault) → left_before ≡ Some script → after ≡ Some before
+    → GathersFront script_limit left_before left_after fault → (fault ≡ gather.Long → ⊥) → EndsUnread status → RanScript doc nest script before left_after after status
+script_unread doc nest script before lb la after status fault e k h n s =
     let P : Option (List ℕ) → Type 0 = λ o. GathersFront script_limit o la fault in
     by la fault (subst P e h) n
   where
-    by : (la : Option (List ℕ)) (fault : GatherFault) → GathersFront script_limit (Some script) la fault → (fault ≡ gather.Long → ⊥) → RanScript nest script before la after status
+    by : (la : Option (List ℕ)) (fault : GatherFault) → GathersFront script_limit (Some script) la fault → (fault ≡ gather.Long → ⊥) → RanScript doc nest script before la after status
     by None gather.Failed h n = absurd h
     by None gather.Long h n = absurd h
     by None gather.NoMemory h n = absurd h
-    by (Some left) gather.Failed h n = record { out = []; left = left; taken = same_taken before after k; script_left = refl; ends = ends_unread (scripted nest script) script left status (scripted_reads nest script) s }
+    by (Some left) gather.Failed h n = record { out = []; left = left; taken = same_taken before after k; script_left = refl; ends = ends_unread (scripted doc nest script) script left status (scripted_reads doc nest script) s }
     by (Some left) gather.Long h n = absurd (n refl)
-    by (Some left) gather.NoMemory h n = record { out = []; left = left; taken = same_taken before after k; script_left = refl; ends = ends_unread (scripted nest script) script left status (scripted_reads nest script) s }
+    by (Some left) gather.NoMemory h n = record { out = []; left = left; taken = same_taken before after k; script_left = refl; ends = ends_unread (scripted doc nest script) script left status (scripted_reads doc nest script) s }
 
 -- a script that is too long
-pub script_too_long : (nest : Forest) (script before : List ℕ) (left_before left_after out_before after : Option (List ℕ)) (faults_before faults : ℕ) (status : Status) (fault : GatherFault) → left_before ≡ Some script → out_before ≡ Some before
+pub script_too_long : (doc : List ℕ) (nest : Forest) (script before : List ℕ) (left_before left_after out_before after : Option (List ℕ)) (faults_before faults : ℕ) (status : Status) (fault : GatherFault) → left_before ≡ Some script → out_before ≡ Some before
     → GathersFront script_limit left_before left_after fault → fault ≡ gather.Long → SendsAs out_before after (refused_line (codes "script-long")) faults_before faults statuses.Refused status
-    → RanScript nest script before left_after after status
-script_too_long nest script before lb la ob after fb fa status fault e k h is s =
+    → RanScript doc nest script before left_after after status
+script_too_long doc nest script before lb la ob after fb fa status fault e k h is s =
     let P : Option (List ℕ) → Type 0 = λ o. GathersFront script_limit o la gather.Long in
     let F : GatherFault → Type 0 = λ f. GathersFront script_limit lb la f in
     let Q : Option (List ℕ) → Type 0 = λ o. SendsAs o after (refused_line (codes "script-long")) fb fa statuses.Refused status in
     by la (subst P e (subst F is h)) (subst Q k s)
   where
-    by : (la : Option (List ℕ)) → GathersFront script_limit (Some script) la gather.Long → SendsAs (Some before) after (refused_line (codes "script-long")) fb fa statuses.Refused status → RanScript nest script before la after status
+    by : (la : Option (List ℕ)) → GathersFront script_limit (Some script) la gather.Long → SendsAs (Some before) after (refused_line (codes "script-long")) fb fa statuses.Refused status → RanScript doc nest script before la after status
     by None h s = absurd h
     by (Some left) h s =
-        let r = ends_refused (scripted nest script) (codes "script-long") true script left before after fb fa status s in
-        let m : scripted nest script ≡ refused (codes "script-long") true left = scripted_long nest script (omega (arith, h.0)) ∙ ap (refused (codes "script-long") true) (sym h.1) in
+        let r = ends_refused (scripted doc nest script) (codes "script-long") true script left before after fb fa status s in
+        let m : scripted doc nest script ≡ refused (codes "script-long") true left = scripted_long doc nest script (omega (arith, h.0)) ∙ ap (refused (codes "script-long") true) (sym h.1) in
         record { out = r.0; left = left; taken = r.1; script_left = refl; ends = r.2 m }
 
 -- ---- what a run means, by what is known
@@ -202,18 +204,18 @@ made_of words name bytes files script m e f h =
 
 means_long : (bytes script : List ℕ) (m : Outcome) → document_limit < length bytes → MeansDocument bytes script m → m ≡ refused (codes "file-long") false script
 means_long bytes script m l (too_long b s h) = refl
-means_long bytes script m l (not_plain b s h n) = absurd (omega arith)
-means_long bytes script m l (plain b s h nest p) = absurd (omega arith)
+means_long bytes script m l (unfit b s h fault r) = absurd (omega arith)
+means_long bytes script m l (accepted b s h nest p) = absurd (omega arith)
 
-means_not_plain : (bytes script : List ℕ) (m : Outcome) → length bytes ≤ document_limit → IsNotPlain bytes → MeansDocument bytes script m → m ≡ refused (codes "not-plain") false script
-means_not_plain bytes script m l n (too_long b s h) = absurd (omega arith)
-means_not_plain bytes script m l n (not_plain b s h k) = refl
-means_not_plain bytes script m l n (plain b s h nest p) = absurd (n nest p)
+means_unfit : (bytes script : List ℕ) (m : Outcome) → length bytes ≤ document_limit → (fault : DocFault) → IsRefused bytes fault → MeansDocument bytes script m → m ≡ refused (fault_words fault) false script
+means_unfit bytes script m l fault r (too_long b s h) = absurd (omega arith)
+means_unfit bytes script m l fault r (unfit b s h other q) = ap (λ (f : DocFault). refused (fault_words f) false script) (one_refused bytes other fault q r)
+means_unfit bytes script m l fault r (accepted b s h nest p) = absurd (not_both bytes nest fault p r)
 
-means_plain : (bytes script : List ℕ) (m : Outcome) → length bytes ≤ document_limit → (nest : Forest) → IsPlain bytes nest → MeansDocument bytes script m → (other : Forest) × IsPlain bytes other × (m ≡ scripted other script)
-means_plain bytes script m l nest p (too_long b s h) = absurd (omega arith)
-means_plain bytes script m l nest p (not_plain b s h k) = absurd (k nest p)
-means_plain bytes script m l nest p (plain b s h other q) = (other, q, refl)
+means_accepted : (bytes script : List ℕ) (m : Outcome) → length bytes ≤ document_limit → (nest : Forest) → Accepted layers bytes nest → MeansDocument bytes script m → (other : Forest) × Accepted layers bytes other × (m ≡ scripted bytes other script)
+means_accepted bytes script m l nest p (too_long b s h) = absurd (omega arith)
+means_accepted bytes script m l nest p (unfit b s h fault r) = absurd (not_both bytes nest fault p r)
+means_accepted bytes script m l nest p (accepted b s h other q) = (other, q, refl)
 
 -- ---- the endings of a run
 
@@ -235,17 +237,28 @@ pub ran_long : (words : List (List ℕ)) (name bytes : List ℕ) (files : NameMa
     → (m : Outcome) → Means words files script m → m ≡ refused (codes "file-long") false script
 ran_long words name bytes files script d f l m h = means_long bytes script m l (means_document words name bytes files script m d f h)
 
-pub ran_not_plain : (words : List (List ℕ)) (name bytes : List ℕ) (files : NameMap) (script : List ℕ) → document_name words ≡ Some name → files name ≡ Some bytes → length bytes ≤ document_limit → IsNotPlain bytes
-    → (m : Outcome) → Means words files script m → m ≡ refused (codes "not-plain") false script
-ran_not_plain words name bytes files script d f l n m h = means_not_plain bytes script m l n (means_document words name bytes files script m d f h)
+pub ran_unfit : (words : List (List ℕ)) (name bytes : List ℕ) (files : NameMap) (script : List ℕ) → document_name words ≡ Some name → files name ≡ Some bytes → length bytes ≤ document_limit → (fault : DocFault) → IsRefused bytes fault
+    → (m : Outcome) → Means words files script m → m ≡ refused (fault_words fault) false script
+ran_unfit words name bytes files script d f l fault r m h = means_unfit bytes script m l fault r (means_document words name bytes files script m d f h)
 
 pub made_long : (words : List (List ℕ)) (name bytes : List ℕ) (files : NameMap) (script : List ℕ) → document_name words ≡ Some name → files name ≡ Some bytes → document_limit < length bytes
     → Means words files script (refused (codes "file-long") false script)
 made_long words name bytes files script d f l = made_of words name bytes files script _ d f (too_long bytes script l)
 
-pub made_not_plain : (words : List (List ℕ)) (name bytes : List ℕ) (files : NameMap) (script : List ℕ) → document_name words ≡ Some name → files name ≡ Some bytes → length bytes ≤ document_limit → IsNotPlain bytes
-    → Means words files script (refused (codes "not-plain") false script)
-made_not_plain words name bytes files script d f l n = made_of words name bytes files script _ d f (not_plain bytes script l n)
+pub made_unfit : (words : List (List ℕ)) (name bytes : List ℕ) (files : NameMap) (script : List ℕ) → document_name words ≡ Some name → files name ≡ Some bytes → length bytes ≤ document_limit → (fault : DocFault) → IsRefused bytes fault
+    → Means words files script (refused (fault_words fault) false script)
+made_unfit words name bytes files script d f l fault r = made_of words name bytes files script _ d f (unfit bytes script l fault r)
+
+-- the document of that name is refused
+pub ran_unfit_line : (words : List (List ℕ)) (files : NameMap) (fault : DocFault) (script out err : List ℕ) (left_now out_before out_now err_now : Option (List ℕ)) (faults_before faults : ℕ) (status : Status)
+    → Means words files script (refused (fault_words fault) false script) → ((m : Outcome) → Means words files script m → m ≡ refused (fault_words fault) false script) → left_now ≡ Some script → out_before ≡ Some out → err_now ≡ Some err
+    → EndsUnfit out_before out_now fault faults_before faults status → Ran words files script out err left_now out_now err_now status
+ran_unfit_line words files fault script out err ln ob on en fb fa status made means el eo ee s = elim s [
+  | inl q ↦
+      let P : Status → Type 0 = λ x. Ran words files script out err ln on en x in
+      subst P (sym q.0) (ran_empty words files script out err ln on en statuses.NoMemory el (q.1 ∙ eo) ee tt)
+  | inr q ↦ ran_refused words files (fault_words fault) script out err ln ob on en fb fa status made means el eo ee q
+]
 
 -- no document is named
 pub ran_usage : (words : List (List ℕ)) (files : NameMap) (script out err : List ℕ) (left_now out_now err_before err_now : Option (List ℕ)) (faults_before faults : ℕ) (status : Status)
@@ -293,10 +306,10 @@ ran_usage words files script out err ln on eb en fb fa status d el eo ee s =
 -- the script was run over the document of that name
 pub ran_script : (words : List (List ℕ)) (name : List ℕ) (files : NameMap) (doc : Document) (script out err : List ℕ) (left_now out_now err_now : Option (List ℕ)) (status : Status)
     → document_name words ≡ Some name → files name ≡ Some doc.bytes → length doc.bytes ≤ document_limit → IsBuilt doc → err_now ≡ Some err
-    → ((nest : Forest) → IsPlain doc.bytes nest → doc.words ≡ words_of doc.bytes nest → RanScript nest script out left_now out_now status)
+    → ((nest : Forest) → IsNavOf doc.bytes doc.words nest → RanScript doc.bytes nest script out left_now out_now status)
     → Ran words files script out err left_now out_now err_now status
 ran_script words name files doc script out err ln on en status d f l b ee ran =
-    let r = ran b.nest b.plain (b.words b.nest b.plain) in
+    let r = ran b.nest (b.words b.nest b.accepted) in
     record {
       out = r.out;
       err = [];
@@ -304,18 +317,18 @@ ran_script words name files doc script out err ln on en status d f l b ee ran =
       out_taken = r.taken;
       err_taken = same_taken err en ee;
       script_left = r.script_left;
-      means = λ i. (scripted b.nest script, made_of words name doc.bytes files script _ d f (plain doc.bytes script l b.nest b.plain));
-      ends = λ m h. ends r m (means_plain doc.bytes script m l b.nest b.plain (means_document words name doc.bytes files script m d f h));
+      means = λ i. (scripted doc.bytes b.nest script, made_of words name doc.bytes files script _ d f (accepted doc.bytes script l b.nest b.accepted));
+      ends = λ m h. ends r m (means_accepted doc.bytes script m l b.nest b.accepted (means_document words name doc.bytes files script m d f h));
     }
   where
-    ends : (r : RanScript b.nest script out ln on status) (m : Outcome) → ((other : Forest) × IsPlain doc.bytes other × (m ≡ scripted other script)) → EndsAs m script r.out [] r.left status
+    ends : (r : RanScript doc.bytes b.nest script out ln on status) (m : Outcome) → ((other : Forest) × Accepted layers doc.bytes other × (m ≡ scripted doc.bytes other script)) → EndsAs m script r.out [] r.left status
     ends r m o =
-        let q = ran o.0 o.1 (b.words o.0 o.1) in
+        let q = ran o.0 (b.words o.0 o.1) in
         let same_out : q.out ≡ r.out = append_cancel_left out q.out r.out (same_Some (out ++ q.out) (out ++ r.out) (sym q.taken ∙ r.taken)) in
         let same_left : q.left ≡ r.left = same_Some q.left r.left (sym q.script_left ∙ r.script_left) in
         let P : Outcome → Type 0 = λ x. EndsAs x script r.out [] r.left status in
-        let Q : List ℕ → Type 0 = λ x. EndsAs (scripted o.0 script) script x [] r.left status in
-        let R : List ℕ → Type 0 = λ x. EndsAs (scripted o.0 script) script q.out [] x status in
+        let Q : List ℕ → Type 0 = λ x. EndsAs (scripted doc.bytes o.0 script) script x [] r.left status in
+        let R : List ℕ → Type 0 = λ x. EndsAs (scripted doc.bytes o.0 script) script q.out [] x status in
         subst P (sym o.2) (subst Q same_out (subst R same_left q.ends))
 
 -- ---- what was read, where the files are told
@@ -329,10 +342,10 @@ reads_long o files name fault e f h =
     let Q : NoDocument → Type 0 = λ x. ReadsDocument o name (Err x) in
     subst P e (subst Q f h)
 
-pub reads_not_plain : (o : Option NameMap) (files : NameMap) (name : List ℕ) (fault : NoDocument) → o ≡ Some files → fault ≡ no.NotPlain → ReadsDocument o name (Err fault)
-    → (bytes : List ℕ) × (files name ≡ Some bytes) × (length bytes ≤ document_limit) × IsNotPlain bytes
-reads_not_plain o files name fault e f h =
-    let P : Option NameMap → Type 0 = λ x. ReadsDocument x name (Err no.NotPlain) in
+pub reads_unfit : (o : Option NameMap) (files : NameMap) (name : List ℕ) (fault : NoDocument) (why : DocFault) → o ≡ Some files → fault ≡ no.Unfit why → ReadsDocument o name (Err fault)
+    → (bytes : List ℕ) × (files name ≡ Some bytes) × (length bytes ≤ document_limit) × IsRefused bytes why
+reads_unfit o files name fault why e f h =
+    let P : Option NameMap → Type 0 = λ x. ReadsDocument x name (Err (no.Unfit why)) in
     let Q : NoDocument → Type 0 = λ x. ReadsDocument o name (Err x) in
     subst P e (subst Q f h)
 
@@ -340,10 +353,10 @@ reads_not_plain o files name fault e f h =
 
 same_document : (bytes script : List ℕ) (m n : Outcome) → MeansDocument bytes script m → MeansDocument bytes script n → m ≡ n
 same_document bytes script m n (too_long b s h) y = sym (means_long bytes script n h y)
-same_document bytes script m n (not_plain b s h k) y = sym (means_not_plain bytes script n h k y)
-same_document bytes script m n (plain b s h nest p) y =
-    let o = means_plain bytes script n h nest p y in
-    ap (λ (f : Forest). scripted f script) (one_plain_nest bytes nest o.0 p o.1) ∙ sym o.2
+same_document bytes script m n (unfit b s h fault r) y = sym (means_unfit bytes script n h fault r y)
+same_document bytes script m n (accepted b s h nest p) y =
+    let o = means_accepted bytes script n h nest p y in
+    ap (λ (f : Forest). scripted bytes f script) (one_accepted bytes nest o.0 p o.1) ∙ sym o.2
 
 same_file : (file : Option (List ℕ)) (script : List ℕ) (m n : Outcome) → MeansFile file script m → MeansFile file script n → m ≡ n
 same_file None script m n x y = x ∙ sym y
@@ -356,7 +369,7 @@ same_meaning (Some name) files script m n x y = same_file (files name) script m 
 none_document : (bytes script : List ℕ) → ((m : Outcome) → MeansDocument bytes script m → ⊥) → ⊥
 none_document bytes script none = elim (cases_lt document_limit (length bytes)) [
   | inl h ↦ none _ (too_long bytes script h)
-  | inr h ↦ none _ (not_plain bytes script h (λ nest p. none _ (plain bytes script h nest p)))
+  | inr h ↦ some_answer bytes (λ nest p. none _ (accepted bytes script h nest p)) (λ fault r. none _ (unfit bytes script h fault r))
 ]
 
 none_file : (file : Option (List ℕ)) (script : List ℕ) → ((m : Outcome) → MeansFile file script m → ⊥) → ⊥
@@ -397,6 +410,14 @@ pub ran_sent : (words : List (List ℕ)) (files : NameMap) (script out err : Lis
     → Ran words files script out err left_now out_now err_now result → SendsAs before after piece faults_before faults status result → (Rose faults_before faults → ⊥) → IsEnd status
     → (result ≡ statuses.NoMemory) ⊎ RanExactly words files script out err left_now out_now err_now result
 ran_sent words files script out err ln on en before after piece fb fa status result r s n i = inr (ran_to_end words files script out err ln on en result r (subst IsEnd (sym (sent_status before after piece fb fa status result s n)) i))
+
+pub ran_unfit_sent : (words : List (List ℕ)) (files : NameMap) (script out err : List ℕ) (left_now out_now err_now before after : Option (List ℕ)) (fault : DocFault) (faults_before faults : ℕ) (result : Status)
+    → Ran words files script out err left_now out_now err_now result → EndsUnfit before after fault faults_before faults result → (Rose faults_before faults → ⊥)
+    → (result ≡ statuses.NoMemory) ⊎ RanExactly words files script out err left_now out_now err_now result
+ran_unfit_sent words files script out err ln on en before after fault fb fa result r s n = elim s [
+  | inl q ↦ inl q.0
+  | inr q ↦ ran_sent words files script out err ln on en before after _ fb fa statuses.Refused result r q n tt
+]
 
 pub ran_through : (words : List (List ℕ)) (files : NameMap) (script out err : List ℕ) (left_now out_now err_now : Option (List ℕ)) (status : Status) → Ran words files script out err left_now out_now err_now status
     → (status ≡ statuses.ReadFault → ⊥) → (status ≡ statuses.WriteFault → ⊥) → (status ≡ statuses.FileFault → ⊥) → (status ≡ statuses.NoMemory) ⊎ RanExactly words files script out err left_now out_now err_now status

@@ -4,8 +4,16 @@ use Rattle.std.specs.Prelude.{◌≡◌, ℕ, ◌+◌, ◌<◌, ◌≤◌, Bool,
 use Rattle.vtd_outside.specs.Causes.{Rose, RoseAlone, is_missing}
 use Rattle.vtd_outside.specs.Told.{NameMap}
 use Rattle.xml_model.specs.Chars.{begins}
+use Rattle.std.specs.Fmt.{decimal}
+use Rattle.xml_model.specs.declared.DocFault.{DocFault}
+use Rattle.xml_model.specs.declared.DocFault.TheVariants as faults
+use Rattle.xml_model.specs.declared.Field.{Field}
+use Rattle.xml_model.specs.declared.Field.TheVariants as fields
+use Rattle.xml_model.specs.Items.{first_place}
 use Rattle.xml_model.specs.Nest.{Forest}
-use Rattle.vtd_builder.specs.Plain.{IsPlain, IsNotPlain, Document, words_of}
+use Rattle.xml_model.specs.Accepted.{Accepted, IsRefusal, layer}
+use Rattle.vtd_location.specs.Nav.{IsNavOf, layers}
+use Rattle.vtd_builder.specs.Documents.{Document}
 use Rattle.vtd_program.specs.declared.running.NoDocument.{NoDocument}
 use Rattle.vtd_program.specs.declared.running.NoDocument.TheVariants as no
 use Rattle.vtd_program.specs.declared.commands.Command.{Command}
@@ -65,17 +73,57 @@ document_limit = 1_073_741_823
 abbrev pub script_limit : ℕ
 script_limit = 16_777_216
 
+-- what the command `elements` prints of a document with this nest
+abbrev pub listed_in : List ℕ → Forest → List ℕ
+listed_in bytes nest = listed nest (first_place bytes)
+
 -- a script over a document with this nest: it is read whole before any command is carried out
-abbrev pub scripted : Forest → List ℕ → Outcome
-scripted nest script =
+abbrev pub scripted : List ℕ → Forest → List ℕ → Outcome
+scripted bytes nest script =
     cond (nat_lt script_limit (length script)) (refused (codes "script-long") true (drop (script_limit + 1) script))
-    (carried_out (listed nest 0) (lines script))
+    (carried_out (listed_in bytes nest) (lines script))
+
+-- the words of a refused document, before the place
+abbrev pub width_word : Field → List ℕ
+width_word fields.Token = codes "width token "
+width_word fields.Name = codes "width name "
+width_word fields.Prefix = codes "width prefix "
+
+abbrev pub fault_word : DocFault → List ℕ
+fault_word (faults.Utf8 at) = codes "utf8 "
+fault_word (faults.Syntax at) = codes "syntax "
+fault_word (faults.Entity at) = codes "entity "
+fault_word (faults.Encoding at) = codes "encoding "
+fault_word (faults.Nesting at) = codes "nesting "
+fault_word (faults.Depth at) = codes "depth "
+fault_word (faults.Width field at) = width_word field
+fault_word (faults.Twice at) = codes "twice "
+fault_word (faults.Namespace at) = codes "namespace "
+
+abbrev pub fault_place : DocFault → ℕ
+fault_place (faults.Utf8 at) = at
+fault_place (faults.Syntax at) = at
+fault_place (faults.Entity at) = at
+fault_place (faults.Encoding at) = at
+fault_place (faults.Nesting at) = at
+fault_place (faults.Depth at) = at
+fault_place (faults.Width field at) = at
+fault_place (faults.Twice at) = at
+fault_place (faults.Namespace at) = at
+
+unfoldable pub fault_words : DocFault → List ℕ
+fault_words fault = fault_word fault ++ decimal (fault_place fault)
+
+-- the refusal of a document by a layer that is checked
+pub record IsRefused (bytes : List ℕ) (fault : DocFault) : Type 0 where
+  pub refusal : IsRefusal bytes fault
+  pub checked : layer fault ≤ layers
 
 -- a document of these bytes, and a script, which is read only where the document is accepted
 pub data MeansDocument : List ℕ → List ℕ → Outcome → Type 0 where
   too_long : (bytes script : List ℕ) → document_limit < length bytes → MeansDocument bytes script (refused (codes "file-long") false script)
-  not_plain : (bytes script : List ℕ) → length bytes ≤ document_limit → IsNotPlain bytes → MeansDocument bytes script (refused (codes "not-plain") false script)
-  plain : (bytes script : List ℕ) → length bytes ≤ document_limit → (nest : Forest) → IsPlain bytes nest → MeansDocument bytes script (scripted nest script)
+  unfit : (bytes script : List ℕ) → length bytes ≤ document_limit → (fault : DocFault) → IsRefused bytes fault → MeansDocument bytes script (refused (fault_words fault) false script)
+  accepted : (bytes script : List ℕ) → length bytes ≤ document_limit → (nest : Forest) → Accepted layers bytes nest → MeansDocument bytes script (scripted bytes nest script)
 
 -- a file that may not be there
 abbrev pub MeansFile : Option (List ℕ) → List ℕ → Outcome → Type 0
@@ -140,21 +188,21 @@ pub record RanExactly (words : List (List ℕ)) (files : NameMap) (script out_be
   pub script_left : left_after ≡ Some m.left
   pub same_status : status ≡ m.status
 
--- a document of a plain nest, whose words are those of each nest of its bytes
+-- a document that is accepted, whose words are those of each nest of its bytes
 pub record IsBuilt (doc : Document) : Type 0 where
   pub nest : Forest
-  pub plain : IsPlain doc.bytes nest
-  pub words : (other : Forest) → IsPlain doc.bytes other → doc.words ≡ words_of doc.bytes other
+  pub accepted : Accepted layers doc.bytes nest
+  pub words : (other : Forest) → Accepted layers doc.bytes other → IsNavOf doc.bytes doc.words other
 
 -- Why no document was read, by the answer, where the files are told: the name is not there, the file is too long, or it is
--- not plain. Otherwise a document was read whose bytes are the file's, within the limit.
+-- refused. Otherwise a document was read whose bytes are the file's, within the limit.
 abbrev pub ReadsDocument : Option NameMap → List ℕ → Result Document NoDocument → Type 0
 ReadsDocument None name result = Unit {0}
 ReadsDocument (Some files) name (Ok doc) = (files name ≡ Some doc.bytes) × (length doc.bytes ≤ document_limit) × IsBuilt doc
 ReadsDocument (Some files) name (Err no.Failed) = Unit {0}
 ReadsDocument (Some files) name (Err no.NoMemory) = Unit {0}
 ReadsDocument (Some files) name (Err no.Long) = (bytes : List ℕ) × (files name ≡ Some bytes) × (document_limit < length bytes)
-ReadsDocument (Some files) name (Err no.NotPlain) = (bytes : List ℕ) × (files name ≡ Some bytes) × (length bytes ≤ document_limit) × IsNotPlain bytes
+ReadsDocument (Some files) name (Err (no.Unfit fault)) = (bytes : List ℕ) × (files name ≡ Some bytes) × (length bytes ≤ document_limit) × IsRefused bytes fault
 
 -- no document was read: a fault of the files came alone, by the name or proper; else no count rose
 abbrev pub DocumentCause : Bool → ℕ → ℕ → ℕ → ℕ → Result Document NoDocument → Type 0
@@ -178,6 +226,11 @@ SendsFront (Some before) None piece = ⊥
 abbrev pub SendsAs : Option (List ℕ) → Option (List ℕ) → List ℕ → ℕ → ℕ → Status → Status → Type 0
 SendsAs before after piece faults_before faults status result =
     ((result ≡ status) × SendsAll before after piece × (faults ≡ faults_before)) ⊎ ((result ≡ statuses.WriteFault) × SendsFront before after piece × Rose faults_before faults)
+
+-- The line of a refused document was sent, or there was no memory for it and nothing was sent.
+abbrev pub EndsUnfit : Option (List ℕ) → Option (List ℕ) → DocFault → ℕ → ℕ → Status → Type 0
+EndsUnfit before after fault faults_before faults result =
+    ((result ≡ statuses.NoMemory) × (after ≡ before) × (faults ≡ faults_before)) ⊎ SendsAs before after (refused_line (fault_words fault)) faults_before faults statuses.Refused result
 
 -- how the carrying out of a script may end
 abbrev pub EndsInScript : Status → Type 0
@@ -218,12 +271,12 @@ pub record Carries (m : Outcome) (before : List ℕ) (after : Option (List ℕ))
   pub carries : CarriesTo m out status
 
 -- a script that was run over a document with this nest
-pub record RanScript (nest : Forest) (script before : List ℕ) (left_after after : Option (List ℕ)) (status : Status) : Type 0 where
+pub record RanScript (bytes : List ℕ) (nest : Forest) (script before : List ℕ) (left_after after : Option (List ℕ)) (status : Status) : Type 0 where
   pub out : List ℕ
   pub left : List ℕ
   pub taken : after ≡ Some (before ++ out)
   pub script_left : left_after ≡ Some left
-  pub ends : EndsAs (scripted nest script) script out [] left status
+  pub ends : EndsAs (scripted bytes nest script) script out [] left status
 
 -- The script could not be read: its count rose, and the words are of the form.
 abbrev pub ReadCause : Option (List ℕ) → ℕ → ℕ → Type 0

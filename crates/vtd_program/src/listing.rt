@@ -2,14 +2,16 @@
 
 ghost use Rattle.std.specs.Prelude.{◌≡◌, ℕ, ◌+◌, ◌-◌, ◌^◌, ◌<◌, ◌≤◌, List, ◌∷◌, ◌++◌, [], length, vec_len, codes, OnOk, IfOk};
 ghost use Rattle.xml_model.specs.Nest.{Forest};
-ghost use Rattle.vtd_builder.specs.Plain.{IsPlain, words_of};
+ghost use Rattle.xml_model.specs.Items.{first_place};
+ghost use Rattle.vtd_location.specs.Nav.{IsNavOf};
 ghost use Rattle.vtd_program.specs.Listing.{element_line, listed, listing};
+ghost use Rattle.vtd_program.specs.Meaning.{fault_word, fault_place, fault_words, refused_line, width_word};
 ghost use Rattle.std.specs.Fmt.{decimal};
 
 use crate::spans::element_spans;
 use std::alloc::Global;
 use vtd_builder::Doc;
-use xml_model::{NoMemory, Span};
+use xml_model::{DocFault, Field, NoMemory, Span};
 
 /// Adds one decimal digit.
 fn push_digit(lines: &mut Vec<u8>, digit: u8) -> Result<(), NoMemory>
@@ -64,8 +66,66 @@ fn span_lines(alloc: Global, spans: &[Span]) -> Result<Vec<u8>, NoMemory>
 /// The lines of the command `elements`: how many elements the document has, and the start and the length of each, in
 /// document order.
 pub fn element_lines(alloc: Global, doc: &Doc) -> Result<Vec<u8>, NoMemory>
-    ensures { IfOk result (λ lines. (nest : Forest) → IsPlain doc.now.bytes nest → doc.now.words ≡ words_of doc.now.bytes nest → lines.items ≡ listed nest 0) }
+    ensures { IfOk result (λ lines. (nest : Forest) → IsNavOf doc.now.bytes doc.now.words nest → lines.items ≡ listed nest (first_place doc.now.bytes)) }
 {
     let spans = element_spans(alloc, doc)?;
     span_lines(alloc, &spans)
+}
+
+/// The words for the part of a record that is too wide.
+fn width_word(field: Field) -> &'static [u8]
+    ensures { result.now ≡ width_word field }
+{
+    match field {
+        Field::Token => b"width token ",
+        Field::Name => b"width name ",
+        Field::Prefix => b"width prefix ",
+    }
+}
+
+/// The words for a document's fault, before its place.
+fn fault_word(fault: DocFault) -> &'static [u8]
+    ensures { result.now ≡ fault_word fault }
+{
+    match fault {
+        DocFault::Utf8 { .. } => b"utf8 ",
+        DocFault::Syntax { .. } => b"syntax ",
+        DocFault::Entity { .. } => b"entity ",
+        DocFault::Encoding { .. } => b"encoding ",
+        DocFault::Nesting { .. } => b"nesting ",
+        DocFault::Depth { .. } => b"depth ",
+        DocFault::Width { field, .. } => width_word(field),
+        DocFault::Twice { .. } => b"twice ",
+        DocFault::Namespace { .. } => b"namespace ",
+    }
+}
+
+/// Where a document's fault is.
+fn fault_place(fault: DocFault) -> u32
+    ensures { result ≡ fault_place fault }
+{
+    match fault {
+        DocFault::Utf8 { at }
+        | DocFault::Syntax { at }
+        | DocFault::Entity { at }
+        | DocFault::Encoding { at }
+        | DocFault::Nesting { at }
+        | DocFault::Depth { at }
+        | DocFault::Width { at, .. }
+        | DocFault::Twice { at }
+        | DocFault::Namespace { at } => at,
+    }
+}
+
+/// The line of a document that is refused.
+#[tactic(auto, unfolding(crate::specs::Meaning::fault_words))]
+pub fn fault_line(alloc: Global, fault: DocFault) -> Result<Vec<u8>, NoMemory>
+    ensures { IfOk result (λ line. line.items ≡ refused_line (fault_words fault)) }
+{
+    let mut line = Vec::new(alloc);
+    push_text(&mut line, b"refused ")?;
+    push_text(&mut line, fault_word(fault))?;
+    push_decimal(&mut line, u64::from(fault_place(fault)))?;
+    push_text(&mut line, b"\n")?;
+    Ok(line)
 }

@@ -4,16 +4,16 @@ ghost use Rattle.std.specs.Prelude.{◌⊎◌, ◌≡◌, ℕ, ◌+◌, ◌-◌,
 ghost use Rattle.vtd_outside.specs.Causes.{Rose, is_missing};
 ghost use Rattle.vtd_outside.specs.Told.{NameMap};
 ghost use Rattle.xml_model.specs.Nest.{Forest};
-ghost use Rattle.vtd_builder.specs.Plain.{IsPlain, words_of};
+ghost use Rattle.vtd_location.specs.Nav.{IsNavOf};
 ghost use Rattle.vtd_program.specs.Lines.{command, lines};
-ghost use Rattle.vtd_program.specs.Listing.{listed};
-ghost use Rattle.vtd_program.specs.Meaning.{document_name, carried_out, ReadsDocument, DocumentCause, SendsAs, CarriesLine, LineCause, Carries, EndsInScript, RanScript, Ran, RanExactly, ReadCause, WriteCause, FileCause, Outcome, Means};
+ghost use Rattle.vtd_program.specs.Meaning.{document_name, listed_in, EndsUnfit, carried_out, ReadsDocument, DocumentCause, SendsAs, CarriesLine, LineCause, Carries, EndsInScript, RanScript, Ran, RanExactly, ReadCause, WriteCause, FileCause, Outcome, Means};
 
 use crate::commands::{Command, command_of, next_line};
-use crate::listing::element_lines;
+use crate::listing::{element_lines, fault_line};
 use std::alloc::Global;
 use vtd_builder::{BuildFault, Doc, build};
 use vtd_outside::{Files, GatherFault, Sink, Source, gather_file, gather_source, send};
+use xml_model::DocFault;
 
 /// The longest document, in bytes.
 const DOCUMENT_LIMIT: u32 = 1_073_741_823;
@@ -64,7 +64,7 @@ impl Status {
 enum NoDocument {
     Failed,
     Long,
-    NotPlain,
+    Unfit(DocFault),
     NoMemory,
 }
 
@@ -94,7 +94,7 @@ fn read_document<F: Files>(alloc: Global, files: &mut F, name: &str) -> Result<D
     };
     match build(alloc, bytes) {
         Ok(doc) => Ok(doc),
-        Err((_, BuildFault::NotPlain)) => Err(NoDocument::NotPlain),
+        Err((_, BuildFault::Doc(fault))) => Err(NoDocument::Unfit(fault)),
         Err((_, BuildFault::NoMemory)) => Err(NoDocument::NoMemory),
     }
 }
@@ -109,12 +109,22 @@ fn end_with<K: Sink>(sink: &mut K, line: &[u8], status: Status) -> Status
     }
 }
 
+/// Sends the line of a document that is refused.
+fn end_unfit<K: Sink>(alloc: Global, fault: DocFault, out: &mut K) -> Status
+    ensures { EndsUnfit (K.taken out.old) (K.taken out.new) fault (K.faults out.old) (K.faults out.new) result }
+{
+    match fault_line(alloc, fault) {
+        Ok(line) => end_with(out, &line, Status::Refused),
+        Err(_) => Status::NoMemory,
+    }
+}
+
 /// Carries out one line. The run ends at it where it is refused, where what it prints could not be sent, and for want of
 /// memory.
 fn carry_line<K: Sink>(alloc: Global, doc: &Doc, line: &[u8], out: &mut K) -> Result<(), Status>
     ensures cause { LineCause (K.faults out.old) (K.faults out.new) result }
-    ensures carries { (nest : Forest) → IsPlain doc.now.bytes nest → doc.now.words ≡ words_of doc.now.bytes nest
-        → CarriesLine (K.taken out.old) (K.taken out.new) (K.faults out.old) (K.faults out.new) (listed nest 0) (command line.now) result }
+    ensures carries { (nest : Forest) → IsNavOf doc.now.bytes doc.now.words nest
+        → CarriesLine (K.taken out.old) (K.taken out.new) (K.faults out.old) (K.faults out.new) (listed_in doc.now.bytes nest) (command line.now) result }
 {
     match command_of(line) {
         Command::Skip => Ok(()),
@@ -134,9 +144,9 @@ fn carry_line<K: Sink>(alloc: Global, doc: &Doc, line: &[u8], out: &mut K) -> Re
 /// Carries out the lines of a script in turn.
 fn carry_out<K: Sink>(alloc: Global, doc: &Doc, script: &[u8], out: &mut K) -> Status
     requires { length script.now ≤ 16777216 }
-    ensures carries { (nest : Forest) → IsPlain doc.now.bytes nest → doc.now.words ≡ words_of doc.now.bytes nest
+    ensures carries { (nest : Forest) → IsNavOf doc.now.bytes doc.now.words nest
         → (before : List ℕ) → K.taken out.old ≡ Some before
-        → Carries (carried_out (listed nest 0) (lines script.now)) before (K.taken out.new) result }
+        → Carries (carried_out (listed_in doc.now.bytes nest) (lines script.now)) before (K.taken out.new) result }
     ensures write_fault { result ≡ Status.WriteFault → Rose (K.faults out.old) (K.faults out.new) }
     ensures ending { EndsInScript result }
 {
@@ -201,15 +211,15 @@ pub fn run<F: Files, S: Source, K: Sink, E: Sink>(
         Err(NoDocument::Failed) => Status::FileFault,
         Err(NoDocument::NoMemory) => Status::NoMemory,
         Err(NoDocument::Long) => end_with(out, b"refused file-long\n", Status::Refused),
-        Err(NoDocument::NotPlain) => end_with(out, b"refused not-plain\n", Status::Refused),
+        Err(NoDocument::Unfit(fault)) => end_unfit(alloc, fault, out),
     }
 }
 
 /// Reads the script to its end, and carries out its commands in turn.
 fn run_script<S: Source, K: Sink>(alloc: Global, doc: &Doc, script: &mut S, out: &mut K) -> Status
-    ensures runs { (nest : Forest) → IsPlain doc.now.bytes nest → doc.now.words ≡ words_of doc.now.bytes nest
+    ensures runs { (nest : Forest) → IsNavOf doc.now.bytes doc.now.words nest
         → (left taken : List ℕ) → S.left script.old ≡ Some left → K.taken out.old ≡ Some taken
-        → RanScript nest left taken (S.left script.new) (K.taken out.new) result }
+        → RanScript doc.now.bytes nest left taken (S.left script.new) (K.taken out.new) result }
     ensures read_fault { result ≡ Status.ReadFault → Rose (S.faults script.old) (S.faults script.new) }
     ensures write_fault { result ≡ Status.WriteFault → Rose (K.faults out.old) (K.faults out.new) }
     ensures no_file_fault { result ≡ Status.FileFault → ⊥ }

@@ -31,12 +31,12 @@ fn listed(alloc: Global, call: Option<u32>) -> Result<Vec<u32>, AllocError> {
 fn run_over(
     alloc: Global,
     words: &[&str],
-    doc: &str,
+    doc: &[u8],
     script: &str,
     failing: Failing,
 ) -> Result<Answer, Fail> {
     let mut files = MemoryFiles::new(alloc, listed(alloc, failing.0)?, 7);
-    files.put("doc", doc.as_bytes().to_vec(alloc)?)?;
+    files.put("doc", doc.to_vec(alloc)?)?;
     let mut script = MemorySource::new(
         script.as_bytes().to_vec(alloc)?,
         listed(alloc, failing.1)?,
@@ -62,12 +62,6 @@ fn runs(rt: HostRuntime) -> Result<(), Fail> {
         ("<a><b/></a>", "elements", TWO, Status::Done),
         ("<a>x</a>", "", "", Status::Done),
         (
-            "<a b=\"1\"/>",
-            "elements",
-            "refused not-plain\n",
-            Status::Refused,
-        ),
-        (
             "<a/>",
             "elements\nfrob\nelements\n",
             "nodes 1\nelement 0 4\nrefused command\n",
@@ -75,19 +69,92 @@ fn runs(rt: HostRuntime) -> Result<(), Fail> {
         ),
         ("<a><b/></a>", "\nelements\r\n\n", TWO, Status::Done),
         ("<a/>", "elements\r", "refused command\n", Status::Refused),
-        ("", "elements", "refused not-plain\n", Status::Refused),
         (
             "<a>x<b><c/>y</b><d></d></a>",
             "elements",
             "nodes 4\nelement 0 27\nelement 4 12\nelement 7 4\nelement 16 7\n",
             Status::Done,
         ),
+        (
+            "<!--<x/>--><a b='>'><![CDATA[<y/>]]></a>",
+            "elements",
+            "nodes 1\nelement 11 29\n",
+            Status::Done,
+        ),
+        (
+            "<!DOCTYPE a [<!-- ] -->]><a/>",
+            "elements",
+            "nodes 1\nelement 25 4\n",
+            Status::Done,
+        ),
     ];
     for (doc, script, out, status) in rows {
-        let got = run_over(rt.alloc(), &["doc"], doc, script, NO_FAULT)?;
+        let got = run_over(rt.alloc(), &["doc"], doc.as_bytes(), script, NO_FAULT)?;
         assert_eq!(rt; got.out.taken(), out.as_bytes());
         assert_eq!(rt; got.status, status);
         assert!(rt; got.err.taken().is_empty());
+    }
+    Ok(())
+}
+
+#[test]
+fn refused_documents(rt: HostRuntime) -> Result<(), Fail> {
+    let rows: [(&[u8], &str); 12] = [
+        (b"<a\xff", "utf8 2"),
+        (b"<a>&lt</a>", "syntax 3"),
+        (b"<a>]]></a>", "syntax 3"),
+        (b"<a><?xml version=\"1.0\"?></a>", "syntax 3"),
+        (b"<a>&x;</b>", "entity 3"),
+        (
+            b"<?xml version=\"1.0\" encoding=\"UTF-16\"?><a/>",
+            "encoding 30",
+        ),
+        (b"", "nesting 0"),
+        (b"<a>", "nesting 3"),
+        (b"<a></b>", "nesting 3"),
+        (b"<a/>x", "nesting 4"),
+        (b"<a/><b/>", "nesting 4"),
+        (b"\xef\xbb\xbf", "nesting 3"),
+    ];
+    for (doc, words) in rows {
+        let got = run_over(rt.alloc(), &["doc"], doc, "elements", NO_FAULT)?;
+        let line = format!(in rt.alloc(); "refused {words}\n")?;
+        assert_eq!(rt; got.out.taken(), line.as_bytes());
+        assert_eq!(rt; got.status, Status::Refused);
+    }
+    Ok(())
+}
+
+/// So many times a text, and then another.
+fn repeated(alloc: Global, text: &str, count: usize, end: &str) -> Result<String, AllocError> {
+    let mut all = String::new(alloc);
+    for _ in 0..count {
+        all.push_str(text)?;
+    }
+    all.push_str(end)?;
+    Ok(all)
+}
+
+#[test]
+fn limits(rt: HostRuntime) -> Result<(), Fail> {
+    let alloc = rt.alloc();
+    let rows = [
+        (repeated(alloc, "<a>", 255, "")?, "refused nesting 765\n"),
+        (repeated(alloc, "<a>", 256, "")?, "refused depth 765\n"),
+        (
+            repeated(alloc, "a", 2047, "/>")?,
+            "nodes 1\nelement 0 2050\n",
+        ),
+        (repeated(alloc, "a", 2048, "/>")?, "refused width name 1\n"),
+    ];
+    for (text, out) in rows {
+        let doc = if text.starts_with("<") {
+            text
+        } else {
+            format!(in alloc; "<{text}")?
+        };
+        let got = run_over(alloc, &["doc"], doc.as_bytes(), "elements", NO_FAULT)?;
+        assert_eq!(rt; got.out.taken(), out.as_bytes());
     }
     Ok(())
 }
@@ -103,7 +170,7 @@ fn words(rt: HostRuntime) -> Result<(), Fail> {
         (&[""], "", Status::FileFault),
     ];
     for (words, err, status) in forms {
-        let got = run_over(rt.alloc(), words, "<a/>", "elements", NO_FAULT)?;
+        let got = run_over(rt.alloc(), words, b"<a/>", "elements", NO_FAULT)?;
         assert_eq!(rt; got.err.taken(), err.as_bytes());
         assert_eq!(rt; got.status, status);
         assert!(rt; got.out.taken().is_empty());
@@ -123,7 +190,7 @@ fn faults(rt: HostRuntime) -> Result<(), Fail> {
         ),
     ];
     for (failing, out, status) in rows {
-        let got = run_over(rt.alloc(), &["doc"], "<a><b/></a>", "elements", failing)?;
+        let got = run_over(rt.alloc(), &["doc"], b"<a><b/></a>", "elements", failing)?;
         assert_eq!(rt; got.out.taken(), out.as_bytes());
         assert_eq!(rt; got.status, status);
     }
