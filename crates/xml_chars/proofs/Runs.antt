@@ -66,6 +66,7 @@ ascii_name_stops (c ∷ text) h = elim (cases_Bool (is_ascii_name c)) [
       let stays : after_run is_name_char (c ∷ text) ≡ c ∷ text = rw no refl in
       ap (after_run is_name_char) e ∙ stays ∙ sym e
 ]
+
 pub ascii_name_all : (text rest : List ℕ) {h : ℕ} → rest ≡ after_run is_ascii_name text → h ≡ ascii_head rest → h < 128 → rest ≡ after_run is_name_char text
 ascii_name_all text rest {h} e head low =
     let l : ascii_head (after_run is_ascii_name text) < 128 = subst (λ (r : List ℕ). ascii_head r < 128) e (subst (λ (k : ℕ). k < 128) head low) in

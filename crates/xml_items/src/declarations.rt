@@ -188,7 +188,6 @@ fn parts_between(from: &str, to: &str) -> u32
 }
 
 /// The XML declaration at the front of a text that begins at the place.
-#[inline(never)]
 pub fn declaration_at(text: &str, at: u32) -> Option<Counted>
     requires { at + length text.now < 2 ^ 32 }
     ensures { result ≡ option_map (λ p. counted_shown at p.0) (read_declaration (chars text.now)) }

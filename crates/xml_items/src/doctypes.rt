@@ -189,7 +189,6 @@ fn after_units(text: &str) -> Option<&str>
 }
 
 /// The document type declaration at the front of a text that begins at the place.
-#[inline(never)]
 pub fn doctype_at(text: &str, at: u32) -> Option<Item>
     requires { at + length text.now < 2 ^ 32 }
     ensures { result ≡ option_map (λ p. item_shown at p.0) (read_doctype (chars text.now)) }

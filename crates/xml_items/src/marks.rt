@@ -70,7 +70,6 @@ fn is_xml(name: &str) -> bool
 }
 
 /// The comment at the front of a text that begins at the place (XML 1.0, production 15).
-#[inline(never)]
 pub fn comment_at(text: &str, at: u32) -> Option<Item>
     requires { at + length text.now < 2 ^ 32 }
     ensures { result ≡ option_map (λ p. item_shown at p.0) (read_comment (chars text.now)) }
@@ -87,7 +86,6 @@ pub fn comment_at(text: &str, at: u32) -> Option<Item>
 }
 
 /// The CDATA section at the front of a text that begins at the place (XML 1.0, productions 18 to 21).
-#[inline(never)]
 pub fn cdata_at(text: &str, at: u32) -> Option<Item>
     requires { at + length text.now < 2 ^ 32 }
     ensures { result ≡ option_map (λ p. item_shown at p.0) (read_cdata (chars text.now)) }
@@ -111,7 +109,6 @@ fn is_parted(space: &str, content: &str, end: &str) -> bool
 }
 
 /// The instruction at the front of a text that begins at the place (XML 1.0, productions 16 and 17).
-#[inline(never)]
 pub fn instruction_at(text: &str, at: u32) -> Option<Item>
     requires { at + length text.now < 2 ^ 32 }
     ensures { result ≡ option_map (λ p. item_shown at p.0) (read_instruction (chars text.now)) }
