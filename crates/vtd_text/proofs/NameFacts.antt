@@ -62,7 +62,7 @@ pub record NameIn (es : List Entry) (at : ℕ) (a : Attribute) : Type 0 where
   pub stands : slice_get tag.attributes number ≡ Some a
   pub place : at ≡ entry.place + suc (twice number)
 
-abbrev drop_first : List Token → List Token
+abbrev pub drop_first : List Token → List Token
 drop_first [] = []
 drop_first (r ∷ rs) = rs
 
@@ -75,7 +75,7 @@ tag_says bytes what l start tag inside j a rest e g s =
     (subst (λ (rs : List Token). AttributeAt bytes l j a rs) (sym (append_assoc (attributes_tokens l (attributes_place start tag) tag.attributes) (tokens (suc l) (past_start start tag) inside) rest))
     (attribute_at bytes tag.attributes l (attributes_place start tag) j a (tokens (suc l) (past_start start tag) inside ++ rest) g k.1))
 
-first_off : (k : ℕ) (rs : List Token) → 0 < length rs → record_at (suc k) rs ≡ record_at k (drop_first rs)
+pub first_off : (k : ℕ) (rs : List Token) → 0 < length rs → record_at (suc k) rs ≡ record_at k (drop_first rs)
 first_off k [] h = absurd (omega arith)
 first_off k (r ∷ rs) h = refl
 
@@ -83,7 +83,7 @@ first_length : (rs : List Token) → length (drop_first rs) ≤ length rs - 1
 first_length [] = omega arith
 first_length (r ∷ rs) = omega arith
 
-some_records : (what : Thing) (l at : ℕ) (tag : Tag) (inside : Forest) (rest : List Token) → what ≡ Thing.element tag inside → 0 < length (records_of what l at ++ rest)
+pub some_records : (what : Thing) (l at : ℕ) (tag : Tag) (inside : Forest) (rest : List Token) → what ≡ Thing.element tag inside → 0 < length (records_of what l at ++ rest)
 some_records what l at tag inside rest e = subst (λ (x : Thing). 0 < length (records_of x l at ++ rest)) (sym e) (omega arith)
 
 -- what the name of an attribute and the record behind it say
