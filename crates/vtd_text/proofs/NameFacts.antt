@@ -19,7 +19,7 @@ use Rattle.vtd_words.proofs.Fitting.{nest_shown}
 use Rattle.vtd_words.proofs.Shown.{shown_length}
 use Rattle.vtd_words.proofs.Same.{records_same}
 use Rattle.vtd_text.specs.declared.token.Rule.TheVariants.{Value}
-use Rattle.vtd_text.specs.NameRecords.{IsNameOf, IsDeclaration}
+use Rattle.vtd_text.specs.NameRecords.{IsNameOf, IsDeclaration, HasName, is_attribute_name}
 use Rattle.vtd_text.specs.Resolved.{IsResolved, IsRecord}
 use Rattle.vtd_text.proofs.Leaves.{ValuesAre}
 use Rattle.vtd_text.proofs.Written.{SaysOf, Says, all_say}
@@ -118,9 +118,6 @@ name_of_says bytes lists nest s at a n =
     (records_of_node nest first s.accepted.document.nests n.entry n.there)
 
 -- ---- each name of an attribute is found
-
-abbrev pub is_attribute_name : ℕ → Bool
-is_attribute_name n = n == 2 || n == 3
 
 -- an attribute of a list, by the place of its name
 record Number (others : List Attribute) (n : ℕ) : Type 0 where
@@ -268,11 +265,6 @@ found (element t inside space f) h n k =
           found_by (nodes next f) (nodes h (element t inside space f)) (h.place + n) (contains_right (map (under (child h.number)) all_own) (nodes next f))
           (along _ (next.place + q.index) (h.place + n) (omega (arith, q.place, length-append mine within)) (found f next q.index (same_true _ _ q.is k)))
     ]
-
--- an attribute with the record that is its name
-pub record HasName (bytes : List ℕ) (nest : Forest) (at : ℕ) : Type 0 where
-  pub attribute : Attribute
-  pub name : IsNameOf bytes nest at attribute
 
 -- each record of the type 2 or 3 is the name of an attribute
 pub name_found : (bytes : List ℕ) (nest : Forest) (at : ℕ) → is_attribute_name (record_at at (records nest (first_place bytes))).token ≡ true → HasName bytes nest at
