@@ -1,9 +1,9 @@
+ghost use Rattle.std.specs.Prelude.{length, ◌<◌, ◌^◌};
+
 use super::*;
 use std::test::Fail;
 use vtd_words::{Part, Table, Words};
 use xml_model::{Kind, Text};
-
-ghost use Rattle.std.specs.Prelude.{length, ◌<◌, ◌^◌};
 
 /// The words of the records of a document.
 #[derive(Drop)]
@@ -45,7 +45,8 @@ fn spells<W: Words>(chars: Chars<'_, W>, expected: &str) -> bool {
 /// A value with a line feed by reference and white space as it stands, a declaration, line ends in a comment and in an
 /// instruction, a run of four records with a carriage return before a section that begins with a line feed, a run behind a deeper
 /// one, and a run of an empty section alone.
-const DOCUMENT: &[u8] = b"<a b=\"&#10;\n\r\n\" xmlns:p=\"u&amp;v\"><!--c\r\n-->x<![CDATA[&y]]>z\r<![CDATA[\n]]><b>1&lt;2\r\n3</b>w<?t d\r?><c><![CDATA[]]></c></a>";
+const DOCUMENT: &[u8] =
+    b"<a b=\"&#10;\n\r\n\" xmlns:p=\"u&amp;v\"><!--c\r\n-->x<![CDATA[&y]]>z\r<![CDATA[\n]]><b>1&lt;2\r\n3</b>w<?t d\r?><c><![CDATA[]]></c></a>";
 
 #[test]
 fn contents_of_each_kind(rt: HostRuntime) -> Result<(), Fail> {

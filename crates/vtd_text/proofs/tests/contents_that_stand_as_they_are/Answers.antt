@@ -14,7 +14,7 @@ nest =
 
 pub of-table-requires : goal.of-table-requires
 unfolding opened
-of-table-requires c = record {
+of-table-requires g c = record {
   few = lit< tt;
   nest = nest;
   shown = record {
