@@ -1,14 +1,15 @@
 mod EntityLemmas
-mod PieceLemmas
+pub mod PieceLemmas
 mod Shown
 mod JoinedLemmas
 mod SliceLemmas
-mod Standing
-mod Function
-mod Leaves
-mod Written
-mod NodeFacts
-mod NameFacts
+pub mod Standing
+pub mod Function
+pub mod Leaves
+pub mod Written
+pub mod NodeFacts
+pub mod NameFacts
+pub mod OneName
 mod CharsLemmas
 mod TextsLemmas
 mod AppendLemmas

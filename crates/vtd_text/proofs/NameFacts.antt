@@ -19,7 +19,7 @@ use Rattle.vtd_words.proofs.Fitting.{nest_shown}
 use Rattle.vtd_words.proofs.Shown.{shown_length}
 use Rattle.vtd_words.proofs.Same.{records_same}
 use Rattle.vtd_text.specs.declared.token.Rule.TheVariants.{Value}
-use Rattle.vtd_text.specs.NameRecords.{IsNameOf, IsDeclaration}
+use Rattle.vtd_text.specs.NameRecords.{IsNameOf, IsDeclaration, HasName, is_attribute_name}
 use Rattle.vtd_text.specs.Resolved.{IsResolved, IsRecord}
 use Rattle.vtd_text.proofs.Leaves.{ValuesAre}
 use Rattle.vtd_text.proofs.Written.{SaysOf, Says, all_say}
@@ -62,7 +62,7 @@ pub record NameIn (es : List Entry) (at : ℕ) (a : Attribute) : Type 0 where
   pub stands : slice_get tag.attributes number ≡ Some a
   pub place : at ≡ entry.place + suc (twice number)
 
-abbrev drop_first : List Token → List Token
+abbrev pub drop_first : List Token → List Token
 drop_first [] = []
 drop_first (r ∷ rs) = rs
 
@@ -75,7 +75,7 @@ tag_says bytes what l start tag inside j a rest e g s =
     (subst (λ (rs : List Token). AttributeAt bytes l j a rs) (sym (append_assoc (attributes_tokens l (attributes_place start tag) tag.attributes) (tokens (suc l) (past_start start tag) inside) rest))
     (attribute_at bytes tag.attributes l (attributes_place start tag) j a (tokens (suc l) (past_start start tag) inside ++ rest) g k.1))
 
-first_off : (k : ℕ) (rs : List Token) → 0 < length rs → record_at (suc k) rs ≡ record_at k (drop_first rs)
+pub first_off : (k : ℕ) (rs : List Token) → 0 < length rs → record_at (suc k) rs ≡ record_at k (drop_first rs)
 first_off k [] h = absurd (omega arith)
 first_off k (r ∷ rs) h = refl
 
@@ -83,7 +83,7 @@ first_length : (rs : List Token) → length (drop_first rs) ≤ length rs - 1
 first_length [] = omega arith
 first_length (r ∷ rs) = omega arith
 
-some_records : (what : Thing) (l at : ℕ) (tag : Tag) (inside : Forest) (rest : List Token) → what ≡ Thing.element tag inside → 0 < length (records_of what l at ++ rest)
+pub some_records : (what : Thing) (l at : ℕ) (tag : Tag) (inside : Forest) (rest : List Token) → what ≡ Thing.element tag inside → 0 < length (records_of what l at ++ rest)
 some_records what l at tag inside rest e = subst (λ (x : Thing). 0 < length (records_of x l at ++ rest)) (sym e) (omega arith)
 
 -- what the name of an attribute and the record behind it say
@@ -118,9 +118,6 @@ name_of_says bytes lists nest s at a n =
     (records_of_node nest first s.accepted.document.nests n.entry n.there)
 
 -- ---- each name of an attribute is found
-
-abbrev pub is_attribute_name : ℕ → Bool
-is_attribute_name n = n == 2 || n == 3
 
 -- an attribute of a list, by the place of its name
 record Number (others : List Attribute) (n : ℕ) : Type 0 where
@@ -268,11 +265,6 @@ found (element t inside space f) h n k =
           found_by (nodes next f) (nodes h (element t inside space f)) (h.place + n) (contains_right (map (under (child h.number)) all_own) (nodes next f))
           (along _ (next.place + q.index) (h.place + n) (omega (arith, q.place, length-append mine within)) (found f next q.index (same_true _ _ q.is k)))
     ]
-
--- an attribute with the record that is its name
-pub record HasName (bytes : List ℕ) (nest : Forest) (at : ℕ) : Type 0 where
-  pub attribute : Attribute
-  pub name : IsNameOf bytes nest at attribute
 
 -- each record of the type 2 or 3 is the name of an attribute
 pub name_found : (bytes : List ℕ) (nest : Forest) (at : ℕ) → is_attribute_name (record_at at (records nest (first_place bytes))).token ≡ true → HasName bytes nest at

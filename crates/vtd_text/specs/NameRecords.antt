@@ -1,6 +1,6 @@
 -- The attribute, or the declaration of a namespace, whose name a record of a document is: XML 1.0, section 3.1, and Namespaces in XML 1.0,
 -- section 2. A tag's record is followed by two for each attribute, its name and its value: this project's own.
-use Rattle.std.specs.Prelude.{◌≡◌, ℕ, ◌+◌, ◌*◌, List, slice_get, Some, Contains}
+use Rattle.std.specs.Prelude.{◌≡◌, ℕ, ◌+◌, ◌*◌, Bool, ◌||◌, ◌==◌, List, slice_get, Some, Contains}
 use Rattle.xml_model.specs.Items.{Attribute, Tag, first_place}
 use Rattle.xml_model.specs.Nest.{Forest}
 use Rattle.xml_model.specs.Records.{records}
@@ -25,3 +25,12 @@ pub record IsDeclaration (bytes : List ℕ) (lists : Lists) (at : ℕ) : Type 0 
   pub nest : Forest
   pub shown : IsNestOf bytes lists nest
   pub declaration : (record_at at (records nest (first_place bytes))).token ≡ 3
+
+-- an attribute whose name is the record with the index `at`
+pub record HasName (bytes : List ℕ) (nest : Forest) (at : ℕ) : Type 0 where
+  pub attribute : Attribute
+  pub name : IsNameOf bytes nest at attribute
+
+-- whether a record of a type is the name of an attribute: 2, or of a declaration of a namespace: 3
+abbrev pub is_attribute_name : ℕ → Bool
+is_attribute_name n = n == 2 || n == 3

@@ -5,6 +5,7 @@
 mod append;
 mod chars;
 mod entities;
+pub mod laws;
 mod row;
 mod slices;
 mod texts;
@@ -14,3 +15,6 @@ pub use append::append_to;
 pub use chars::Chars;
 pub use slices::raw;
 pub use texts::{equals, equals_str};
+
+#[cfg(test)]
+mod tests;

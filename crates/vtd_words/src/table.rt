@@ -8,7 +8,7 @@ ghost use Rattle.xml_model.specs.Scan.{level_of as level_of_token, record_at, en
 ghost use Rattle.vtd_words.specs.Lists.{list_of};
 ghost use Rattle.vtd_words.specs.Packed.{token_of};
 ghost use Rattle.xml_model.specs.Tree.{Entry, Stands, at_place};
-ghost use Rattle.vtd_words.specs.Table.{IsTable, IsNodeOf, IsNestOf, IsParent, Shows, fewest_records, holder_kind, node_of, nodes_of};
+ghost use Rattle.vtd_words.specs.Table.{IsTable, IsNodeOf, IsNestOf, IsParent, BeginsText, Shows, fewest_records, holder_kind, node_of, nodes_of};
 
 use crate::packing::{Parts, unpack};
 use crate::word_vec::{Part, Words};
@@ -70,8 +70,7 @@ impl<'a, W: Words> Table<'a, W> {
         Some(Node { kind, at })
     }
 
-    /// The first record past those of a node and of all that stands in it. Each of these records is read once, but
-    /// the first of a text node twice.
+    /// The first record past those of a node and of all that stands in it. Each of these records is read at most once.
     pub fn end_of(&self, node: Node) -> u32
         requires { IsNodeOf self.now.bytes (W.lists self.now.words) node }
         ensures { (nest : Forest) → IsNestOf self.now.bytes (W.lists self.now.words) nest →
@@ -107,20 +106,21 @@ impl<'a, W: Words> Table<'a, W> {
         ensures { (nest : Forest) → IsNestOf self.now.bytes (W.lists self.now.words) nest →
             (e : Entry) → Stands node.kind node.at e (nodes_of self.now.bytes nest) → result ≡ e.past }
     {
-        end_of_run(self.words, level_of(parts_at(self.words, node.at)), node.at)
+        run_past(self.words, node.at)
     }
 }
 
 /// The first record past those of a node, by its kind.
 fn past_of<W: Words>(words: &W, node: Node) -> u32
-    requires { node.at + fewest_records node.kind ≤ length (list_of Part.Records (W.lists words.now)) }
+    requires records { node.at + fewest_records node.kind ≤ length (list_of Part.Records (W.lists words.now)) }
+    requires text { node.kind ≡ Kind.Text → BeginsText (list_of Part.Records (W.lists words.now)) node.at }
     ensures { (rs : List Token) → Shows (list_of Part.Records (W.lists words.now)) rs → result ≡ past_by_scan node.kind node.at rs }
 {
     let records = words.len(Part::Records);
     match node.kind {
         Kind::Root => records,
         Kind::Element => end_of_level(words, level_of(parts_at(words, node.at)), node.at + 1),
-        Kind::Text => end_of_run(words, level_of(parts_at(words, node.at)), node.at),
+        Kind::Text => run_past(words, node.at),
         Kind::Attribute | Kind::Instruction => node.at + 2,
         Kind::Comment => node.at + 1,
     }
@@ -185,6 +185,17 @@ fn end_of_run<W: Words>(words: &W, level: u8, from: u32) -> u32
         }
     }
     records
+}
+
+/// The first record past the run that begins at a record.
+fn run_past<W: Words>(words: &W, at: u32) -> u32
+    requires within { at < length (list_of Part.Records (W.lists words.now)) }
+    requires text { BeginsText (list_of Part.Records (W.lists words.now)) at }
+    ensures { (rs : List Token) → Shows (list_of Part.Records (W.lists words.now)) rs → result ≡ past_by_scan Kind.Text at rs }
+{
+    let records = words.len(Part::Records);
+    prove!(at < records);
+    end_of_run(words, level_of(parts_at(words, at)), at + 1)
 }
 
 /// Whether the run of a level that begins at `from` has a byte.
