@@ -11,7 +11,7 @@ use Rattle.xml_model.specs.declared.DocFault.TheVariants as faults
 use Rattle.xml_items.specs.AttributeList.{item_attributes}
 use Rattle.xml_model.specs.Items.{Item, leaf, start_tag, empty_tag, end_tag, meets, spelling, begins_at, first_place, end_of_items}
 use Rattle.xml_model.specs.Records.{Token}
-use Rattle.xml_model.specs.Accepted.{over_items, first_wide, too_wide, wide_here}
+use Rattle.xml_model.specs.Accepted.{over_items, unknown_item, encoding_item, first_wide, too_wide, wide_here}
 use Rattle.xml_acceptance.specs.declared.phases.Standing.{Standing}
 use Rattle.xml_acceptance.specs.declared.phases.Standing.TheVariants as standings
 use Rattle.xml_acceptance.specs.declared.nesting.OpenTags.{OpenTags}
@@ -39,22 +39,26 @@ over_more f at [] i = append-nil (f at i)
 over_more f at (j ∷ items) i =
     ap (λ (l : List ℕ). f at j ++ l) (over_more f (at + length (spelling j)) items i) ∙ sym (append_assoc (f at j) (over_items f (at + length (spelling j)) items) (f (end_of_items (at + length (spelling j)) items) i))
 
-found_more : (f : ℕ → Item → List ℕ) (bytes : List ℕ) (items : List Item) (i : Item) (at : ℕ) (had more : Option ℕ) → past_items bytes items ≡ at → had ≡ first (over_items f (first_place bytes) items) → more ≡ first (f at i)
-    → option_or had more ≡ first (over_items f (first_place bytes) (items ++ i ∷ []))
-found_more f bytes items i at had more e h m =
-    ap₂ option_or h (m ∙ ap (λ (n : ℕ). first (f n i)) (sym e)) ∙ sym (first-append (over_items f (first_place bytes) items) (f (past_items bytes items) i)) ∙ ap first (sym (over_more f (first_place bytes) items i))
+found_more : (f : ℕ → Item → List ℕ) (bytes : List ℕ) (items : List Item) (i : Item) (at : ℕ) (had now : Option ℕ) → past_items bytes items ≡ at → had ≡ first (over_items f (first_place bytes) items) → now ≡ option_or had (first (f at i))
+    → now ≡ first (over_items f (first_place bytes) (items ++ i ∷ []))
+found_more f bytes items i at had now e h m =
+    m ∙ ap₂ option_or h (ap (λ (n : ℕ). first (f n i)) (sym e)) ∙ sym (first-append (over_items f (first_place bytes) items) (f (past_items bytes items) i)) ∙ ap first (sym (over_more f (first_place bytes) items i))
 
 pub past_more : (bytes : List ℕ) (items : List Item) (i : Item) → past_items bytes (items ++ i ∷ []) ≡ past_items bytes items + length (spelling i)
 past_more bytes items i = end_more (first_place bytes) items i
 
-pub finds_more : (bytes : List ℕ) (old new : Findings) (items : List Item) (i : Item) (at : ℕ) (entity encoding : Option ℕ) → Finds bytes old items → past_items bytes items ≡ at
-    → new.next.at ≡ next_ampersand bytes (at + length (spelling i)) → new.entity ≡ option_or old.entity entity → entity ≡ first (Rattle.xml_model.specs.Accepted.unknown_item at i)
-    → new.encoding ≡ option_or old.encoding encoding → encoding ≡ first (Rattle.xml_model.specs.Accepted.encoding_item at i) → Finds bytes new (items ++ i ∷ [])
-finds_more bytes old new items i at entity encoding f e n a b c d = record {
+pub finds_more : (bytes : List ℕ) (old new : Findings) (items : List Item) (i : Item) (at : ℕ) → Finds bytes old items → past_items bytes items ≡ at → new.next.at ≡ next_ampersand bytes (at + length (spelling i)) → new.entity ≡ option_or old.entity (first (unknown_item at i))
+    → new.encoding ≡ option_or old.encoding (first (encoding_item at i)) → Finds bytes new (items ++ i ∷ [])
+finds_more bytes old new items i at f e n a b = record {
   next = n ∙ ap (next_ampersand bytes) (ap (λ (m : ℕ). m + length (spelling i)) (sym e) ∙ sym (past_more bytes items i));
-  entity = a ∙ found_more Rattle.xml_model.specs.Accepted.unknown_item bytes items i at old.entity entity e f.entity b;
-  encoding = c ∙ found_more Rattle.xml_model.specs.Accepted.encoding_item bytes items i at old.encoding encoding e f.encoding d;
+  entity = found_more unknown_item bytes items i at old.entity new.entity e f.entity a;
+  encoding = found_more encoding_item bytes items i at old.encoding new.encoding e f.encoding b;
 }
+
+-- nothing is added where nothing is found
+pub or_none : (o : Option ℕ) (l : List ℕ) → l ≡ [] → o ≡ option_or o (first l)
+or_none None l e = sym (ap first e)
+or_none (Some x) l e = refl
 
 -- ---- their records
 

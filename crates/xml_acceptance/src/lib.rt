@@ -13,3 +13,6 @@ mod phases;
 mod widths;
 
 pub use checking::check;
+
+#[cfg(test)]
+mod tests;
