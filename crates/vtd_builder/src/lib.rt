@@ -2,10 +2,17 @@
 //! that keeps them.
 #![tactic(auto)]
 
+mod document;
 mod emission;
+mod filling;
 mod names;
 mod offers;
 mod sink;
 
+pub use document::{BuildFault, Doc, build};
 pub use emission::emit;
 pub use sink::RecordSink;
+pub use xml_acceptance::check;
+
+#[cfg(test)]
+mod tests;

@@ -1,0 +1,114 @@
+//! Documents with their records, built from bytes.
+
+ghost use Rattle.std.specs.Prelude.{◌≡◌, ◌+◌, ◌^◌, ◌<◌, ◌≤◌, length, vec_len, IfErr, IfOk};
+ghost use Rattle.xml_model.specs.declared.DocFault.{DocFault};
+ghost use Rattle.xml_model.specs.Nest.{Forest};
+ghost use Rattle.xml_model.specs.Accepted.{Accepted, IsRefusal, layer};
+ghost use Rattle.vtd_location.specs.Nav.{layers};
+ghost use Rattle.vtd_words.specs.Lists.{none};
+ghost use Rattle.vtd_builder.specs.Documents.{IsDoc, words_of};
+
+use crate::emission::emit;
+use crate::filling::Filling;
+use std::alloc::Global;
+use std::marker::Model;
+use vtd_location::Nav;
+use vtd_words::{Counts, Table, WordVec};
+use xml_acceptance::check;
+use xml_model::{DocFault, NoMemory};
+
+/// Why no document was built.
+#[derive(Clone, Copy, Debug, PartialEq, Eq)]
+pub enum BuildFault {
+    /// The bytes are refused.
+    Doc(DocFault),
+    /// Memory was not to be had.
+    NoMemory,
+}
+
+/// A document that no check refuses, with its records.
+#[derive(Drop)]
+pub struct Doc {
+    bytes: Vec<u8>,
+    words: WordVec,
+}
+
+impl Model for Doc {
+    ghost use Rattle.vtd_builder.specs.Documents.{Document, IsDoc};
+
+    ghost Value = { Document };
+
+    ghost view = { λ d. record { bytes = d.bytes.items; words = d.words.lists } };
+
+    ghost invariant = { λ d. IsDoc d.bytes.items d.words.lists };
+}
+
+impl Doc {
+    ghost use Rattle.vtd_builder.specs.Documents.{IsDoc};
+
+    /// The document's bytes.
+    pub fn bytes(&self) -> &[u8]
+        ensures value { result.now ≡ self.now.bytes }
+        ensures document { IsDoc self.now.bytes self.now.words }
+    {
+        self.bytes.as_slice()
+    }
+
+    /// The words of its records, which are those of the nest of its bytes.
+    pub fn words(&self) -> &WordVec
+        ensures value { result.now.lists ≡ self.now.words }
+        ensures document { IsDoc self.now.bytes self.now.words }
+    {
+        &self.words
+    }
+
+    /// The document, ready to be walked.
+    pub fn nav(&self) -> Nav<'_, WordVec>
+        ensures bytes { result.bytes ≡ self.now.bytes }
+        ensures words { result.words.lists ≡ self.now.words }
+    {
+        Nav::of(Table::of(self.bytes.as_slice(), &self.words))
+    }
+}
+
+/// A sink with room for so many words of each part.
+fn reserve(alloc: Global, counts: Counts) -> Result<Filling, NoMemory>
+    ensures { IfOk result (λ sink. sink.words.lists ≡ none × (sink.left ≡ counts.records)) }
+{
+    let mut words = WordVec::new(alloc);
+    words.reserve(counts)?;
+    Ok(Filling {
+        words,
+        left: counts.records,
+    })
+}
+
+/// The document of the bytes, with the words of its records; its levels are empty. All memory is taken at once, after the
+/// check, so `NoMemory` comes only where no check refuses the bytes.
+///
+/// # Errors
+/// `Doc` exactly where a check refuses the bytes, with the refusal. The bytes come back with each fault.
+pub fn build(alloc: Global, bytes: Vec<u8>) -> Result<Doc, (Vec<u8>, BuildFault)>
+    requires { vec_len bytes < 2 ^ 30 }
+    ensures kept { IfOk result (λ doc. doc.bytes ≡ bytes.items) }
+    ensures accepted { IfOk result (λ doc. (nest : Forest) × Accepted layers bytes.items nest) }
+    ensures words { IfOk result (λ doc. (nest : Forest) → Accepted layers bytes.items nest → doc.words ≡ words_of bytes.items nest) }
+    ensures given_back { IfErr result (λ e. e.0 ≡ bytes) }
+    ensures refused { IfErr result (λ e. (fault : DocFault) → e.1 ≡ BuildFault.Doc fault → IsRefusal bytes.items fault × (layer fault ≤ layers)) }
+    ensures no_memory { IfErr result (λ e. e.1 ≡ BuildFault.NoMemory → (nest : Forest) × Accepted layers bytes.items nest) }
+{
+    let counts = match check(&bytes) {
+        Ok(counts) => counts,
+        Err(fault) => return Err((bytes, BuildFault::Doc(fault))),
+    };
+    let Ok(mut sink) = reserve(alloc, counts) else {
+        return Err((bytes, BuildFault::NoMemory));
+    };
+    if emit(&bytes, &mut sink).is_err() {
+        unreachable!()
+    }
+    Ok(Doc {
+        bytes,
+        words: sink.words,
+    })
+}
