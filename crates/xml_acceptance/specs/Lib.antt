@@ -1,1 +1,10 @@
 pub mod Machine
+pub mod Laws
+pub mod Ampersands
+pub mod Counts
+pub mod Widths
+pub mod Encodings
+pub mod Phases
+pub mod Open
+pub mod Passes
+pub mod Verdicts

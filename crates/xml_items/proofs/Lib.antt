@@ -15,3 +15,5 @@ pub mod UnitLemmas
 pub mod PartLemmas
 pub mod WalkLemmas
 pub mod AttributeLemmas
+pub mod PlaceLaws
+pub mod CountLemmas

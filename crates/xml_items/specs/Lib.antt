@@ -6,3 +6,4 @@ pub mod Quotes
 pub mod Suffixes
 pub mod Parts
 pub mod AttributeList
+pub mod Counted

@@ -164,15 +164,46 @@ fn weigh(text: &str) -> u64 {
 fn has_attributes(kind: ItemKind) -> bool
     ensures { result ≡ has_attributes kind }
 {
-    kind == StartTag || kind == EmptyTag || kind == Declaration
+    kind == StartTag || kind == EmptyTag || kind == EndTag || kind == Declaration
 }
 
 #[test]
 fn lists_the_attributes(rt: HostRuntime) {
     assert_eq!(rt; weigh("<a>"), 0);
+    assert_eq!(rt; weigh("</a >"), 0);
     assert_eq!(rt; weigh("<a b='1'/>"), 3 + 40 + 600 + 7000);
     assert_eq!(rt;
         weigh("<a b='1' cd = \"\">"),
         3 * (3 + 40 + 600 + 7000) + 9 + 110 + 1500 + 15000
     );
+}
+
+/// The number of attributes or parts of the item at the start of a short text.
+fn count_of(text: &str) -> Option<u32> {
+    if text.len() > 1000 {
+        return None;
+    }
+    let counted = next_counted(text.as_bytes(), 0).ok().flatten()?;
+    Some(counted.attributes)
+}
+
+#[test]
+fn counts_the_attributes(rt: HostRuntime) {
+    let counts = [
+        ("a='1'", 0),
+        ("<a>", 0),
+        ("<a >", 0),
+        ("<a b='1'/>", 1),
+        ("<a b='' c=\"d='1'\"\n>", 2),
+        ("</a>", 0),
+        ("<!--a='1'-->", 0),
+        ("<?a b='1'?>", 0),
+        ("<?xml version='1.0'?>", 1),
+        ("<?xml version='1.0' encoding='a' ?>", 2),
+        ("<?xml version='1.0' standalone='no'?>", 2),
+        ("<?xml version='1.0' encoding='a' standalone='no'?>", 3),
+    ];
+    for (text, count) in counts {
+        assert_eq!(rt; count_of(text), Some(count), "{text}");
+    }
 }
