@@ -1,7 +1,6 @@
-use super::*;
-
 ghost use Rattle.std.specs.Prelude.{◌≡◌, ◌==◌, ◌&&◌, ◌≤◌, length, nat_lt, not, take, slice_index, []};
 
+use super::*;
 use std::test::Fail;
 use vtd_words::{Part, Words};
 use xml_model::DocFault;
@@ -61,7 +60,11 @@ fn records(rt: HostRuntime) -> Result<(), Fail> {
         (b"<a><b>1</b><b>2</b></a>", &TWO),
         (
             b"<a><![CDATA[]]></a>",
-            &[0xDFF0_0000_0000_0000, 0x0000_0001_0000_0001, 0xB000_0000_0000_000C],
+            &[
+                0xDFF0_0000_0000_0000,
+                0x0000_0001_0000_0001,
+                0xB000_0000_0000_000C,
+            ],
         ),
         (
             b"\xEF\xBB\xBF<a/>",
