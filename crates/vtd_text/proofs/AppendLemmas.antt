@@ -1,8 +1,7 @@
 -- Appending what is left to a text, front by front.
-use Rattle.std.proofs.Common.{◌≡◌, ℕ, ◌+◌, ◌<◌, ◌≤◌, true, List, [], ◌∷◌, ◌++◌, length, take, refl, sym, ap, ap₂, subst, ◌∙◌, arith, append_assoc, append-nil, length-append}
-use Rattle.std.specs.Prelude.{slice_index}
+use Rattle.std.proofs.Common.{◌≡◌, ℕ, ◌≤◌, List, ◌∷◌, ◌++◌, length, take, refl, sym, ap, subst, ◌∙◌, arith, append_assoc}
 use Rattle.std.specs.Str.{IsUtf8, IsCharBoundary, chars}
-use lib.Utf8.{scalars, encode, encodes}
+use lib.Utf8.{encode, encodes}
 use Rattle.std.proofs.lemmas.List.{take_at, take-append-le, length-take}
 use Rattle.std.proofs.lemmas.Str.{encodes-chars, encodes-append, encodes_same, IsCharBoundary-from_take}
 

@@ -1,5 +1,5 @@
 -- The content of characters that have one is what the function of the characters gives; so it is the only one.
-use Rattle.std.proofs.Common.{◌≡◌, ℕ, zero, suc, ◌+◌, ◌-◌, ◌/◌, ◌%◌, ◌^◌, ◌<◌, ◌≤◌, Bool, true, false, cond, not, ◌&&◌, ◌==◌, List, [], ◌∷◌, ◌++◌, length, map, take, drop, Option, Some, None, refl, sym, ap, ap₂, subst, ◌∙◌, arith, length-append, bit_and, inl, inr}
+use Rattle.std.proofs.Common.{◌≡◌, ℕ, zero, suc, ◌-◌, ◌/◌, ◌%◌, ◌^◌, ◌<◌, Bool, true, false, not, ◌&&◌, ◌==◌, List, [], ◌∷◌, ◌++◌, length, map, take, drop, Option, Some, None, refl, sym, ap, ap₂, ◌∙◌, arith, length-append, inl, inr}
 use Rattle.std.specs.Prelude.{option_and_then}
 use Rattle.std.specs.List.{AllByRecursion as Each, list_all, flat_map}
 use Rattle.std.specs.Str.{chars}
@@ -9,13 +9,13 @@ use Rattle.xml_model.specs.Chars.{is_char}
 use Rattle.xml_model.specs.Items.{Piece, literal, entity, decimal, hexadecimal, written_piece, written_pieces, meets_piece}
 use Rattle.xml_model.specs.Records.{Token, word}
 use Rattle.xml_model.specs.Accepted.{is_name_token}
-use Rattle.xml_chars.specs.Readers.{many_by, many}
+use Rattle.xml_chars.specs.Readers.{many_by}
 use Rattle.xml_chars.specs.Places.{is_reference}
 use Rattle.xml_chars.proofs.NameLaws.{reference_reads}
 use Rattle.vtd_words.specs.declared.packing.Parts.{Parts}
-use Rattle.vtd_words.specs.Packed.{token_of, fits}
+use Rattle.vtd_words.specs.Packed.{fits}
 use Rattle.vtd_words.specs.Table.{Shows, parts_of_token}
-use Rattle.vtd_words.proofs.Unpacked.{name_unpacked, other_unpacked, wide_of}
+use Rattle.vtd_words.proofs.Unpacked.{name_unpacked, other_unpacked}
 use Rattle.vtd_text.specs.declared.token.Rule.{Rule}
 use Rattle.vtd_text.specs.declared.token.Rule.TheVariants.{Text, Literal, Value}
 use Rattle.vtd_text.specs.Tokens.{HasContent, may_stand, content_by, begins_reference, begins_with_reference, some_left, read_piece, read_piece_by, pieces_read, pieces_of, resolved}

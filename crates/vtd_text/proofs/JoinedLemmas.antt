@@ -5,7 +5,7 @@ use Rattle.std.specs.Str.{chars}
 use Rattle.std.proofs.Math.Logic.{∥∥₁_elim, ∥∥₁_map}
 use Rattle.std.proofs.Props.{props}
 use Rattle.vtd_words.specs.Table.{Shows}
-use Rattle.vtd_text.proofs.Shown.{shown_length}
+use Rattle.vtd_words.proofs.Shown.{shown_length}
 use Rattle.xml_model.specs.Records.{Token}
 use Rattle.std.proofs.lemmas.Bool.{cases_Bool}
 use Rattle.xml_model.specs.Scan.{record_at, is_text_token}

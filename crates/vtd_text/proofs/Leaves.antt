@@ -1,22 +1,21 @@
 -- What the records of a leaf and of a tag say, where it stands in the bytes.
-use Rattle.std.proofs.Common.{◌≡◌, ℕ, zero, suc, ◌+◌, ◌≤◌, Bool, true, false, cond, not, ◌&&◌, ◌||◌, ◌==◌, List, [], ◌∷◌, ◌++◌, map, codes, refl, sym, ap, ap₂, subst, ◌∙◌, arith, append_assoc, append-nil, option_to_list, Option, Some, None, drop}
+use Rattle.std.proofs.Common.{◌≡◌, ℕ, zero, suc, ◌+◌, Bool, true, false, cond, not, ◌&&◌, ◌||◌, ◌==◌, List, [], ◌∷◌, ◌++◌, map, codes, refl, sym, ap, subst, ◌∙◌, append_assoc, append-nil, Option, Some, None, drop}
 use Rattle.std.specs.List.{AllByRecursion as Each, list_all}
-use Rattle.std.specs.Str.{IsUtf8, chars}
 use Rattle.std.proofs.lemmas.Bool.{and_parts, and_from, false≢true}
 use lib.Utf8.{encode, encodes}
 use Rattle.xml_model.specs.Chars.{is_char, size, lacks, is_white, is_name, is_blank}
-use Rattle.xml_model.specs.Items.{Piece, literal, entity, decimal, hexadecimal, Quote, Attribute, Tag, Instruction, Leaf, text, cdata, declaration, doctype, quote_char, before_value, written_piece, written_pieces, written_attribute, written_attributes, written_leaf, written_tag, meets_piece, meets_attribute, meets_tag, meets_leaf, is_nil}
-use Rattle.xml_model.specs.Records.{Token, plain, named, name_token, declares, attribute_tokens, attributes_tokens, attributes_place, tag_tokens, declaration_part_tokens, declaration_attributes, depth_at, leaf_tokens}
+use Rattle.xml_model.specs.Items.{Piece, literal, entity, decimal, hexadecimal, Attribute, Tag, Instruction, Leaf, text, cdata, declaration, doctype, quote_char, before_value, written_pieces, written_attribute, written_attributes, written_leaf, written_tag, meets_piece, meets_attribute, meets_tag, meets_leaf, is_nil}
+use Rattle.xml_model.specs.Records.{Token, plain, declares, attributes_tokens, attributes_place, tag_tokens, declaration_part_tokens, declaration_attributes, depth_at, leaf_tokens}
 use Rattle.xml_model.specs.Content.{text_content, value_content, literal_content, leaf_content}
 use Rattle.xml_model.specs.Scan.{is_text_token}
-use Rattle.xml_model.proofs.Each.{each_append, each_more}
+use Rattle.xml_model.proofs.Each.{each_more}
 use Rattle.xml_model.proofs.Starts.{ProperLeaf}
 use Rattle.vtd_text.specs.declared.token.Rule.{Rule}
 use Rattle.vtd_text.specs.declared.token.Rule.TheVariants.{Text, Literal, Value}
-use Rattle.vtd_text.specs.Tokens.{HasContent, may_stand, is_plain, content_by}
+use Rattle.vtd_text.specs.Tokens.{may_stand, content_by}
 use Rattle.vtd_text.specs.Joined.{rule_of, slice_of, Gives, Joined, IsText}
 use Rattle.vtd_text.specs.Resolved.{IsResolved}
-use Rattle.vtd_text.proofs.Standing.{StandsAt, SliceIs, slice_is, stands_left, stands_right, stands_middle}
+use Rattle.vtd_text.proofs.Standing.{StandsAt, slice_is, stands_left, stands_right, stands_middle}
 use Rattle.vtd_text.proofs.SliceLemmas.{slice_content}
 
 -- ---- rows of records

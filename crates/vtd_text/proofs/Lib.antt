@@ -1,6 +1,5 @@
 mod EntityLemmas
 pub mod PieceLemmas
-mod Shown
 mod JoinedLemmas
 mod SliceLemmas
 pub mod Standing

@@ -1,23 +1,22 @@
 -- Which attribute's name a record is, and what the record behind it says.
-use Rattle.std.proofs.Common.{◌≡◌, ℕ, zero, suc, ◌+◌, ◌-◌, ◌*◌, ◌<◌, ◌≤◌, ◌^◌, Bool, true, false, cond, ◌||◌, ◌==◌, inl, inr, ◌⊎◌, List, [], ◌∷◌, ◌++◌, length, map, Option, Some, None, refl, sym, ap, subst, ◌∙◌, arith, append_assoc, length-append, zero-add, suc-add, add-zero, add-one}
+use Rattle.std.proofs.Common.{◌≡◌, ℕ, zero, suc, ◌+◌, ◌-◌, ◌*◌, ◌<◌, ◌≤◌, ◌^◌, true, false, inl, inr, ◌⊎◌, List, [], ◌∷◌, ◌++◌, length, map, Option, Some, None, refl, sym, ap, subst, ◌∙◌, arith, append_assoc, length-append, zero-add, suc-add}
 use Rattle.std.specs.Prelude.{slice_get}
 use Rattle.std.specs.List.{AllByRecursion as Each, Contains, cons_option}
-use Rattle.std.proofs.lemmas.Bool.{false≢true, cases_Bool}
+use Rattle.std.proofs.lemmas.Bool.{false≢true}
 use Rattle.xml_model.specs.Chars.{size}
-use Rattle.xml_model.specs.Items.{Attribute, Tag, Leaf, first_place, written_attribute, before_value}
+use Rattle.xml_model.specs.Items.{Attribute, Tag, Leaf, first_place, written_attribute}
 use Rattle.xml_model.specs.Nest.{Forest, done, single, empty, element}
-use Rattle.xml_model.specs.Records.{Token, declares, plain, named, records, document, attributes_tokens, attributes_place, tag_tokens, leaf_tokens, tokens, declaration_part_tokens, declaration_attributes, depth_at, past_leaf, past_empty, past_start, past_element, name_token}
+use Rattle.xml_model.specs.Records.{Token, named, records, attributes_tokens, attributes_place, tag_tokens, leaf_tokens, tokens, declaration_part_tokens, declaration_attributes, depth_at, past_leaf, past_empty, past_start, past_element, name_token}
 use Rattle.xml_model.specs.Tree.{Thing, Entry, Here, child, under, leaf_node, after_leaf, inside_of, behind, element_entry, tag_attributes, nodes, at_first, root_entry, all}
 use Rattle.xml_model.specs.Scan.{record_at}
 use Rattle.xml_model.specs.Content.{value_content}
 use Rattle.xml_model.specs.Laws.{RecordsStand, records_of}
-use Rattle.xml_model.proofs.Each.{each_at, each_append, contains_here, contains_next, contains_map}
+use Rattle.xml_model.proofs.Each.{each_at, contains_here, contains_next, contains_map}
 use Rattle.xml_model.proofs.NodeLaws.{records_of_node}
 use Rattle.vtd_words.specs.Lists.{Lists}
-use Rattle.vtd_words.specs.Table.{IsNestOf, Shows, nodes_of}
+use Rattle.vtd_words.specs.Table.{IsNestOf, Shows}
 use Rattle.vtd_words.proofs.Fitting.{nest_shown}
 use Rattle.vtd_words.proofs.Shown.{shown_length}
-use Rattle.vtd_words.proofs.Same.{records_same}
 use Rattle.vtd_text.specs.declared.token.Rule.TheVariants.{Value}
 use Rattle.vtd_text.specs.NameRecords.{IsNameOf, IsDeclaration, HasName, is_attribute_name}
 use Rattle.vtd_text.specs.Resolved.{IsResolved, IsRecord}

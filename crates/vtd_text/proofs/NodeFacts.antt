@@ -1,5 +1,5 @@
 -- What the records of a table say of a node, by its place among them.
-use Rattle.std.proofs.Common.{◌≡◌, ℕ, zero, suc, ◌+◌, ◌-◌, ◌<◌, ◌≤◌, ◌^◌, true, List, [], ◌∷◌, ◌++◌, length, take, drop, refl, sym, ap, subst, ◌∙◌, arith, append_assoc, length-append, zero-add, suc-add, ◌⊎◌, inl, inr}
+use Rattle.std.proofs.Common.{◌≡◌, ℕ, zero, suc, ◌+◌, ◌-◌, ◌<◌, ◌≤◌, ◌^◌, List, [], ◌∷◌, ◌++◌, length, take, drop, refl, sym, ap, subst, ◌∙◌, arith, append_assoc, length-append, zero-add, suc-add, ◌⊎◌, inl, inr}
 use Rattle.std.specs.List.{AllByRecursion as Each}
 use Rattle.std.proofs.lemmas.Bool.{false≢true}
 use Rattle.std.proofs.lemmas.List.{take_at, drop_at}
@@ -10,19 +10,19 @@ use Rattle.xml_model.specs.Items.{first_place}
 use Rattle.xml_model.specs.Nest.{Forest}
 use Rattle.xml_model.specs.Records.{Token, records}
 use Rattle.xml_model.specs.Tree.{Thing, Entry, Stands, kind_of, all}
-use Rattle.xml_model.specs.Scan.{record_at, is_text_token}
+use Rattle.xml_model.specs.Scan.{record_at}
 use Rattle.xml_model.specs.Content.{content}
 use Rattle.xml_model.specs.Laws.{RecordsStand, records_of}
 use Rattle.xml_model.proofs.Each.{each_at}
 use Rattle.xml_model.proofs.NodeLaws.{records_of_node}
 use Rattle.vtd_words.specs.Lists.{Lists}
-use Rattle.vtd_words.specs.Table.{IsTable, IsNestOf, IsNodeOf, Shows, nodes_of, fewest_records}
+use Rattle.vtd_words.specs.Table.{IsNestOf, IsNodeOf, Shows, nodes_of, fewest_records}
 use Rattle.vtd_words.proofs.Nodes.{node_room}
 use Rattle.vtd_words.proofs.Shown.{shown_length}
 use Rattle.vtd_words.proofs.Fitting.{nest_shown}
 use Rattle.vtd_text.specs.declared.token.Rule.{Rule}
 use Rattle.vtd_text.specs.declared.token.Rule.TheVariants.{Literal, Value}
-use Rattle.vtd_text.specs.Joined.{Joined, IsText, Readable, ShowsReadable}
+use Rattle.vtd_text.specs.Joined.{Joined, Readable}
 use Rattle.vtd_text.specs.Resolved.{IsResolved, IsRow, IsRecord}
 use Rattle.vtd_text.proofs.Leaves.{Fine}
 use Rattle.vtd_text.proofs.Written.{SaysOf, Says, all_say, records_fine}

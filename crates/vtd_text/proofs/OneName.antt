@@ -1,7 +1,7 @@
 -- A record is the name of at most one attribute, and each record of the type 2 or 3 is that of one.
-use Rattle.std.proofs.Common.{◌≡◌, ℕ, zero, suc, ◌+◌, ◌*◌, ◌<◌, ◌≤◌, Bool, true, false, cond, ◌⊎◌, inl, inr, List, [], ◌∷◌, ◌++◌, length, Option, Some, None, refl, sym, ap, ap₂, subst, ◌∙◌, ◌-◌, arith, append_assoc}
+use Rattle.std.proofs.Common.{◌≡◌, ℕ, zero, suc, ◌+◌, ◌<◌, ◌≤◌, Bool, true, false, cond, inl, inr, List, [], ◌∷◌, ◌++◌, length, Option, Some, None, sym, ap, ap₂, ◌∙◌, ◌-◌, arith, append_assoc}
 use Rattle.std.specs.Prelude.{slice_get}
-use Rattle.std.specs.List.{AllByRecursion as Each, Contains}
+use Rattle.std.specs.List.{Contains}
 use Rattle.std.proofs.lemmas.Bool.{cases_lt}
 use Rattle.xml_model.specs.declared.Kind.{Kind}
 use Rattle.xml_model.specs.declared.Kind.TheVariants as kinds
@@ -16,7 +16,7 @@ use Rattle.xml_model.proofs.Each.{Rising}
 use Rattle.xml_model.proofs.Rise.{place, places_rise}
 use Rattle.xml_model.proofs.NodeLaws.{records_of_node, first_record_of_node}
 use Rattle.vtd_words.specs.Lists.{Lists}
-use Rattle.vtd_words.specs.Table.{IsNestOf, nodes_of}
+use Rattle.vtd_words.specs.Table.{IsNestOf}
 use Rattle.vtd_text.specs.NameRecords.{IsNameOf}
 use Rattle.vtd_text.proofs.NodeFacts.{record_behind}
 use Rattle.vtd_text.proofs.NameFacts.{twice, twice_is, drop_first, first_off, some_records}

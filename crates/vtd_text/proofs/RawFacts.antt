@@ -1,21 +1,19 @@
 -- The record of a node whose content stands in one piece.
-use Rattle.std.proofs.Common.{◌≡◌, ℕ, zero, suc, ◌+◌, ◌-◌, ◌<◌, ◌≤◌, ◌^◌, Bool, true, false, cond, ◌⊎◌, inl, inr, List, [], ◌∷◌, ◌++◌, length, Option, Some, None, refl, sym, ap, subst, ◌∙◌, arith, length-append, add-zero}
-use Rattle.std.specs.Prelude.{option_and_then, MatchOption}
-use Rattle.std.specs.Option.{option_copied}
+use Rattle.std.proofs.Common.{◌≡◌, ℕ, zero, suc, ◌+◌, ◌-◌, ◌<◌, ◌≤◌, ◌^◌, Bool, cond, ◌⊎◌, inl, inr, List, [], ◌∷◌, ◌++◌, length, Some, None, refl, sym, ap, subst, ◌∙◌, arith, add-zero}
+use Rattle.std.specs.Prelude.{option_and_then}
 use Rattle.std.specs.Str.{IsUtf8, chars, bytes_eq}
-use lib.Utf8.{scalars, encodes}
-use denote.Bor.{Bor}
+use lib.Utf8.{encodes}
 use Rattle.std.proofs.lemmas.Str.{encodes_same, encodes-chars}
 use Rattle.xml_model.specs.declared.Kind.{Kind}
 use Rattle.xml_model.specs.declared.Kind.TheVariants as kinds
 use Rattle.xml_model.specs.declared.Node.{Node}
 use Rattle.xml_model.specs.Items.{Leaf, first_place, written_pieces}
 use Rattle.xml_model.specs.Nest.{Forest}
-use Rattle.xml_model.specs.Records.{Token, records, run_tokens, leaf_tokens, past_leaf}
-use Rattle.xml_model.specs.Tree.{Thing, Entry, Stands, kind_of, all}
+use Rattle.xml_model.specs.Records.{Token, records, run_tokens, leaf_tokens}
+use Rattle.xml_model.specs.Tree.{Thing, Entry, Stands, kind_of}
 use Rattle.xml_model.specs.Scan.{record_at}
 use Rattle.xml_model.specs.Content.{content}
-use Rattle.xml_model.specs.Laws.{RecordsStand, records_of}
+use Rattle.xml_model.specs.Laws.{records_of}
 use Rattle.vtd_words.specs.Lists.{Lists}
 use Rattle.vtd_words.specs.Table.{IsNestOf, IsNodeOf, Shows, nodes_of}
 use Rattle.vtd_words.proofs.Fitting.{nest_shown}
@@ -23,8 +21,8 @@ use Rattle.vtd_text.specs.declared.token.Rule.{Rule}
 use Rattle.vtd_text.specs.Joined.{IsText, slice_of}
 use Rattle.vtd_text.specs.Raw.{written_content, raw_content, IsWritten}
 use Rattle.vtd_text.proofs.Leaves.{WrittenIs, LeafIs}
-use Rattle.vtd_text.proofs.Written.{SaysOf, Says, RunIs}
-use Rattle.vtd_text.proofs.NodeFacts.{HasRecord, Standing, standing, record_in}
+use Rattle.vtd_text.proofs.Written.{SaysOf, RunIs}
+use Rattle.vtd_text.proofs.NodeFacts.{HasRecord, standing, record_in}
 
 -- ---- a node with one record
 

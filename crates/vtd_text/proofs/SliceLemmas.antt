@@ -1,20 +1,16 @@
 -- The slice of the bytes that pieces are written in, and its content.
-use Rattle.std.proofs.Common.{◌≡◌, ℕ, true, List, [], ◌∷◌, ◌++◌, take, drop, refl, sym, ap, ◌∙◌}
+use Rattle.std.proofs.Common.{◌≡◌, ℕ, true, List, ◌++◌, take, drop, refl, sym, ap, ◌∙◌}
 use Rattle.std.specs.Str.{IsUtf8, chars}
 use Rattle.std.specs.List.{list_all}
-use lib.Utf8.{scalar, scalars, encodes}
-use Rattle.std.proofs.lemmas.Bool.{and_parts}
+use lib.Utf8.{scalars, encodes}
 use Rattle.std.proofs.lemmas.Str.{scalars-chars, chars_from_encodes}
 use Rattle.xml_model.specs.Chars.{begins, size}
 use Rattle.xml_model.specs.Items.{Piece, written_pieces}
 use Rattle.xml_chars.proofs.Points.{Cut, cut_of}
 use Rattle.xml_chars.proofs.StandLemmas.{front_stands}
+use Rattle.vtd_text.proofs.Standing.{scalars_back}
 use Rattle.vtd_text.specs.declared.token.Rule.{Rule}
 use Rattle.vtd_text.specs.Tokens.{HasContent, may_stand, content_by}
-
-scalars_back : (w v : List ℕ) → scalars (w ++ v) ≡ true → scalars v ≡ true
-scalars_back [] v s = s
-scalars_back (c ∷ w) v s = scalars_back w v (and_parts (scalar c) (scalars (w ++ v)) s).1
 
 -- where characters stand at the front of a text, the slice of their size is they
 pub slice_chars : (bs w : List ℕ) → IsUtf8 bs → begins (encodes w) bs ≡ true → chars (take (size w) bs) ≡ w

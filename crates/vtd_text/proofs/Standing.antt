@@ -1,14 +1,14 @@
 -- Characters that stand at a place of the bytes, which is the edge of a character.
 use Rattle.std.proofs.Common.{◌≡◌, ℕ, ◌+◌, ◌≤◌, Bool, true, List, [], ◌∷◌, ◌++◌, length, take, drop, cond, refl, sym, ap, subst, ◌∙◌, arith, ◌&&◌, false, append-nil, append_assoc, length-append, length-drop}
-use Rattle.std.specs.Str.{IsUtf8, chars}
+use Rattle.std.specs.Str.{IsUtf8}
 use lib.Utf8.{scalar, scalars, encode, encodes}
-use Rattle.std.proofs.lemmas.Bool.{and_parts, and_from, cases_Bool}
+use Rattle.std.proofs.lemmas.Bool.{and_parts, and_from}
 use Rattle.std.proofs.lemmas.List.{take_at, drop_at, drop-drop}
 use Rattle.std.proofs.lemmas.Str.{scalars-chars, encodes-chars, encodes-append}
 use Rattle.xml_model.specs.Chars.{begins, size}
 use Rattle.xml_model.specs.Items.{Item, spelling, written, begins_at, meets, ends_well, may_stand, first_place, byte_order_mark}
 use Rattle.xml_chars.proofs.Readers.{begins_append}
-use Rattle.xml_chars.proofs.StandLemmas.{front_stands, stands_front, size-append}
+use Rattle.xml_chars.proofs.StandLemmas.{front_stands, stands_front}
 
 pub record StandsAt (bytes : List ℕ) (at : ℕ) (w : List ℕ) : Type 0 where
   pub within : at ≤ length bytes

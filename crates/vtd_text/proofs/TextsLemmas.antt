@@ -1,5 +1,5 @@
 -- Comparing texts front by front.
-use Rattle.std.proofs.Common.{◌≡◌, ℕ, ◌+◌, Bool, true, false, List, [], ◌∷◌, ◌++◌, length, take, drop, refl, sym, ap, subst, ◌∙◌, arith, length-append}
+use Rattle.std.proofs.Common.{◌≡◌, ℕ, true, false, List, [], ◌∷◌, ◌++◌, length, drop, refl, sym, ap, ◌∙◌, arith}
 use Rattle.std.specs.Prelude.{nat_eq, Option, Some, None, MatchOption}
 use denote.Bor.{Bor}
 use Rattle.std.specs.List.{starts_with}
@@ -7,8 +7,8 @@ use Rattle.std.specs.Str.{IsUtf8, IsCharBoundary, chars, bytes_eq}
 use lib.Utf8.{scalars, encodes}
 use Rattle.std.proofs.lemmas.Bool.{false≢true, false_from_ne_true, eq-eqb, ne_eqb}
 use Rattle.std.proofs.lemmas.Slice.Eq.{bytes_eq-Decides}
-use Rattle.std.proofs.lemmas.Str.{chars-nil, encodes-chars, encodes-append, scalars-chars, chars_from_encodes, IsCharBoundary-at_seam}
-use Rattle.xml_model.specs.Chars.{begins, size}
+use Rattle.std.proofs.lemmas.Str.{chars-nil, encodes-chars, scalars-chars, chars_from_encodes, IsCharBoundary-at_seam}
+use Rattle.xml_model.specs.Chars.{begins}
 use Rattle.xml_chars.proofs.Readers.{begins_split}
 use Rattle.xml_chars.proofs.StandLemmas.{encodes_front, stands_front}
 use Rattle.xml_chars.proofs.Points.{first_of}

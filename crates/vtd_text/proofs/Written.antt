@@ -1,25 +1,24 @@
 -- The pieces of a nest where they stand in the bytes, and what the nodes' records say.
-use Rattle.std.proofs.Common.{◌≡◌, ℕ, zero, suc, ◌+◌, Bool, true, false, cond, not, ◌&&◌, ◌==◌, List, [], ◌∷◌, ◌++◌, length, map, refl, sym, ap, subst, ◌∙◌, append_assoc, append-nil, Option, Some, None, IfSome}
+use Rattle.std.proofs.Common.{◌≡◌, ℕ, suc, ◌+◌, Bool, true, not, ◌==◌, List, [], ◌∷◌, ◌++◌, length, map, refl, sym, ap, ◌∙◌, append_assoc, append-nil, IfSome}
 use Rattle.std.specs.List.{AllByRecursion as Each, flat_map}
 use Rattle.std.specs.Str.{IsUtf8}
 use Rattle.std.proofs.lemmas.Bool.{and_parts, false≢true}
 use Rattle.xml_model.specs.Chars.{size}
-use Rattle.xml_model.specs.Items.{Attribute, Tag, Leaf, Item, leaf, start_tag, empty_tag, end_tag, meets, meets_leaf, meets_tag, written, written_leaf, written_tag, written_start, written_empty, written_end, written_pieces, written_attribute, before_value, spelling, begins_at, walk, walk_from, walk_to_end, end_of_items, first_place}
+use Rattle.xml_model.specs.Items.{Attribute, Tag, Leaf, Item, leaf, start_tag, empty_tag, end_tag, meets, meets_leaf, meets_tag, written, written_leaf, written_tag, written_pieces, written_attribute, before_value, spelling, begins_at, walk, walk_from, walk_to_end, end_of_items, first_place}
 use Rattle.xml_model.specs.Nest.{Forest, done, single, empty, element, flat}
-use Rattle.xml_model.specs.Records.{Token, declares, plain, document, records, attributes_place, depth_at, leaf_tokens, run_tokens, tag_tokens, tokens, past_leaf, past_empty, past_start, past_element, past_forest}
-use Rattle.xml_model.specs.Tree.{Thing, Entry, child, Holder, Here, held, under, attributes, attribute_entry, tag_attributes, element_entry, leaf_node, text_node, begins_run, run, is_text, after_leaf, inside_of, behind, nodes, root_entry, at_first, all, one_if}
+use Rattle.xml_model.specs.Records.{declares, plain, document, records, attributes_place, depth_at, leaf_tokens, run_tokens, tag_tokens, tokens, past_leaf, past_empty, past_start, past_element, past_forest}
+use Rattle.xml_model.specs.Tree.{Thing, Entry, child, Holder, Here, under, attributes, attribute_entry, tag_attributes, element_entry, leaf_node, text_node, begins_run, run, after_leaf, inside_of, behind, nodes, at_first, all, one_if}
 use Rattle.xml_model.specs.Content.{value_content, literal_content, leaf_content, inner_content, top_content}
-use Rattle.xml_model.specs.Accepted.{IsDocument, Accepted}
+use Rattle.xml_model.specs.Accepted.{IsDocument}
 use Rattle.xml_model.specs.Laws.{records_of}
 use Rattle.xml_model.proofs.Each.{each_append, each_map, each_option, if_some_cond, if_some_second}
-use Rattle.xml_model.proofs.Starts.{Proper, ProperLeaf}
+use Rattle.xml_model.proofs.Starts.{Proper}
 use Rattle.xml_model.proofs.Proper.{document_proper}
-use Rattle.vtd_text.specs.declared.token.Rule.{Rule}
 use Rattle.vtd_text.specs.declared.token.Rule.TheVariants.{Literal, Value}
 use Rattle.vtd_text.specs.Joined.{Joined}
 use Rattle.vtd_text.specs.Resolved.{IsResolved}
 use Rattle.vtd_text.proofs.Standing.{StandsAt, ItemStands, item_stands, stands_left, stands_past, first_stands}
-use Rattle.vtd_text.proofs.Leaves.{ValueIs, WrittenIs, LeafIs, text_is, cdata_is, ValuesAre, Silent, Fine, joined_append, silent_joined, leaf_joined, outside_joined, comment_resolved, instruction_resolved, tag_values, tag_silent, silent_fine, leaf_fine}
+use Rattle.vtd_text.proofs.Leaves.{WrittenIs, LeafIs, text_is, cdata_is, ValuesAre, Fine, joined_append, silent_joined, leaf_joined, outside_joined, comment_resolved, instruction_resolved, tag_values, tag_silent, silent_fine, leaf_fine}
 
 -- a tag that stands at a place
 pub record TagStands (bytes : List ℕ) (at : ℕ) (t : Tag) : Type 0 where

@@ -23,7 +23,7 @@ fn append<W: Words>(left: Chars<'_, W>, held: &mut String) -> Result<(), AllocEr
 }
 
 /// Appends code points to a text. `NoMemory` comes where the text cannot grow; it is then as before. What stands in the
-/// document as it is is copied as slices.
+/// document as it is is copied as slices. The allocator says that memory is taken; the text grows in its own.
 pub fn append_to<W: Words>(
     _alloc: Global,
     chars: Chars<'_, W>,

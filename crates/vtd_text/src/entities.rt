@@ -8,8 +8,7 @@ ghost use Rattle.xml_model.specs.Content.{entity_char};
 
 /// The character of a built-in entity (XML 1.0, section 4.6); the character 0 for any other name, which stands in no document
 /// that is accepted.
-
-pub fn entity_char(name: &str) -> char
+pub(crate) fn entity_char(name: &str) -> char
     ensures { result ≡ unwrap_or (entity_char (chars name.now)) 0 }
 {
     match name {

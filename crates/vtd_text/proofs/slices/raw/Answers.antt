@@ -1,4 +1,4 @@
-use Rattle.std.proofs.Common.{◌≡◌, ap, sym, ◌∙◌, true, false}
+use Rattle.std.proofs.Common.{sym, ◌∙◌, true, false}
 use Rattle.vtd_text.proofs.RawFacts.{raw_none, text_there, raw_answer}
 use Rattle.vtd_text.proofs.slices.raw.Goals as goal
 

@@ -1,4 +1,4 @@
-use Rattle.std.proofs.Common.{◌≡◌, ◌^◌, [], ◌∷◌, List, ℕ, refl, codes, lit<}
+use Rattle.std.proofs.Common.{[], ◌∷◌, List, ℕ, refl, codes, lit<}
 use Rattle.std.specs.List.{flat_map}
 use Rattle.xml_model.specs.Items.{Piece, literal, entity, decimal, Quote, Attribute, Leaf, cdata, text, written}
 use Rattle.xml_model.specs.Nest.{Forest, done, single, element, flat}

@@ -1,7 +1,6 @@
-use Rattle.std.proofs.Common.{◌≡◌, sym, ◌∙◌, true, false, rules}
+use Rattle.std.proofs.Common.{◌≡◌, sym, ◌∙◌, true, false}
 use Rattle.std.specs.List.{starts_with}
 use Rattle.std.specs.Prelude.{nat_eq}
-use Rattle.std.specs.Str.{IsUtf8}
 use Rattle.vtd_text.proofs.TextsLemmas.{front_of, no_front}
 use Rattle.vtd_text.proofs.texts.after_front.Goals as goal
 

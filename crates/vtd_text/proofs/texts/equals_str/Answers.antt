@@ -1,6 +1,6 @@
-use Rattle.std.proofs.Common.{◌≡◌, length, rules, sym, ◌∙◌}
-use Rattle.std.specs.Str.{IsUtf8, chars}
-use Rattle.vtd_text.proofs.TextsLemmas.{begin_same, begin_other, go_on, stop_here, end_same}
+use Rattle.std.proofs.Common.{rules, sym, ◌∙◌}
+use Rattle.std.specs.Str.{chars}
+use Rattle.vtd_text.proofs.TextsLemmas.{begin_same, go_on, stop_here, end_same}
 use Rattle.vtd_text.proofs.texts.equals_str.Goals as goal
 
 pub returns-in_default-after_both : goal.returns-in_default-after_both

@@ -1,4 +1,4 @@
-use Rattle.vtd_text.proofs.CharsLemmas.{record_left, record_view, record_text}
+use Rattle.vtd_text.proofs.CharsLemmas.{record_view}
 use Rattle.vtd_text.proofs.chars.Chars.of_record.Goals as goal
 
 pub returns : goal.returns
