@@ -9,3 +9,6 @@ mod spans;
 
 pub use cursor::Cursor;
 pub use spans::{Tags, span, tags_of, value_span};
+
+#[cfg(test)]
+mod tests;
