@@ -1,12 +1,12 @@
 -- Where each node ends: its stop, by what stands there.
-use Rattle.std.proofs.Common.{◌≡◌, ℕ, suc, ◌+◌, Bool, true, false, List, [], ◌∷◌, ◌++◌, length, map, refl, arith, IfSome}
+use Rattle.std.proofs.Common.{◌≡◌, ℕ, suc, ◌+◌, ◌<◌, Bool, true, false, List, [], ◌∷◌, ◌++◌, length, map, refl, arith, IfSome}
 use Rattle.std.specs.Prelude.{codes}
 use Rattle.std.specs.List.{AllByRecursion as Each, cons_option}
 use Rattle.xml_model.specs.Chars.{size}
 use Rattle.xml_model.specs.Items.{Attribute, Tag, Leaf, start_tag, empty_tag, end_tag, begins_at, first_place, before_value, written_pieces, written_attribute, quote_char, Quote}
 use Rattle.xml_model.specs.Nest.{Forest, done, empty, element, is_content_leaf}
 use Rattle.xml_model.specs.Records.{past_leaf, past_empty, past_start, past_forest, past_element, past_run, attributes_place, declares}
-use Rattle.xml_model.specs.Tree.{Step, Thing, Entry, Holder, Here, all, attributes, attribute_entry, at_first, after_leaf, behind, element_entry, held, inside_of, is_text, cons_text, leaf_node, nodes, one_if, run, tag_attributes, text_node, begins_run, under}
+use Rattle.xml_model.specs.Tree.{Step, Thing, Entry, Holder, Here, all, attributes, attribute_entry, at_first, after_leaf, behind, element_entry, inside_of, is_text, cons_text, leaf_node, nodes, one_if, run, tag_attributes, text_node, begins_run, under}
 use Rattle.xml_model.specs.Accepted.{IsDocument}
 use Rattle.xml_model.proofs.Each.{each_append, each_map, each_option, if_some_cond, if_some_second}
 use Rattle.xml_chars.proofs.StandLemmas.{size-append}
@@ -31,7 +31,7 @@ pub record TextCloses (xs : List Leaf) (l start stop : ℕ) : Type 0 where
 abbrev pub Closes : List ℕ → Thing → ℕ → ℕ → ℕ → Type 0
 Closes bytes (Thing.root first f) l start stop = (start ≡ 0) × (stop ≡ length bytes)
 Closes bytes (Thing.element t inside) l start stop = ElementCloses bytes t inside start stop
-Closes bytes (Thing.attribute a) l start stop = stop ≡ start + size (before_value a) + size (written_pieces a.value) + 1
+Closes bytes (Thing.attribute a) l start stop = (stop ≡ start + size (before_value a) + size (written_pieces a.value) + 1) × (0 < l)
 Closes bytes (Thing.text xs) l start stop = TextCloses xs l start stop
 Closes bytes (Thing.comment cs) l start stop = stop ≡ past_leaf start (Leaf.comment cs)
 Closes bytes (Thing.instruction i) l start stop = stop ≡ past_leaf start (Leaf.instruction i)
@@ -48,11 +48,11 @@ pub attribute_size : (a : Attribute) → size (written_attribute a) ≡ size a.s
 attribute_size a =
     omega (arith, size-append (a.space ++ before_value a ++ written_pieces a.value) (quote_char a.quote ∷ []), size-append (a.space ++ before_value a) (written_pieces a.value), size-append a.space (before_value a), quote_size a.quote)
 
-attributes_close : (others : List Attribute) (bytes : List ℕ) (holders : List Holder) (at place i : ℕ) → Each (ClosesIn bytes) (attributes holders at place i others)
-attributes_close [] bytes holders at place i = tt
-attributes_close (a ∷ others) bytes holders at place i =
-    each_option (ClosesIn bytes) (attribute_entry holders at place i a) _ (if_some_second (ClosesIn bytes) (declares a.name) _ (omega (arith, attribute_size a)))
-    (attributes_close others bytes holders (at + size (written_attribute a)) (place + 2) (i + one_if (Rattle.std.specs.Prelude.not (declares a.name))))
+attributes_close : (others : List Attribute) (bytes : List ℕ) (tag : Holder) (holders : List Holder) (at place i : ℕ) → Each (ClosesIn bytes) (attributes (tag ∷ holders) at place i others)
+attributes_close [] bytes tag holders at place i = tt
+attributes_close (a ∷ others) bytes tag holders at place i =
+    each_option (ClosesIn bytes) (attribute_entry (tag ∷ holders) at place i a) _ (if_some_second (ClosesIn bytes) (declares a.name) _ (omega (arith, attribute_size a), omega arith))
+    (attributes_close others bytes tag holders (at + size (written_attribute a)) (place + 2) (i + one_if (Rattle.std.specs.Prelude.not (declares a.name))))
 
 run_texts : (f : Forest) → Each (λ x. is_text x ≡ true) (run f)
 run_texts done = tt
@@ -86,7 +86,7 @@ nodes_close (empty t f) h may bytes p =
     let stop = past_empty h.at t in
     let mine = element_entry h t done stop ∷ tag_attributes h t in
     each_append (ClosesIn bytes) (map (under (Step.child h.number)) mine) (nodes (behind h t done stop) f)
-    (each_map (ClosesIn bytes) (under (Step.child h.number)) mine (by_itself refl p.0 refl, attributes_close t.attributes bytes (held h t) (attributes_place h.at t) (suc h.place) 0))
+    (each_map (ClosesIn bytes) (under (Step.child h.number)) mine (by_itself refl p.0 refl, attributes_close t.attributes bytes (record { tag = t; place = h.place }) h.holders (attributes_place h.at t) (suc h.place) 0))
     (nodes_close f (behind h t done stop) may bytes p.1)
 nodes_close (element t inside space f) h may bytes p =
     let stop = past_element h.at t inside space in
@@ -95,7 +95,7 @@ nodes_close (element t inside space f) h may bytes p =
     (each_map (ClosesIn bytes) (under (Step.child h.number)) mine (
       by_end_tag space p.0 p.1 p.2 refl,
       each_append (ClosesIn bytes) (tag_attributes h t) (nodes (inside_of h t) inside)
-          (attributes_close t.attributes bytes (held h t) (attributes_place h.at t) (suc h.place) 0)
+          (attributes_close t.attributes bytes (record { tag = t; place = h.place }) h.holders (attributes_place h.at t) (suc h.place) 0)
           (nodes_close inside (inside_of h t) is_content_leaf bytes p.1),
     ))
     (nodes_close f (behind h t inside stop) may bytes p.3)

@@ -7,3 +7,9 @@ pub mod WordLemmas
 pub mod PieceLemmas
 pub mod SpanLemmas
 pub mod TagLemmas
+pub mod SearchLemmas
+pub mod AxisEnds
+pub mod Families
+pub mod Kinship
+pub mod MoveLemmas
+pub mod CursorLemmas

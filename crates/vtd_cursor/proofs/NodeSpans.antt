@@ -102,7 +102,7 @@ shown bytes rs front rest (Thing.element t inside) l start stop place past e n p
 shown bytes rs front rest (Thing.attribute a) l start stop place past e n p c =
     two_ends bytes rs kinds.Attribute l start stop place past (λ h. cc) (λ h. cc)
     (begins_at_head rs start place _ (first_in rs front _ rest place e n (omega arith)) (sym (ap (λ k. start + k) (name_begins (declares a.name)) ∙ add-zero start)))
-    (ap token_end (last_in rs front _ rest 1 place past e n refl p) ∙ sym c)
+    (ap token_end (last_in rs front _ rest 1 place past e n refl p) ∙ sym c.0)
 shown bytes rs front rest (Thing.text xs) l start stop place past e n p c = text_shown bytes rs front rest xs l start stop place past e n p c
 shown bytes rs front rest (Thing.comment cs) l start stop place past e n p c =
     two_ends bytes rs kinds.Comment l start stop place past (λ h. cc) (λ h. cc) (begins_at_head rs start place _ (first_in rs front _ rest place e n (omega arith)) refl)

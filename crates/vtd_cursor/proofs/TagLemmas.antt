@@ -1,5 +1,6 @@
 -- The tags of an element of a table, and the value of an attribute.
 use Rattle.std.proofs.Common.{◌≡◌, ℕ, suc, ◌+◌, ◌-◌, ◌<◌, ◌^◌, Bool, true, false, List, ◌++◌, length, refl, ap, sym, ◌∙◌, subst, arith, length-append}
+use Rattle.std.specs.List.{Contains}
 use Rattle.std.specs.Str.{IsUtf8}
 use Rattle.std.proofs.lemmas.Bool.{false≢true, false_from_ne_true}
 use Rattle.std.proofs.lemmas.Str.{IsUtf8-drop}
@@ -127,7 +128,7 @@ attribute_value bytes lists nest s kind at e w a is =
       two = omega (arith, w.2, r.stops, ap (λ x. length (records_of x l e.start)) is);
       offset = ap (λ r. r.offset) second;
       len = ap (λ r. r.len) second;
-      stops = subst (λ x. Closes bytes x l e.start e.stop) is c;
+      stops = (subst (λ x. Closes bytes x l e.start e.stop) is c).0;
     }
 
 -- What the calls answer.
@@ -237,3 +238,8 @@ pub quote_found : (bytes : List ℕ) (lists : Lists) → length bytes < 2 ^ 30 �
 quote_found bytes lists few node k past q parts p nest s e w =
     let x = attribute_of e.what (w.1 ∙ k) in
     let v : ValueFound x.0 e.start e.stop parts = value_of bytes lists few node past q parts p nest s e w x.0 x.1 in omega (arith, v.offset, v.len, v.stops)
+
+-- an attribute is held by some element
+pub attribute_held : (bytes : List ℕ) (lists : Lists) (nest : Forest) → IsNestOf bytes lists nest → (e : Entry) → Contains (nodes_of bytes nest) e → (a : Attribute) → e.what ≡ Thing.attribute a → 0 < length e.holders
+attribute_held bytes lists nest s e c a is =
+    let k : ClosesIn bytes e = each_at (ClosesIn bytes) (all nest (first_place bytes)) e (all_close bytes nest s.accepted.document) c in (subst (λ x. Closes bytes x (length e.holders) e.start e.stop) is k).1

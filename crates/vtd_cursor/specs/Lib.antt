@@ -1,2 +1,4 @@
 pub mod Endings
 pub mod Tags
+pub mod Searches
+pub mod Moves

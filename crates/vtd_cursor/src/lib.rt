@@ -1,7 +1,14 @@
 //! Moves over the nodes of a document, and where a node and its parts stand in the bytes.
 #![tactic(auto)]
 
+mod cursor;
+mod neighbours;
 mod pieces;
+mod searches;
 mod spans;
 
+pub use cursor::Cursor;
 pub use spans::{Tags, span, tags_of, value_span};
+
+#[cfg(test)]
+mod tests;

@@ -1,0 +1,36 @@
+-- The root is a node of each document; and saved nodes.
+use Rattle.std.proofs.Common.{◌≡◌, ℕ, List, [], ◌∷◌, ◌++◌, map, refl, ap, subst, ◌∙◌}
+use Rattle.std.proofs.lemmas.List.{map-append}
+use Rattle.std.specs.List.{Contains, AllByRecursion as Each}
+use Rattle.xml_model.specs.Items.{first_place}
+use Rattle.xml_model.specs.Nest.{Forest}
+use Rattle.xml_model.specs.Tree.{all, root_entry}
+use Rattle.xml_model.proofs.Each.{contains_here}
+use Rattle.vtd_words.specs.Lists.{Lists}
+use Rattle.vtd_words.specs.Table.{IsNodeOf}
+use Rattle.vtd_location.specs.Nav.{IsNav}
+use Rattle.vtd_location.proofs.NavLaws.{nest_of_table}
+use Rattle.vtd_cursor.specs.Moves.{root_node}
+
+root_there : (nest : Forest) (first : ℕ) → Contains (all nest first) (root_entry nest first)
+unfolding all
+root_there nest first = contains_here (root_entry nest first) _
+
+pub root_stands : (bytes : List ℕ) (lists : Lists) → IsNav bytes lists → IsNodeOf bytes lists root_node
+root_stands bytes lists n =
+    record { nest = n.nest; shown = nest_of_table bytes lists n.nest n.shown; entry = root_entry n.nest (first_place bytes); stands = (root_there n.nest (first_place bytes), refl, refl) }
+
+each_left : {X : Type 0} (P : X → Type 0) (xs ys : List X) → Each P (xs ++ ys) → Each P xs
+each_left P [] ys h = tt
+each_left P (x ∷ xs) ys h = (h.0, each_left P xs ys h.1)
+
+each_right : {X : Type 0} (P : X → Type 0) (xs ys : List X) → Each P (xs ++ ys) → Each P ys
+each_right P [] ys h = h
+each_right P (x ∷ xs) ys h = each_right P xs ys h.1
+
+-- what holds of saved nodes holds of the last and of those before it
+pub last_saved : {X Y : Type 0} (P : Y → Type 0) (f : X → Y) (old new : List X) (last : X) → old ≡ new ++ last ∷ [] → Each P (map f old) → P (f last) × Each P (map f new)
+last_saved P f old new last e h =
+    let split : map f old ≡ map f new ++ f last ∷ [] = ap (map f) e ∙ map-append f new (last ∷ []) in
+    let all : Each P (map f new ++ f last ∷ []) = subst (λ ys. Each P ys) split h in
+    ((each_right P (map f new) (f last ∷ []) all).0, each_left P (map f new) (f last ∷ []) all)

@@ -1,0 +1,12 @@
+use Rattle.xml_model.specs.Items.{first_place}
+use Rattle.xml_model.specs.Laws.{is_child_thing}
+use Rattle.xml_model.specs.Nest.{Forest}
+use Rattle.xml_model.specs.Records.{records}
+use Rattle.vtd_words.specs.Table.{IsNestOf, nodes_of}
+use Rattle.vtd_cursor.specs.Searches.{is_within}
+use Rattle.vtd_cursor.proofs.SearchLemmas.{PassedBefore}
+use Rattle.vtd_cursor.proofs.searches.child_before.Given as goal
+
+abbrev pub invariant-loop-at : goal.invariant-loop-at
+invariant-loop-at g l = (nest : Forest) → IsNestOf l.table.bytes (g.W.Words.lists l.table.words) nest →
+    PassedBefore (is_within l.level) is_child_thing l.level (records nest (first_place l.table.bytes)) (nodes_of l.table.bytes nest) l.end l.at
