@@ -9,41 +9,26 @@ use Rattle.xml_model.specs.declared.Span.{Span}
 use Rattle.xml_model.specs.Chars.{size}
 use Rattle.xml_model.specs.Items.{Item, Leaf, Tag, leaf, start_tag, empty_tag, end_tag, written, written_attributes, spelling, begins_at}
 use Rattle.xml_chars.specs.Places.{span_from}
+use Rattle.xml_chars.proofs.StandLemmas.{size-append}
 use Rattle.xml_items.specs.declared.ItemKind.{ItemKind}
 use Rattle.xml_items.specs.declared.ItemKind.TheVariants as kinds
 use Rattle.xml_items.specs.declared.Item.{Item as ItemShown}
 use Rattle.xml_items.specs.Shown.{item_kind, item_name, item_shown}
-use Rattle.xml_model.proofs.Bridge.{spelling_some}
 use Rattle.xml_acceptance.specs.Open.{NameAt}
-use Rattle.xml_acceptance.proofs.Places.{stands_at}
+use Rattle.xml_acceptance.proofs.Standing.{stand, spelled}
+use Rattle.xml_acceptance.proofs.WidthLaws.{middle}
 
 -- ---- where a part of an item stands
 
--- items begin within the bytes
-pub begins_within : (bytes : List ℕ) (at : ℕ) (i : Item) → begins_at bytes at i ≡ true → at < length bytes
-begins_within bytes at i b =
-    let e = ap (λ (l : List ℕ). length l) (stands_at bytes at i b) in
-    omega (arith, e, length-drop at bytes, length-append (spelling i) (drop (at + length (spelling i)) bytes), spelling_some bytes at i b)
-
-part_of_list : (b p r : List ℕ) → take (length p) (drop (length b) (b ++ (p ++ r))) ≡ p
-part_of_list b p r = ap (take (length p)) (drop-append_seam b (p ++ r)) ∙ take-append_seam p r
-
 pub part_at : (bytes : List ℕ) (at : ℕ) (i : Item) (before part behind : List ℕ) → begins_at bytes at i ≡ true → written i ≡ before ++ (part ++ behind) → NameAt bytes (span_from (at + size before) part) part
-unfolding size spelling
+unfolding spelling
 part_at bytes at i before part behind b e =
+    let s = stand bytes at i b in
     let rest = drop (at + length (spelling i)) bytes in
-    let parts : encodes (written i) ≡ encodes before ++ (encodes part ++ encodes behind) = ap encodes e ∙ encodes-append before (part ++ behind) ∙ ap (λ (l : List ℕ). encodes before ++ l) (encodes-append part behind) in
-    let stands : drop at bytes ≡ encodes before ++ (encodes part ++ (encodes behind ++ rest)) =
-    stands_at bytes at i b ∙ ap (λ (l : List ℕ). l ++ rest) parts ∙ append_assoc (encodes before) (encodes part ++ encodes behind) rest ∙ ap (λ (l : List ℕ). encodes before ++ l) (append_assoc (encodes part) (encodes behind) rest) in
-    let n = length (encodes before) in
-    let m = length (encodes part) in
-    let long = ap (λ (l : List ℕ). length l) stands in
+    let long : length (spelling i) ≡ size before + (size part + size behind) = spelled i ∙ ap size e ∙ size-append before (part ++ behind) ∙ ap (λ (n : ℕ). size before + n) (size-append part behind) in
     record {
-      order = omega arith;
-      within = omega (arith, long, length-drop at bytes, length-append (encodes before) (encodes part ++ (encodes behind ++ rest)), length-append (encodes part) (encodes behind ++ rest), begins_within bytes at i b);
-      spelled =
-          let k : at + n + m - (at + n) ≡ m = omega arith in
-          ap (λ (j : ℕ). take j (drop (at + n) bytes)) k ∙ ap (take m) (sym (drop-drop n at bytes) ∙ ap (drop n) stands) ∙ part_of_list (encodes before) (encodes part) (encodes behind ++ rest);
+      there = record { order = omega arith; within = omega (arith, s.within, long) };
+      spelled = middle bytes before part behind rest at (s.whole ∙ ap (λ (l : List ℕ). encodes l ++ rest) e);
     }
 
 -- ---- the names of tags

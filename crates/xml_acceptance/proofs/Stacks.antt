@@ -14,6 +14,7 @@ use Rattle.xml_acceptance.specs.declared.phases.Standing.{Standing}
 use Rattle.xml_acceptance.specs.declared.phases.Standing.TheVariants as standings
 use Rattle.xml_acceptance.specs.declared.nesting.OpenTags.{OpenTags}
 use Rattle.xml_acceptance.specs.Machine.{Phase, whole, head, body, tail, state, outside, begun, step}
+use Rattle.xml_acceptance.specs.Widths.{span_bytes}
 use Rattle.xml_acceptance.specs.Phases.{phase_of, inner_standing}
 use Rattle.xml_acceptance.specs.Open.{no_span, NameAt, Names, IsInside, Shows, IsStack, Shown, is_deep, start_standing}
 
@@ -142,10 +143,6 @@ same_names : (n m : List ℕ) (b : Bool) → bytes_eq (encodes n) (encodes m) �
 same_names n m true e = (bytes_eq-Decides n m).1 (encodes_same n m ((bytes_eq-Decides (encodes n) (encodes m)).0 e))
 same_names n m false e = false_from_ne_true (bytes_eq n m) (λ t. false≢true (sym e ∙ (bytes_eq-Decides (encodes n) (encodes m)).1 (ap encodes ((bytes_eq-Decides n m).0 t))))
 
--- what stands in a span
-abbrev pub spanned : List ℕ → Span → List ℕ
-spanned bytes s = take (s.end - s.start) (drop s.start bytes)
-
 inside_after : (names : List (List ℕ)) (phase : Phase) → phase ≡ tail → IsInside names phase
 inside_after [] phase e = tt
 inside_after (n ∷ names) phase e = e
@@ -169,7 +166,7 @@ close_none bytes written space [] phase tags h z = (refl, refl)
 close_none bytes written space (n ∷ names) phase tags h z = absurd (omega (arith, h.depth))
 
 pub close_other : (bytes written space : List ℕ) (names : List (List ℕ)) (phase : Phase) (tags : OpenTags) (opened span : Span) → Shows bytes tags names phase → (tags.depth ≡ 0 → ⊥) → opened ≡ get_or tags.names (tags.depth - 1) no_span → NameAt bytes span written
-    → bytes_eq (spanned bytes opened) (spanned bytes span) ≡ false → Shown bytes tags standings.Misplaced names (end_tag written space) (step names phase (end_tag written space))
+    → bytes_eq (span_bytes bytes opened) (span_bytes bytes span) ≡ false → Shown bytes tags standings.Misplaced names (end_tag written space) (step names phase (end_tag written space))
 unfolding step
 close_other bytes written space [] phase tags opened span h z is at no_match = absurd (z h.depth)
 close_other bytes written space (n ∷ names) phase tags opened span h z is at no_match =
@@ -178,7 +175,7 @@ close_other bytes written space (n ∷ names) phase tags opened span h z is at n
     (rw other refl, refl)
 
 pub shows_closed : (bytes written space : List ℕ) (names : List (List ℕ)) (phase : Phase) (tags after : OpenTags) (opened span : Span) → Shows bytes tags names phase → (tags.depth ≡ 0 → ⊥) → opened ≡ get_or tags.names (tags.depth - 1) no_span → NameAt bytes span written
-    → bytes_eq (spanned bytes opened) (spanned bytes span) ≡ true
+    → bytes_eq (span_bytes bytes opened) (span_bytes bytes span) ≡ true
     → after.names ≡ tags.names → after.depth ≡ tags.depth - 1 → after.phase ≡ tags.phase → Shown bytes after standings.Stands names (end_tag written space) (step names phase (end_tag written space))
 unfolding step
 shows_closed bytes written space [] phase tags after opened span h z is at match en ed eb = absurd (z h.depth)

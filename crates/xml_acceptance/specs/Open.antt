@@ -8,6 +8,7 @@ use Rattle.xml_acceptance.specs.declared.phases.Standing.TheVariants as standing
 use Rattle.xml_acceptance.specs.declared.nesting.OpenTags.{OpenTags}
 use Rattle.xml_acceptance.specs.Machine.{Phase, tail, State, begun, is_final}
 use Rattle.xml_acceptance.specs.Phases.{phase_of}
+use Rattle.xml_acceptance.specs.Widths.{InBytes, span_bytes}
 
 -- what is read outside of the stack's array
 abbrev pub no_span : Span
@@ -15,9 +16,8 @@ no_span = record { start = 0; end = 0 }
 
 -- the name stands in the bytes there
 pub record NameAt (bytes : List ℕ) (span : Span) (name : List ℕ) : Type 0 where
-  pub order : span.start ≤ span.end
-  pub within : span.end ≤ length bytes
-  pub spelled : take (span.end - span.start) (drop span.start bytes) ≡ encode_utf8_all name
+  pub there : InBytes bytes span
+  pub spelled : span_bytes bytes span ≡ encode_utf8_all name
 
 -- the spans show the names, the innermost first, of which the root element's stands at index 0
 abbrev pub Names : List ℕ → List Span → List (List ℕ) → Type 0

@@ -7,6 +7,7 @@ ghost use Rattle.xml_model.specs.Items.{Item as ModelItem, Leaf, Tag, start_tag,
 ghost use Rattle.xml_items.specs.Shown.{item_shown, IsItemAt};
 ghost use Rattle.xml_acceptance.specs.Machine.{Phase as MachinePhase, state, whole, step};
 ghost use Rattle.xml_acceptance.specs.Phases.{outer_of};
+ghost use Rattle.xml_acceptance.specs.Widths.{span_bytes, InBytes};
 
 use crate::phases::{OuterKind, Phase, Standing, inner_standing, outer_kind, phase_behind};
 use xml_items::{Item, ItemKind};
@@ -26,11 +27,9 @@ pub struct OpenTags {
 
 /// Whether the same bytes stand in two places.
 fn is_same(bytes: &[u8], one: Span, other: Span) -> bool
-    requires one_order { one.start ≤ one.end }
-    requires one_within { one.end ≤ length bytes.now }
-    requires other_order { other.start ≤ other.end }
-    requires other_within { other.end ≤ length bytes.now }
-    ensures { result ≡ bytes_eq (take (one.end - one.start) (drop one.start bytes.now)) (take (other.end - other.start) (drop other.start bytes.now)) }
+    requires one { InBytes bytes.now one }
+    requires other { InBytes bytes.now other }
+    ensures { result ≡ bytes_eq (span_bytes bytes.now one) (span_bytes bytes.now other) }
 {
     let first = &bytes[one.start as usize..one.end as usize];
     let second = &bytes[other.start as usize..other.end as usize];
@@ -123,8 +122,7 @@ impl OpenTags {
 
     /// Takes an end tag, if it has the name of the innermost open element.
     fn close(&mut self, bytes: &[u8], name: Span) -> Standing
-        requires order { name.start ≤ name.end }
-        requires within { name.end ≤ length bytes.now }
+        requires name { InBytes bytes.now name }
         requires stack { IsStack bytes.now self.old }
         ensures { (written space : List ℕ) (names : List (List ℕ)) (phase : MachinePhase) → Shows bytes.now self.old names phase → NameAt bytes.now name written
             → Shown bytes.now self.new result names (end_tag written space) (step names phase (end_tag written space)) }
