@@ -125,3 +125,6 @@ pub fn reference_at(bytes: &[u8], at: u32) -> Option<Reference>
         },
     })
 }
+
+#[cfg(test)]
+mod tests;

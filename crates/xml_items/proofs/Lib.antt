@@ -17,3 +17,4 @@ pub mod WalkLemmas
 pub mod AttributeLemmas
 pub mod PlaceLaws
 pub mod CountLemmas
+pub mod ByteRuns

@@ -199,8 +199,8 @@ item_sound bytes text at found within is u e =
     let k = read_to bytes text (encodes rest) at (written i) within is u v (t.0 ∙ ap (λ (l : List ℕ). written i ++ l) (sym back)) in
     item_sound_by bytes at found i rest v back k t.1 m.2
 
-pub item_sound_at : (bytes text : List ℕ) (at first : ℕ) (found : Counted) → at ≤ length bytes → text ≡ drop at bytes → IsUtf8 text → first ≡ first_place bytes → Some found ≡ counts at (read_item (at == first) (chars text)) → ItemAt bytes at found
-item_sound_at bytes text at first found within is u f e = item_sound bytes text at found within is u (e ∙ ap (λ (p : ℕ). counts at (read_item (at == p) (chars text))) f)
+pub item_sound_at : (bytes text : List ℕ) (at : ℕ) (first : Bool) (found : Counted) → at ≤ length bytes → text ≡ drop at bytes → IsUtf8 text → first ≡ (at == first_place bytes) → Some found ≡ counts at (read_item first (chars text)) → ItemAt bytes at found
+item_sound_at bytes text at first found within is u f e = item_sound bytes text at found within is u (e ∙ ap (λ (b : Bool). counts at (read_item b (chars text))) f)
 
 size_of_drop : (w text : List ℕ) → drop (length (encodes w)) text ≡ drop (size w) text
 size_of_drop w text = size_drop w text
@@ -236,11 +236,18 @@ one_item bytes at i j u a b =
 pub item_complete : (bytes text : List ℕ) (at : ℕ) → text ≡ drop at bytes → IsUtf8 text → None ≡ counts at (read_item (at == first_place bytes) (chars text)) → HasNoItem bytes at
 item_complete bytes text at is u e i = false_from_ne_true _ (λ b. item_there bytes text at i is u b e)
 
-pub item_complete_at : (bytes text : List ℕ) (at first : ℕ) → text ≡ drop at bytes → IsUtf8 text → first ≡ first_place bytes → None ≡ counts at (read_item (at == first) (chars text)) → HasNoItem bytes at
-item_complete_at bytes text at first is u f e = item_complete bytes text at is u (e ∙ ap (λ (p : ℕ). counts at (read_item (at == p) (chars text))) f)
+pub item_complete_at : (bytes text : List ℕ) (at : ℕ) (first : Bool) → text ≡ drop at bytes → IsUtf8 text → first ≡ (at == first_place bytes) → None ≡ counts at (read_item first (chars text)) → HasNoItem bytes at
+item_complete_at bytes text at first is u f e = item_complete bytes text at is u (e ∙ ap (λ (b : Bool). counts at (read_item b (chars text))) f)
 
 pub drop_some : (s r : List ℕ) (c : ℕ) → s ≡ c ∷ r → drop 1 s ≡ r
 drop_some s r c e = ap (drop 1) e
 
 pub drop_none : (s : List ℕ) → s ≡ [] → drop 1 s ≡ s
 drop_none s e = ap (drop 1) e ∙ sym e
+
+pub first_low : (bytes : List ℕ) → first_place bytes ≤ 3
+unfolding first_place
+first_low bytes = elim (cases_Bool (begins byte_order_mark bytes)) [
+  | inl t ↦ rw t (omega arith)
+  | inr f ↦ rw f (omega arith)
+]

@@ -7,3 +7,4 @@ pub mod Suffixes
 pub mod Parts
 pub mod AttributeList
 pub mod Counted
+pub mod Runs

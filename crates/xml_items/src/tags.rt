@@ -19,6 +19,7 @@ use xml_chars::names::{begins_name, name_of};
 use xml_chars::text::{space_of, word_of};
 
 /// The quote at the front, and what follows it.
+#[inline(always)]
 fn quote_at(text: &str) -> Option<(u8, &str)>
     ensures read { Gives (λ x. (quote_of x.0, chars x.1.now)) result (read_quote (chars text.now)) }
     ensures quote { IfSome result (λ x. quote_char (quote_of x.0) ≡ x.0) }
@@ -32,6 +33,7 @@ fn quote_at(text: &str) -> Option<(u8, &str)>
 }
 
 /// What follows the quote, where it stands at the front.
+#[inline(always)]
 pub fn after_quote(text: &str, quote: u8) -> Option<&str>
     ensures read { Gives (λ r. (tt, chars r.now)) result (word (quote_char (quote_of quote) ∷ []) (chars text.now)) }
     ensures shorter { IfSome result (λ r. length r.now < length text.now) }
@@ -54,7 +56,7 @@ pub struct AttributeText<'a> {
 }
 
 /// The attribute at the front, without white space before it; None where none begins the text.
-#[inline]
+#[inline(always)]
 fn bare_attribute_of(text: &str) -> Option<AttributeText<'_>>
     ensures read { Gives suffixes_seen result (option_map suffixes (read_bare (chars text.now))) }
     ensures first { IfSome result (λ f. (length f.after_space.now ≡ length text.now) × (length f.after_name.now ≤ length f.after_space.now)) }
@@ -100,6 +102,7 @@ pub fn begins_attribute(text: &str) -> bool
 
 /// How many attributes stand at the front, and what follows them and the white space behind them; None where one of
 /// them is wrong.
+#[inline(always)]
 fn after_attributes(text: &str) -> Option<(u32, &str)>
     requires { length text.now < 2 ^ 32 }
     ensures read { Gives (λ x. (x.0, chars x.1.now)) result (option_map counted (read_attributes (chars text.now))) }
@@ -121,6 +124,7 @@ fn after_attributes(text: &str) -> Option<(u32, &str)>
 }
 
 /// Whether the tag closes with `/>`, and what follows.
+#[inline(always)]
 fn close_of(text: &str) -> Option<(bool, &str)>
     ensures read { Gives (λ x. (x.0, chars x.1.now)) result (read_close (chars text.now)) }
     ensures shorter { IfSome result (λ x. length x.1.now ≤ length text.now) }
@@ -132,6 +136,7 @@ fn close_of(text: &str) -> Option<(bool, &str)>
     Some((false, rest))
 }
 
+#[inline(always)]
 fn tag_kind(empty: bool) -> ItemKind
     ensures { result ≡ tag_kind empty }
 {
@@ -143,6 +148,7 @@ fn tag_kind(empty: bool) -> ItemKind
 }
 
 /// The start tag or empty tag at the front of a text that begins at the place (XML 1.0, productions 40 and 44).
+#[inline(always)]
 pub fn tag_at(text: &str, at: u32) -> Option<Counted>
     requires { at + length text.now < 2 ^ 32 }
     ensures { result ≡ option_map (λ p. counted_shown at p.0) (read_tag (chars text.now)) }
@@ -161,6 +167,7 @@ pub fn tag_at(text: &str, at: u32) -> Option<Counted>
 }
 
 /// The end tag at the front of a text that begins at the place (XML 1.0, production 42).
+#[inline(always)]
 pub fn end_tag_at(text: &str, at: u32) -> Option<Item>
     requires { at + length text.now < 2 ^ 32 }
     ensures { result ≡ option_map (λ p. item_shown at p.0) (read_end_tag (chars text.now)) }
