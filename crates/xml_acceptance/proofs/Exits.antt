@@ -11,7 +11,7 @@ use Rattle.xml_model.specs.Items.{Item, spelling, begins_at, walk, walk_to_end, 
 use Rattle.xml_model.specs.Nest.{Forest, is_nest, flat}
 use Rattle.xml_model.specs.Records.{Token, document, records}
 use Rattle.xml_model.specs.Accepted.{RefusesItem, RefusesNesting, DoesNotBegin, is_opening, IsDocument, over_items, unknown_item, encoding_item, first_wide, Refuses, IsRefusal, Accepted, AcceptedTo, layer}
-use Rattle.xml_model.proofs.Bridge.{one_walk, no_syntax, no_utf8, spelling_some}
+use Rattle.xml_model.proofs.Bridge.{one_walk, no_syntax, no_utf8}
 use Rattle.xml_items.specs.declared.Item.{Item as ItemShown}
 use Rattle.xml_items.specs.declared.Counted.{Counted}
 use Rattle.xml_items.specs.Counted.{IsCountedAt}
