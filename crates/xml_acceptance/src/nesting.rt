@@ -52,14 +52,16 @@ impl OpenTags {
 
     /// Whether an element stands open.
     pub fn is_inside(&self) -> bool
-        ensures { (bytes : List ℕ) (names : List (List ℕ)) (phase : MachinePhase) → Shows bytes self.now names phase → result ≡ nat_lt 0 (length names) }
+        ensures { (bytes : List ℕ) (names : List (List ℕ)) (phase : MachinePhase) → Shows bytes self.now names phase →
+            result ≡ nat_lt 0 (length names) }
     {
         self.depth > 0
     }
 
     /// Whether the root element has come and none stands open.
     pub fn is_complete(&self) -> bool
-        ensures { (bytes : List ℕ) (names : List (List ℕ)) (phase : MachinePhase) → Shows bytes self.now names phase → result ≡ is_end (state names phase) }
+        ensures { (bytes : List ℕ) (names : List (List ℕ)) (phase : MachinePhase) → Shows bytes self.now names phase →
+            result ≡ is_end (state names phase) }
     {
         self.depth == 0 && self.phase == Phase::Tail
     }
@@ -74,7 +76,8 @@ impl OpenTags {
 
     /// Whether an element may begin here: the root element, or one inside at most 254 others.
     fn start_standing(&self) -> Standing
-        ensures shown { (bytes : List ℕ) (names : List (List ℕ)) (phase : MachinePhase) → Shows bytes self.now names phase → result ≡ start_standing names phase }
+        ensures shown { (bytes : List ℕ) (names : List (List ℕ)) (phase : MachinePhase) →
+            Shows bytes self.now names phase → result ≡ start_standing names phase }
         ensures room { result ≡ Standing.Stands → self.now.depth < 255 }
     {
         if self.depth == 0 {
@@ -92,7 +95,8 @@ impl OpenTags {
 
     /// Takes a start tag, if it may stand here.
     fn open(&mut self, name: Span) -> Standing
-        ensures { (bytes : List ℕ) (tag : Tag) (names : List (List ℕ)) (phase : MachinePhase) → Shows bytes self.old names phase → NameAt bytes name tag.name
+        ensures { (bytes : List ℕ) (tag : Tag) (names : List (List ℕ)) (phase : MachinePhase) →
+            Shows bytes self.old names phase → NameAt bytes name tag.name
             → Shown bytes self.new result names (start_tag tag) (step names phase (start_tag tag)) }
     {
         match self.start_standing() {
@@ -124,7 +128,8 @@ impl OpenTags {
     fn close(&mut self, bytes: &[u8], name: Span) -> Standing
         requires name { InBytes bytes.now name }
         requires stack { IsStack bytes.now self.old }
-        ensures { (written space : List ℕ) (names : List (List ℕ)) (phase : MachinePhase) → Shows bytes.now self.old names phase → NameAt bytes.now name written
+        ensures { (written space : List ℕ) (names : List (List ℕ)) (phase : MachinePhase) →
+            Shows bytes.now self.old names phase → NameAt bytes.now name written
             → Shown bytes.now self.new result names (end_tag written space) (step names phase (end_tag written space)) }
     {
         if self.depth == 0 {
@@ -156,7 +161,9 @@ impl OpenTags {
         requires size { length bytes.now < 2 ^ 30 }
         requires item { IsItemAt bytes.now item.span.start item }
         requires stack { IsStack bytes.now self.old }
-        ensures { (i : ModelItem) (names : List (List ℕ)) (phase : MachinePhase) → begins_at bytes.now item.span.start i ≡ true → item ≡ item_shown item.span.start i → Shows bytes.now self.old names phase
+        ensures { (i : ModelItem) (names : List (List ℕ)) (phase : MachinePhase) →
+            begins_at bytes.now item.span.start i ≡ true → item ≡ item_shown item.span.start i →
+            Shows bytes.now self.old names phase
             → Shown bytes.now self.new result names i (step names phase i) }
     {
         match item.kind {
