@@ -11,7 +11,7 @@ use Rattle.xml_model.specs.Items.{Item, spelling, begins_at, walk, walk_to_end, 
 use Rattle.xml_model.specs.Nest.{Forest, is_nest, flat}
 use Rattle.xml_model.specs.Records.{Token, document, records}
 use Rattle.xml_model.specs.Accepted.{RefusesItem, RefusesNesting, DoesNotBegin, is_opening, IsDocument, over_items, unknown_item, encoding_item, first_wide, Refuses, IsRefusal, Accepted, AcceptedTo, layer}
-use Rattle.xml_model.proofs.Bridge.{one_walk, no_syntax, no_utf8, spelling_some}
+use Rattle.xml_model.proofs.Bridge.{one_walk, no_syntax, no_utf8}
 use Rattle.xml_items.specs.declared.Item.{Item as ItemShown}
 use Rattle.xml_items.specs.declared.Counted.{Counted}
 use Rattle.xml_items.specs.Counted.{IsCountedAt}
@@ -22,8 +22,8 @@ use Rattle.xml_acceptance.specs.Ampersands.{first}
 use Rattle.xml_acceptance.specs.Machine.{Phase, whole, head, body, tail, State, state, run, items_tokens}
 use Rattle.xml_acceptance.specs.Open.{is_end, is_deep}
 use Rattle.xml_acceptance.specs.Passes.{past_items, Finds, Goes, Stops, NestsBy, Nests, Passes, nesting_fault}
-use Rattle.xml_acceptance.proofs.Places.{one_item, ends_within}
-use Rattle.xml_acceptance.proofs.Shapes.{begins_within}
+use Rattle.xml_items.proofs.PlaceLaws.{one_item_on_walks}
+use Rattle.xml_acceptance.proofs.Standing.{stand}
 use Rattle.xml_acceptance.proofs.Tokens.{tokens_whole}
 use Rattle.xml_acceptance.proofs.Fronts.{taken_begins, stops_begins, open_no_nest, open_taken, ends_nest}
 use Rattle.xml_acceptance.proofs.OneAnswer.{one_document}
@@ -47,8 +47,8 @@ passes_more bytes old new at found i p b s f n = record {
 pub later_end : (bytes : List ℕ) (at : ℕ) (found : Counted) → IsCountedAt bytes at found → (at < found.item.span.end) × (found.item.span.end ≤ length bytes)
 later_end bytes at found a =
     let end : found.item.span.end ≡ at + length (spelling a.item) = ap (λ (x : ItemShown). x.span.end) a.shown in
-    let within = begins_within bytes at a.item a.begins in
-    (omega (arith, end, spelling_some bytes at a.item a.begins), omega (arith, end, ends_within bytes at a.item (omega (arith, within)) a.begins))
+    let s = stand bytes at a.item a.begins in
+    (omega (arith, end, s.some), omega (arith, end, s.within))
 
 -- ---- which layers don't refuse
 
@@ -63,7 +63,7 @@ whole_pass bytes pass u p = record { utf8 = u; walked = and_from _ _ p.walked (e
 
 no_item : (f : ℕ → Item → List ℕ) (bytes : List ℕ) (items : List Item) (at : ℕ) → Whole bytes items → over_items f (first_place bytes) items ≡ [] → RefusesItem f bytes at → ⊥
 no_item f bytes items at w e r =
-    let same : r.items ≡ items = one_walk bytes (one_item bytes w.utf8) r.items items r.walked w.walked in
+    let same : r.items ≡ items = one_walk bytes (one_item_on_walks bytes w.utf8) r.items items r.walked w.walked in
     let h : at ∷ r.others ≡ [] = sym r.first ∙ ap (over_items f (first_place bytes)) same ∙ e in
     cc
 
@@ -74,13 +74,13 @@ no_longest front (i ∷ is) nest n e h = h (record { nest = nest; rest = is; nes
 no_nesting : (bytes : List ℕ) (items : List Item) (at : ℕ) (deep : Bool) → Whole bytes items → run [] whole items ≡ Some (state [] tail) → RefusesNesting bytes at deep → ⊥
 no_nesting bytes items at deep w ends r =
     let n = ends_nest items ends in
-    no_longest r.front r.rest n.0 n.1 (n.2 ∙ one_walk bytes (one_item bytes w.utf8) items (r.front ++ r.rest) w.walked r.walked) r.longest
+    no_longest r.front r.rest n.0 n.1 (n.2 ∙ one_walk bytes (one_item_on_walks bytes w.utf8) items (r.front ++ r.rest) w.walked r.walked) r.longest
 
 -- the layers of whole items, up to one
 none_to : (bytes : List ℕ) (items : List Item) (k : ℕ) → Whole bytes items → k ≤ 5 → (3 ≤ k → over_items unknown_item (first_place bytes) items ≡ []) → (4 ≤ k → over_items encoding_item (first_place bytes) items ≡ [])
     → (5 ≤ k → run [] whole items ≡ Some (state [] tail)) → AcceptedTo bytes k
 none_to bytes items k w m entity encoding ends (faults.Utf8 at) l = no_utf8 bytes at w.utf8
-none_to bytes items k w m entity encoding ends (faults.Syntax at) l = no_syntax bytes items at (one_item bytes w.utf8) w.walked
+none_to bytes items k w m entity encoding ends (faults.Syntax at) l = no_syntax bytes items at (one_item_on_walks bytes w.utf8) w.walked
 none_to bytes items k w m entity encoding ends (faults.Entity at) l = no_item unknown_item bytes items at w (entity l)
 none_to bytes items k w m entity encoding ends (faults.Encoding at) l = no_item encoding_item bytes items at w (encoding l)
 none_to bytes items k w m entity encoding ends (faults.Nesting at) l = no_nesting bytes items at false w (ends l)

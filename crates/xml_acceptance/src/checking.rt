@@ -56,7 +56,8 @@ impl Pass {
         requires size { length bytes.now < 2 ^ 30 }
         requires passed { Passes bytes.now self.now (length bytes.now) }
         ensures accepted { OnOk result ((nest : Forest) × Accepted 6 bytes.now nest) }
-        ensures records { IfOk result (λ counts. (nest : Forest) → Accepted 6 bytes.now nest → counts.records ≡ length (records nest (first_place bytes.now))) }
+        ensures records { IfOk result (λ counts. (nest : Forest) → Accepted 6 bytes.now nest →
+            counts.records ≡ length (records nest (first_place bytes.now))) }
         ensures few { IfOk result (λ counts. counts.records ≤ length bytes.now + 1) }
         ensures levels { IfOk result HasNoLevels }
         ensures refused { IfErr result (IsRefusal bytes.now) }
@@ -146,7 +147,8 @@ fn pass_over(bytes: &[u8]) -> Result<Pass, DocFault>
 pub fn check(bytes: &[u8]) -> Result<Counts, DocFault>
     requires size { length bytes.now < 2 ^ 30 }
     ensures accepted { OnOk result ((nest : Forest) × Accepted 6 bytes.now nest) }
-    ensures records { IfOk result (λ counts. (nest : Forest) → Accepted 6 bytes.now nest → counts.records ≡ length (records nest (first_place bytes.now))) }
+    ensures records { IfOk result (λ counts. (nest : Forest) → Accepted 6 bytes.now nest →
+        counts.records ≡ length (records nest (first_place bytes.now))) }
     ensures few { IfOk result (λ counts. counts.records ≤ length bytes.now + 1) }
     ensures levels { IfOk result HasNoLevels }
     ensures refused { IfErr result (IsRefusal bytes.now) }

@@ -44,7 +44,9 @@ impl Findings {
         requires item { IsItemAt bytes.now item.span.start item }
         requires next { self.old.next.at ≡ next_ampersand bytes.now item.span.start }
         ensures next { self.new.next.at ≡ next_ampersand bytes.now item.span.end }
-        ensures entity { (i : ModelItem) → begins_at bytes.now item.span.start i ≡ true → item ≡ item_shown item.span.start i → self.new.entity ≡ option_or self.old.entity (first (unknown_item item.span.start i)) }
+        ensures entity { (i : ModelItem) → begins_at bytes.now item.span.start i ≡ true →
+            item ≡ item_shown item.span.start i →
+            self.new.entity ≡ option_or self.old.entity (first (unknown_item item.span.start i)) }
         ensures encoding { self.new.encoding ≡ self.old.encoding }
     {
         if item.span.end <= self.next.at {
@@ -61,7 +63,9 @@ impl Findings {
         requires item { IsItemAt bytes.now item.span.start item }
         ensures next { self.new.next ≡ self.old.next }
         ensures entity { self.new.entity ≡ self.old.entity }
-        ensures encoding { (i : ModelItem) → begins_at bytes.now item.span.start i ≡ true → item ≡ item_shown item.span.start i → self.new.encoding ≡ option_or self.old.encoding (first (encoding_item item.span.start i)) }
+        ensures encoding { (i : ModelItem) → begins_at bytes.now item.span.start i ≡ true →
+            item ≡ item_shown item.span.start i →
+            self.new.encoding ≡ option_or self.old.encoding (first (encoding_item item.span.start i)) }
     {
         match item.kind {
             ItemKind::Declaration => {
@@ -77,7 +81,9 @@ impl Findings {
         requires size { length bytes.now < 2 ^ 30 }
         requires item { IsItemAt bytes.now item.span.start item }
         requires next { self.old.next.at ≡ next_ampersand bytes.now item.span.start }
-        ensures { (items : List ModelItem) (i : ModelItem) → Finds bytes.now self.old items → past_items bytes.now items ≡ item.span.start → begins_at bytes.now item.span.start i ≡ true → item ≡ item_shown item.span.start i
+        ensures { (items : List ModelItem) (i : ModelItem) → Finds bytes.now self.old items →
+            past_items bytes.now items ≡ item.span.start → begins_at bytes.now item.span.start i ≡ true →
+            item ≡ item_shown item.span.start i
             → Finds bytes.now self.new (items ++ i ∷ []) }
     {
         self.take_references(bytes, item);

@@ -47,7 +47,9 @@ impl NestSoFar {
         requires utf8 { IsUtf8 bytes.now }
         requires size { length bytes.now < 2 ^ 30 }
         requires item { IsItemAt bytes.now item.span.start item }
-        ensures wide { (i : ModelItem) (level : ℕ) → begins_at bytes.now item.span.start i ≡ true → item ≡ item_shown item.span.start i → inside ≡ nat_lt 0 level → self.new.wide ≡ option_or self.old.wide (first_wide (item_tokens level item.span.start i)) }
+        ensures wide { (i : ModelItem) (level : ℕ) → begins_at bytes.now item.span.start i ≡ true →
+            item ≡ item_shown item.span.start i → inside ≡ nat_lt 0 level →
+            self.new.wide ≡ option_or self.old.wide (first_wide (item_tokens level item.span.start i)) }
         ensures tags { self.new.tags ≡ self.old.tags }
         ensures records { self.new.records ≡ self.old.records }
         ensures fault { self.new.fault ≡ self.old.fault }
@@ -63,7 +65,10 @@ impl NestSoFar {
         requires size { length bytes.now < 2 ^ 30 }
         requires answered { IsCountedAt bytes.now counted.item.span.start counted }
         requires so_far { NestsTo bytes.now self.old counted.item.span.start }
-        ensures { (items : List ModelItem) (i : ModelItem) → Nests bytes.now self.old items → past_items bytes.now items ≡ counted.item.span.start → begins_at bytes.now counted.item.span.start i ≡ true → counted.item ≡ item_shown counted.item.span.start i → counted.attributes ≡ length (item_attributes i)
+        ensures { (items : List ModelItem) (i : ModelItem) → Nests bytes.now self.old items →
+            past_items bytes.now items ≡ counted.item.span.start →
+            begins_at bytes.now counted.item.span.start i ≡ true → counted.item ≡ item_shown counted.item.span.start i →
+            counted.attributes ≡ length (item_attributes i)
             → Nests bytes.now self.new (items ++ i ∷ []) }
     {
         if self.fault.is_some() {

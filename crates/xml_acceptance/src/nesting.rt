@@ -7,6 +7,7 @@ ghost use Rattle.xml_model.specs.Items.{Item as ModelItem, Leaf, Tag, start_tag,
 ghost use Rattle.xml_items.specs.Shown.{item_shown, IsItemAt};
 ghost use Rattle.xml_acceptance.specs.Machine.{Phase as MachinePhase, state, whole, step};
 ghost use Rattle.xml_acceptance.specs.Phases.{outer_of};
+ghost use Rattle.xml_acceptance.specs.Widths.{span_bytes, InBytes};
 
 use crate::phases::{OuterKind, Phase, Standing, inner_standing, outer_kind, phase_behind};
 use xml_items::{Item, ItemKind};
@@ -26,11 +27,9 @@ pub struct OpenTags {
 
 /// Whether the same bytes stand in two places.
 fn is_same(bytes: &[u8], one: Span, other: Span) -> bool
-    requires one_order { one.start ≤ one.end }
-    requires one_within { one.end ≤ length bytes.now }
-    requires other_order { other.start ≤ other.end }
-    requires other_within { other.end ≤ length bytes.now }
-    ensures { result ≡ bytes_eq (take (one.end - one.start) (drop one.start bytes.now)) (take (other.end - other.start) (drop other.start bytes.now)) }
+    requires one { InBytes bytes.now one }
+    requires other { InBytes bytes.now other }
+    ensures { result ≡ bytes_eq (span_bytes bytes.now one) (span_bytes bytes.now other) }
 {
     let first = &bytes[one.start as usize..one.end as usize];
     let second = &bytes[other.start as usize..other.end as usize];
@@ -53,14 +52,16 @@ impl OpenTags {
 
     /// Whether an element stands open.
     pub fn is_inside(&self) -> bool
-        ensures { (bytes : List ℕ) (names : List (List ℕ)) (phase : MachinePhase) → Shows bytes self.now names phase → result ≡ nat_lt 0 (length names) }
+        ensures { (bytes : List ℕ) (names : List (List ℕ)) (phase : MachinePhase) → Shows bytes self.now names phase →
+            result ≡ nat_lt 0 (length names) }
     {
         self.depth > 0
     }
 
     /// Whether the root element has come and none stands open.
     pub fn is_complete(&self) -> bool
-        ensures { (bytes : List ℕ) (names : List (List ℕ)) (phase : MachinePhase) → Shows bytes self.now names phase → result ≡ is_end (state names phase) }
+        ensures { (bytes : List ℕ) (names : List (List ℕ)) (phase : MachinePhase) → Shows bytes self.now names phase →
+            result ≡ is_end (state names phase) }
     {
         self.depth == 0 && self.phase == Phase::Tail
     }
@@ -75,7 +76,8 @@ impl OpenTags {
 
     /// Whether an element may begin here: the root element, or one inside at most 254 others.
     fn start_standing(&self) -> Standing
-        ensures shown { (bytes : List ℕ) (names : List (List ℕ)) (phase : MachinePhase) → Shows bytes self.now names phase → result ≡ start_standing names phase }
+        ensures shown { (bytes : List ℕ) (names : List (List ℕ)) (phase : MachinePhase) →
+            Shows bytes self.now names phase → result ≡ start_standing names phase }
         ensures room { result ≡ Standing.Stands → self.now.depth < 255 }
     {
         if self.depth == 0 {
@@ -93,7 +95,8 @@ impl OpenTags {
 
     /// Takes a start tag, if it may stand here.
     fn open(&mut self, name: Span) -> Standing
-        ensures { (bytes : List ℕ) (tag : Tag) (names : List (List ℕ)) (phase : MachinePhase) → Shows bytes self.old names phase → NameAt bytes name tag.name
+        ensures { (bytes : List ℕ) (tag : Tag) (names : List (List ℕ)) (phase : MachinePhase) →
+            Shows bytes self.old names phase → NameAt bytes name tag.name
             → Shown bytes self.new result names (start_tag tag) (step names phase (start_tag tag)) }
     {
         match self.start_standing() {
@@ -123,10 +126,10 @@ impl OpenTags {
 
     /// Takes an end tag, if it has the name of the innermost open element.
     fn close(&mut self, bytes: &[u8], name: Span) -> Standing
-        requires order { name.start ≤ name.end }
-        requires within { name.end ≤ length bytes.now }
+        requires name { InBytes bytes.now name }
         requires stack { IsStack bytes.now self.old }
-        ensures { (written space : List ℕ) (names : List (List ℕ)) (phase : MachinePhase) → Shows bytes.now self.old names phase → NameAt bytes.now name written
+        ensures { (written space : List ℕ) (names : List (List ℕ)) (phase : MachinePhase) →
+            Shows bytes.now self.old names phase → NameAt bytes.now name written
             → Shown bytes.now self.new result names (end_tag written space) (step names phase (end_tag written space)) }
     {
         if self.depth == 0 {
@@ -158,7 +161,9 @@ impl OpenTags {
         requires size { length bytes.now < 2 ^ 30 }
         requires item { IsItemAt bytes.now item.span.start item }
         requires stack { IsStack bytes.now self.old }
-        ensures { (i : ModelItem) (names : List (List ℕ)) (phase : MachinePhase) → begins_at bytes.now item.span.start i ≡ true → item ≡ item_shown item.span.start i → Shows bytes.now self.old names phase
+        ensures { (i : ModelItem) (names : List (List ℕ)) (phase : MachinePhase) →
+            begins_at bytes.now item.span.start i ≡ true → item ≡ item_shown item.span.start i →
+            Shows bytes.now self.old names phase
             → Shown bytes.now self.new result names i (step names phase i) }
     {
         match item.kind {

@@ -1,12 +1,12 @@
 use Rattle.std.proofs.Common.{ℕ, ◌≤◌, length, sym, subst, arith}
 use Rattle.std.specs.Str.{IsCharBoundary}
 use Rattle.xml_items.specs.Counted.{IsCountedAt}
-use Rattle.xml_acceptance.proofs.Places.{first_within, first_boundary}
+use Rattle.xml_items.proofs.PlaceLaws.{first_boundary}
 use Rattle.xml_acceptance.proofs.Exits.{refused_syntax, later_end}
 use Rattle.xml_acceptance.proofs.checking.pass_over.Goals as goal
 
 pub new-pass-requires-clause-within : goal.new-pass-requires-clause-within
-new-pass-requires-clause-within c = subst (λ (n : ℕ). n ≤ length c.args.bytes.now) (sym c.first_place-at.ensures) (first_within c.args.bytes.now)
+new-pass-requires-clause-within c = subst (λ (n : ℕ). n ≤ length c.args.bytes.now) (sym c.first_place-at.ensures) (first_boundary c.args.bytes.now c.requires.utf8).0
 
 pub items-init : goal.items-init
 items-init c = record {
