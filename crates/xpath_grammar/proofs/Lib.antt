@@ -14,3 +14,4 @@ pub mod Whole
 pub mod Lookups
 pub mod Numbers
 pub mod FirstFault
+pub mod Tables

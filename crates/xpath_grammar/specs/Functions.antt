@@ -1,75 +1,77 @@
 -- The core functions of XPath 1.0, section 4, and the types of expressions.
-use Rattle.std.specs.Prelude.{ℕ, suc, zero, Bool, true, false, not, ◌&&◌, ◌||◌, List, [], ◌∷◌, codes, Option, Some, None}
+use Rattle.std.specs.Prelude.{ℕ, suc, Bool, true, false, ◌&&◌, List, [], ◌∷◌, ◌++◌, nat_le, codes, Option, Some, None}
 use Rattle.std.specs.Str.{chars}
 use Rattle.xpath_tokens.specs.Tokens.{find_named}
-use Rattle.xpath_tokens.specs.Reading.{or_else}
 use Rattle.xpath_grammar.specs.declared.functions.ValueType.{ValueType}
 use Rattle.xpath_grammar.specs.declared.functions.ValueType.TheVariants as type
 use Rattle.xpath_grammar.specs.declared.functions.Signature.{Signature}
 use Rattle.xpath_grammar.specs.Tree.{Tree, Trees, or, and, union, compare, arithmetic, negate, path, from, filter, literal, number, variable, call, none, more}
 
--- a function of at least so many arguments, and of fewer than a number of them
+-- a function of so many arguments at least and at most
 abbrev pub takes : ℕ → ℕ → ValueType → Signature
-takes least below answer = record { least = least; below = below; many = false; nodes = false; answer = answer }
+takes least most answer = record { least = least; most = Some most; nodes = false; answer = answer }
 
 -- the same, whose first argument is a node-set
 abbrev pub takes_nodes : ℕ → ℕ → ValueType → Signature
-takes_nodes least below answer = record { least = least; below = below; many = false; nodes = true; answer = answer }
+takes_nodes least most answer = record { least = least; most = Some most; nodes = true; answer = answer }
 
--- a function of at least so many arguments
+-- a function of so many arguments at least
 abbrev pub takes_many : ℕ → ValueType → Signature
-takes_many least answer = record { least = least; below = 0; many = true; nodes = false; answer = answer }
+takes_many least answer = record { least = least; most = None; nodes = false; answer = answer }
 
 -- XPath 1.0, section 4.1; id is left out
 abbrev pub node_set_functions : List (List ℕ × Signature)
 node_set_functions =
-    (chars (codes "last"), takes 0 1 type.Number)
-    ∷ (chars (codes "position"), takes 0 1 type.Number)
-    ∷ (chars (codes "count"), takes_nodes 1 2 type.Number)
-    ∷ (chars (codes "local-name"), takes_nodes 0 2 type.Text)
-    ∷ (chars (codes "namespace-uri"), takes_nodes 0 2 type.Text)
-    ∷ (chars (codes "name"), takes_nodes 0 2 type.Text) ∷ []
+    (chars (codes "last"), takes 0 0 type.Number)
+    ∷ (chars (codes "position"), takes 0 0 type.Number)
+    ∷ (chars (codes "count"), takes_nodes 1 1 type.Number)
+    ∷ (chars (codes "local-name"), takes_nodes 0 1 type.Text)
+    ∷ (chars (codes "namespace-uri"), takes_nodes 0 1 type.Text)
+    ∷ (chars (codes "name"), takes_nodes 0 1 type.Text) ∷ []
 
 -- XPath 1.0, section 4.2, where no text is sought in another
 abbrev pub string_functions : List (List ℕ × Signature)
 string_functions =
-    (chars (codes "string"), takes 0 2 type.Text)
+    (chars (codes "string"), takes 0 1 type.Text)
     ∷ (chars (codes "concat"), takes_many 2 type.Text)
-    ∷ (chars (codes "substring"), takes 2 4 type.Text)
-    ∷ (chars (codes "string-length"), takes 0 2 type.Number)
-    ∷ (chars (codes "normalize-space"), takes 0 2 type.Text)
-    ∷ (chars (codes "translate"), takes 3 4 type.Text) ∷ []
+    ∷ (chars (codes "substring"), takes 2 3 type.Text)
+    ∷ (chars (codes "string-length"), takes 0 1 type.Number)
+    ∷ (chars (codes "normalize-space"), takes 0 1 type.Text)
+    ∷ (chars (codes "translate"), takes 3 3 type.Text) ∷ []
 
 -- XPath 1.0, section 4.2, where a text is sought in another
 abbrev pub finding_functions : List (List ℕ × Signature)
 finding_functions =
-    (chars (codes "starts-with"), takes 2 3 type.Truth)
-    ∷ (chars (codes "contains"), takes 2 3 type.Truth)
-    ∷ (chars (codes "substring-before"), takes 2 3 type.Text)
-    ∷ (chars (codes "substring-after"), takes 2 3 type.Text) ∷ []
+    (chars (codes "starts-with"), takes 2 2 type.Truth)
+    ∷ (chars (codes "contains"), takes 2 2 type.Truth)
+    ∷ (chars (codes "substring-before"), takes 2 2 type.Text)
+    ∷ (chars (codes "substring-after"), takes 2 2 type.Text) ∷ []
 
 -- XPath 1.0, section 4.3
 abbrev pub boolean_functions : List (List ℕ × Signature)
 boolean_functions =
-    (chars (codes "boolean"), takes 1 2 type.Truth)
-    ∷ (chars (codes "not"), takes 1 2 type.Truth)
-    ∷ (chars (codes "true"), takes 0 1 type.Truth)
-    ∷ (chars (codes "false"), takes 0 1 type.Truth)
-    ∷ (chars (codes "lang"), takes 1 2 type.Truth) ∷ []
+    (chars (codes "boolean"), takes 1 1 type.Truth)
+    ∷ (chars (codes "not"), takes 1 1 type.Truth)
+    ∷ (chars (codes "true"), takes 0 0 type.Truth)
+    ∷ (chars (codes "false"), takes 0 0 type.Truth)
+    ∷ (chars (codes "lang"), takes 1 1 type.Truth) ∷ []
 
 -- XPath 1.0, section 4.4
 abbrev pub number_functions : List (List ℕ × Signature)
 number_functions =
-    (chars (codes "number"), takes 0 2 type.Number)
-    ∷ (chars (codes "sum"), takes_nodes 1 2 type.Number)
-    ∷ (chars (codes "floor"), takes 1 2 type.Number)
-    ∷ (chars (codes "ceiling"), takes 1 2 type.Number)
-    ∷ (chars (codes "round"), takes 1 2 type.Number) ∷ []
+    (chars (codes "number"), takes 0 1 type.Number)
+    ∷ (chars (codes "sum"), takes_nodes 1 1 type.Number)
+    ∷ (chars (codes "floor"), takes 1 1 type.Number)
+    ∷ (chars (codes "ceiling"), takes 1 1 type.Number)
+    ∷ (chars (codes "round"), takes 1 1 type.Number) ∷ []
+
+-- the core functions
+abbrev pub functions : List (List ℕ × Signature)
+functions = node_set_functions ++ (string_functions ++ (finding_functions ++ (boolean_functions ++ number_functions)))
 
 -- what a function takes and answers; none where it is not known
 abbrev pub signature_of : List ℕ → Option Signature
-signature_of f =
-    or_else (find_named node_set_functions f) (or_else (or_else (find_named string_functions f) (find_named finding_functions f)) (or_else (find_named boolean_functions f) (find_named number_functions f)))
+signature_of f = find_named functions f
 
 abbrev pub answer_of : Option Signature → ValueType
 answer_of None = type.Any
@@ -100,11 +102,14 @@ is_nodes _ = false
 abbrev pub gives_nodes : Tree → Bool
 gives_nodes t = is_nodes (type_of t)
 
-abbrev pub at_least : ℕ → Trees → Bool
-at_least zero es = true
-at_least (suc n) none = false
-at_least (suc n) (more e es) = at_least n es
+abbrev pub count : Trees → ℕ
+count none = 0
+count (more e es) = suc (count es)
+
+abbrev pub is_within : Option ℕ → ℕ → Bool
+is_within None n = true
+is_within (Some most) n = nat_le n most
 
 -- the number of arguments fits
 abbrev pub fits : Signature → Trees → Bool
-fits s es = at_least s.least es && (s.many || not (at_least s.below es))
+fits s es = nat_le s.least (count es) && is_within s.most (count es)

@@ -1,58 +1,60 @@
 // The core functions, and the types of expressions.
 
-ghost use Rattle.std.specs.Prelude.{◌≡◌};
+ghost use Rattle.std.specs.Prelude.{◌≡◌, nat_le};
 ghost use Rattle.xpath_tokens.specs.Tokens.{find_named};
 ghost use Rattle.xpath_tokens.specs.Reading.{or_else};
 ghost use Rattle.xpath_grammar.specs.Tree.{tree_of, trees_of};
-ghost use Rattle.xpath_grammar.specs.Functions.{takes as takes_lem, takes_nodes as takes_nodes_lem, takes_many as takes_many_lem, node_set_functions, string_functions, finding_functions, boolean_functions, number_functions, signature_of as signature_of_lem, answer_of as answer_of_lem, type_of as type_of_lem, gives_nodes as gives_nodes_lem, at_least as at_least_lem, fits as fits_lem};
+ghost use Rattle.xpath_grammar.specs.Functions.{takes as takes_lem, takes_nodes as takes_nodes_lem, takes_many as takes_many_lem, node_set_functions, string_functions, finding_functions, boolean_functions, number_functions, signature_of as signature_of_lem, answer_of as answer_of_lem, type_of as type_of_lem, gives_nodes as gives_nodes_lem, count, is_within as is_within_lem, fits as fits_lem};
 
 use crate::expr::{Expr, Exprs};
 use xml_model::Text;
 use xpath_tokens::is_text;
 
-/// The type of an expression (XPath 1.0, section 1); `Any` passes as each of the others.
+/// The type of an expression, which its text shows (XPath 1.0, section 1).
 #[derive(Clone, Copy, Debug, PartialEq, Eq)]
 pub enum ValueType {
+    /// A node-set.
     Nodes,
+    /// A boolean.
     Truth,
+    /// A number.
     Number,
+    /// A string.
     Text,
+    /// That of a variable, and of a call of a function that is not known; it passes as each of the others.
     Any,
 }
 
-/// What a function takes and answers.
+/// What a core function takes and answers (XPath 1.0, section 4).
 #[derive(Clone, Copy, Debug, PartialEq, Eq)]
 pub struct Signature {
     /// How many arguments it takes at least.
     pub least: u8,
-    /// It takes fewer than so many, if not `many`.
-    pub below: u8,
-    /// It takes any number from the least on.
-    pub many: bool,
-    /// Its first argument is a node-set.
+    /// How many arguments it takes at most; None where there is no such number.
+    pub most: Option<u8>,
+    /// Whether its first argument is to be a node-set.
     pub nodes: bool,
+    /// The type of its answer.
     pub answer: ValueType,
 }
 
-fn takes(least: u8, below: u8, answer: ValueType) -> Signature
-    ensures { result ≡ takes_lem least below answer }
+fn takes(least: u8, most: u8, answer: ValueType) -> Signature
+    ensures { result ≡ takes_lem least most answer }
 {
     Signature {
         least,
-        below,
-        many: false,
+        most: Some(most),
         nodes: false,
         answer,
     }
 }
 
-fn takes_nodes(least: u8, below: u8, answer: ValueType) -> Signature
-    ensures { result ≡ takes_nodes_lem least below answer }
+fn takes_nodes(least: u8, most: u8, answer: ValueType) -> Signature
+    ensures { result ≡ takes_nodes_lem least most answer }
 {
     Signature {
         least,
-        below,
-        many: false,
+        most: Some(most),
         nodes: true,
         answer,
     }
@@ -63,8 +65,7 @@ fn takes_many(least: u8, answer: ValueType) -> Signature
 {
     Signature {
         least,
-        below: 0,
-        many: true,
+        most: None,
         nodes: false,
         answer,
     }
@@ -75,17 +76,17 @@ fn node_set_function(name: &Text) -> Option<Signature>
     ensures { result ≡ find_named node_set_functions name.now }
 {
     if is_text(name, "last") {
-        Some(takes(0, 1, ValueType::Number))
+        Some(takes(0, 0, ValueType::Number))
     } else if is_text(name, "position") {
-        Some(takes(0, 1, ValueType::Number))
+        Some(takes(0, 0, ValueType::Number))
     } else if is_text(name, "count") {
-        Some(takes_nodes(1, 2, ValueType::Number))
+        Some(takes_nodes(1, 1, ValueType::Number))
     } else if is_text(name, "local-name") {
-        Some(takes_nodes(0, 2, ValueType::Text))
+        Some(takes_nodes(0, 1, ValueType::Text))
     } else if is_text(name, "namespace-uri") {
-        Some(takes_nodes(0, 2, ValueType::Text))
+        Some(takes_nodes(0, 1, ValueType::Text))
     } else if is_text(name, "name") {
-        Some(takes_nodes(0, 2, ValueType::Text))
+        Some(takes_nodes(0, 1, ValueType::Text))
     } else {
         None
     }
@@ -96,17 +97,17 @@ fn string_function(name: &Text) -> Option<Signature>
     ensures { result ≡ find_named string_functions name.now }
 {
     if is_text(name, "string") {
-        Some(takes(0, 2, ValueType::Text))
+        Some(takes(0, 1, ValueType::Text))
     } else if is_text(name, "concat") {
         Some(takes_many(2, ValueType::Text))
     } else if is_text(name, "substring") {
-        Some(takes(2, 4, ValueType::Text))
+        Some(takes(2, 3, ValueType::Text))
     } else if is_text(name, "string-length") {
-        Some(takes(0, 2, ValueType::Number))
+        Some(takes(0, 1, ValueType::Number))
     } else if is_text(name, "normalize-space") {
-        Some(takes(0, 2, ValueType::Text))
+        Some(takes(0, 1, ValueType::Text))
     } else if is_text(name, "translate") {
-        Some(takes(3, 4, ValueType::Text))
+        Some(takes(3, 3, ValueType::Text))
     } else {
         None
     }
@@ -117,13 +118,13 @@ fn finding_function(name: &Text) -> Option<Signature>
     ensures { result ≡ find_named finding_functions name.now }
 {
     if is_text(name, "starts-with") {
-        Some(takes(2, 3, ValueType::Truth))
+        Some(takes(2, 2, ValueType::Truth))
     } else if is_text(name, "contains") {
-        Some(takes(2, 3, ValueType::Truth))
+        Some(takes(2, 2, ValueType::Truth))
     } else if is_text(name, "substring-before") {
-        Some(takes(2, 3, ValueType::Text))
+        Some(takes(2, 2, ValueType::Text))
     } else if is_text(name, "substring-after") {
-        Some(takes(2, 3, ValueType::Text))
+        Some(takes(2, 2, ValueType::Text))
     } else {
         None
     }
@@ -134,15 +135,15 @@ fn boolean_function(name: &Text) -> Option<Signature>
     ensures { result ≡ find_named boolean_functions name.now }
 {
     if is_text(name, "boolean") {
-        Some(takes(1, 2, ValueType::Truth))
+        Some(takes(1, 1, ValueType::Truth))
     } else if is_text(name, "not") {
-        Some(takes(1, 2, ValueType::Truth))
+        Some(takes(1, 1, ValueType::Truth))
     } else if is_text(name, "true") {
-        Some(takes(0, 1, ValueType::Truth))
+        Some(takes(0, 0, ValueType::Truth))
     } else if is_text(name, "false") {
-        Some(takes(0, 1, ValueType::Truth))
+        Some(takes(0, 0, ValueType::Truth))
     } else if is_text(name, "lang") {
-        Some(takes(1, 2, ValueType::Truth))
+        Some(takes(1, 1, ValueType::Truth))
     } else {
         None
     }
@@ -153,15 +154,15 @@ fn number_function(name: &Text) -> Option<Signature>
     ensures { result ≡ find_named number_functions name.now }
 {
     if is_text(name, "number") {
-        Some(takes(0, 2, ValueType::Number))
+        Some(takes(0, 1, ValueType::Number))
     } else if is_text(name, "sum") {
-        Some(takes_nodes(1, 2, ValueType::Number))
+        Some(takes_nodes(1, 1, ValueType::Number))
     } else if is_text(name, "floor") {
-        Some(takes(1, 2, ValueType::Number))
+        Some(takes(1, 1, ValueType::Number))
     } else if is_text(name, "ceiling") {
-        Some(takes(1, 2, ValueType::Number))
+        Some(takes(1, 1, ValueType::Number))
     } else if is_text(name, "round") {
-        Some(takes(1, 2, ValueType::Number))
+        Some(takes(1, 1, ValueType::Number))
     } else {
         None
     }
@@ -177,12 +178,13 @@ fn earlier(first: Option<Signature>, second: Option<Signature>) -> Option<Signat
 }
 
 /// What a function takes and answers; None where it is not known.
+#[tactic(auto, using(crate::proofs::Tables::signature_parts))]
 pub fn signature_of(name: &Text) -> Option<Signature>
     ensures { result ≡ signature_of_lem name.now }
 {
     let last = earlier(boolean_function(name), number_function(name));
-    let text = earlier(string_function(name), finding_function(name));
-    earlier(node_set_function(name), earlier(text, last))
+    let text = earlier(string_function(name), earlier(finding_function(name), last));
+    earlier(node_set_function(name), text)
 }
 
 fn answer_of(signature: Option<Signature>) -> ValueType
@@ -216,15 +218,33 @@ pub fn gives_nodes(expr: &Expr) -> bool
     matches!(type_of(expr), ValueType::Nodes | ValueType::Any)
 }
 
-fn at_least(count: u8, list: &Exprs) -> bool
-    ensures { result ≡ at_least_lem count (trees_of list.now) }
+fn has_at_least(least: u8, list: &Exprs) -> bool
+    ensures { result ≡ nat_le least (count (trees_of list.now)) }
 {
-    if count == 0 {
+    if least == 0 {
         return true;
     }
     match list {
         Exprs::End => false,
-        Exprs::More(_, rest) => at_least(count - 1, rest),
+        Exprs::More(_, rest) => has_at_least(least - 1, rest),
+    }
+}
+
+fn has_at_most(most: u8, list: &Exprs) -> bool
+    ensures { result ≡ nat_le (count (trees_of list.now)) most }
+{
+    match list {
+        Exprs::End => true,
+        Exprs::More(_, rest) => 0 < most && has_at_most(most - 1, rest),
+    }
+}
+
+fn is_within(most: Option<u8>, list: &Exprs) -> bool
+    ensures { result ≡ is_within_lem most (count (trees_of list.now)) }
+{
+    match most {
+        None => true,
+        Some(most) => has_at_most(most, list),
     }
 }
 
@@ -232,5 +252,5 @@ fn at_least(count: u8, list: &Exprs) -> bool
 pub fn fits(signature: Signature, list: &Exprs) -> bool
     ensures { result ≡ fits_lem signature (trees_of list.now) }
 {
-    at_least(signature.least, list) && (signature.many || !at_least(signature.below, list))
+    has_at_least(signature.least, list) && is_within(signature.most, list)
 }

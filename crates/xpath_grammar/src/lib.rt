@@ -25,4 +25,6 @@ pub use refusal::check;
 pub use xpath_tokens::{Comparison, Operator, StepAxis};
 
 #[cfg(test)]
+mod examples;
+#[cfg(test)]
 mod tests;

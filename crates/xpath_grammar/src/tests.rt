@@ -1,4 +1,5 @@
 use super::*;
+use crate::examples::{CHAINS, FULL_PATHS, PATHS, REFUSALS, SHORT_PATHS, WRONG};
 use std::alloc::{AllocError, Global};
 use std::process::Abort;
 use std::test::Fail;
@@ -197,199 +198,27 @@ fn static_word(alloc: Global, bindings: &Bindings, text: &str) -> &'static str {
     }
 }
 
-// XPath 1.0, sections 2 and 2.5, with what the abbreviations stand for.
-const PATHS: [(&str, &str); 41] = [
-    ("child::para", "child::para"),
-    ("child::*", "child::*"),
-    ("child::text()", "child::text()"),
-    ("attribute::name", "attribute::name"),
-    ("ancestor-or-self :: div", "ancestor-or-self::div"),
-    (
-        "child::chapter/descendant::para",
-        "child::chapter/descendant::para",
-    ),
-    ("/", "/"),
-    (
-        "/descendant::olist/child::item",
-        "/descendant::olist/child::item",
-    ),
-    (
-        "child::para[position()=last()-1]",
-        "child::para[(= position() (- last() 1))]",
-    ),
-    (
-        "following-sibling::chapter[position()>1]",
-        "following-sibling::chapter[(> position() 1)]",
-    ),
-    (
-        "child::para[attribute::type='warning'][position()=5]",
-        "child::para[(= attribute::type 'warning')][(= position() 5)]",
-    ),
-    (
-        "child::*[self::chapter or self::appendix]",
-        "child::*[(or self::chapter self::appendix)]",
-    ),
-    ("para", "child::para"),
-    ("*", "child::*"),
-    ("text()", "child::text()"),
-    ("@name", "attribute::name"),
-    ("@*", "attribute::*"),
-    ("para[last()]", "child::para[last()]"),
-    ("*/para", "child::*/child::para"),
-    (
-        "/doc/chapter[5]/section[2]",
-        "/child::doc/child::chapter[5]/child::section[2]",
-    ),
-    (
-        "chapter//para",
-        "child::chapter/descendant-or-self::node()/child::para",
-    ),
-    ("//para", "/descendant-or-self::node()/child::para"),
-    (".", "self::node()"),
-    (
-        ".//para",
-        "self::node()/descendant-or-self::node()/child::para",
-    ),
-    ("..", "parent::node()"),
-    ("../@lang", "parent::node()/attribute::lang"),
-    (
-        "employee[@secretary and @assistant]",
-        "child::employee[(and attribute::secretary attribute::assistant)]",
-    ),
-    (
-        "processing-instruction('a')",
-        "child::processing-instruction('a')",
-    ),
-    ("comment() | node()", "(| child::comment() child::node())"),
-    ("p:a/p:*", "child::p:a/child::p:*"),
-    ("(//b)[1]", "{/descendant-or-self::node()/child::b}[1]"),
-    (
-        "$x[1][2]/a//b",
-        "{{$x}[1][2]}/child::a/descendant-or-self::node()/child::b",
-    ),
-    ("id('a')/b", "{id('a',)}/child::b"),
-    ("/..", "/parent::node()"),
-    ("namespace::a", "namespace::a"),
-    ("div div div", "(div child::div child::div)"),
-    ("* * *", "(* child::* child::*)"),
-    (
-        "and and and or or",
-        "(or (and child::and child::and) child::or)",
-    ),
-    ("a-1", "child::a-1"),
-    ("a -1", "(- child::a 1)"),
-    ("(/) * 2", "(* / 2)"),
-];
-
-const OTHERS: [(&str, &str); 42] = [
-    ("10 - 3 - 2", "(- (- 10 3) 2)"),
-    ("1 + 2 * 3 mod 4", "(+ 1 (mod (* 2 3) 4))"),
-    (
-        "1 or 2 and 3 = 4 < 5 + 6 * -7 | 8",
-        "(or 1 (and 2 (= 3 (< 4 (+ 5 (* 6 -(| 7 8)))))))",
-    ),
-    ("1 and 2 or 3", "(or (and 1 2) 3)"),
-    ("1 < 2 <= 3 != 4", "(!= (<= (< 1 2) 3) 4)"),
-    ("--1", "--1"),
-    ("-a|b", "-(| child::a child::b)"),
-    ("/ - 1", "(- / 1)"),
-    ("((1))", "1"),
-    ("'a'", "'a'"),
-    ("\"it's\"", "'it's'"),
-    ("5. + .0", "(+ 5. .0)"),
-    (
-        "concat('a', local-name(), 'b')",
-        "concat('a',local-name(),'b',)",
-    ),
-    ("substring('12345', 0, 3)", "substring('12345',0,3,)"),
-    (" \t\n1\r ", "1"),
-    ("\u{C9}l\u{E9}ment", "child::\u{C9}l\u{E9}ment"),
-    ("\u{4E2D}:\u{6587}", "child::\u{4E2D}:\u{6587}"),
-    ("1 +", "syntax"),
-    ("", "syntax"),
-    ("]", "syntax"),
-    ("a b", "syntax"),
-    ("::", "syntax"),
-    ("@", "syntax"),
-    ("a//", "syntax"),
-    ("//", "syntax"),
-    ("$", "syntax"),
-    ("$ x", "syntax"),
-    ("'a", "syntax"),
-    ("#", "syntax"),
-    ("a:", "syntax"),
-    ("a: b", "syntax"),
-    ("nothing::a", "syntax"),
-    ("a:b::c", "syntax"),
-    (".[1]", "syntax"),
-    ("/ * 2", "syntax"),
-    ("/ and 1", "syntax"),
-    ("text", "child::text"),
-    ("text('a')", "syntax"),
-    ("f(1,)", "syntax"),
-    ("a[]", "syntax"),
-    ("1 2", "syntax"),
-    ("div:* div", "syntax"),
-];
-
-const REFUSALS: [(&str, &str); 41] = [
-    ("5 div 2", "ok"),
-    ("1.00", "ok"),
-    ("9007199254740991", "ok"),
-    ("09007199254740991.0", "ok"),
-    ("9007199254740992", "literal-range"),
-    ("99999999999999999999999999999", "literal-range"),
-    ("1.50", "literal-fraction"),
-    ("9007199254740992.5", "literal-fraction"),
-    ("$x", "variable"),
-    ("id('x')", "function"),
-    ("c:f()", "function"),
-    ("true(1)", "arguments"),
-    ("concat('a')", "arguments"),
-    ("concat('a', 'b', 'c', 'd', 'e')", "ok"),
-    ("substring('a')", "arguments"),
-    ("substring('a', 1, 2, 3)", "arguments"),
-    ("count(1)", "type"),
-    ("count(a)", "ok"),
-    ("local-name()", "ok"),
-    ("name('a')", "type"),
-    ("q:a", "prefix"),
-    ("q:*", "prefix"),
-    ("c:a", "ok"),
-    ("xml:a", "ok"),
-    ("xmlns:a", "prefix"),
-    ("namespace::a", "axis"),
-    ("namespace::q:a", "axis"),
-    ("(q:a + 1) | b", "prefix"),
-    ("count(-q:a)", "type"),
-    ("count(@q:a + 1)", "type"),
-    ("count(1.5)", "literal-fraction"),
-    ("count($x)", "variable"),
-    ("count(id('x'))", "function"),
-    ("count(true(1))", "arguments"),
-    ("a | 1", "type"),
-    ("1 | $x", "type"),
-    ("'a'[1]", "type"),
-    ("'a'/b", "type"),
-    ("$x + q:a", "variable"),
-    ("q:a + $x", "prefix"),
-    ("a[q:b]/namespace::c", "prefix"),
-];
-
 #[test]
 fn paths(rt: HostRuntime) -> Result<(), Fail> {
+    for (text, expected) in FULL_PATHS {
+        assert_eq!(rt; answer(rt.alloc(), text)?.as_str(), expected, "of {text}");
+    }
+    for (text, expected) in SHORT_PATHS {
+        assert_eq!(rt; answer(rt.alloc(), text)?.as_str(), expected, "of {text}");
+    }
     for (text, expected) in PATHS {
-        let shown = answer(rt.alloc(), text)?;
-        assert_eq!(rt; shown.as_str(), expected);
+        assert_eq!(rt; answer(rt.alloc(), text)?.as_str(), expected, "of {text}");
     }
     Ok(())
 }
 
 #[test]
-fn others(rt: HostRuntime) -> Result<(), Fail> {
-    for (text, expected) in OTHERS {
-        let shown = answer(rt.alloc(), text)?;
-        assert_eq!(rt; shown.as_str(), expected, "of {text}");
+fn chains(rt: HostRuntime) -> Result<(), Fail> {
+    for (text, expected) in CHAINS {
+        assert_eq!(rt; answer(rt.alloc(), text)?.as_str(), expected, "of {text}");
+    }
+    for text in WRONG {
+        assert_eq!(rt; answer(rt.alloc(), text)?.as_str(), "syntax", "of {text}");
     }
     Ok(())
 }
@@ -427,43 +256,102 @@ fn bound_prefixes(rt: HostRuntime) -> Result<(), Fail> {
     Ok(())
 }
 
-fn repeated(
+/// A text repeated, with others before and behind.
+fn row(
     alloc: Global,
     before: &str,
     count: usize,
-    middle: &str,
+    text: &str,
     behind: &str,
 ) -> Result<String, AllocError> {
     let mut out = String::new(alloc);
+    out.push_str(before)?;
     for _ in 0..count {
-        out.push_str(before)?;
+        out.push_str(text)?;
     }
-    out.push_str(middle)?;
-    for _ in 0..count {
-        out.push_str(behind)?;
-    }
+    out.push_str(behind)?;
     Ok(out)
+}
+
+// What stands before and behind a text that is repeated, how often it is, and the answer; "ok" is an expression.
+const LIMITS: [(&str, usize, &str, &str, &str); 24] = [
+    ("", 4096, "-", "1", "long"),
+    ("", 4095, "-", "1", "ok"),
+    ("", 511, "-", "1", "ok"),
+    ("'", 4094, "x", "'", "ok"),
+    ("'", 4095, "x", "'", "long"),
+    ("", 4097, " ", "", "long"),
+    ("", 4096, " ", "", "syntax"),
+    ("1", 255, "+1", "", "ok"),
+    ("1", 2047, "+1", "", "ok"),
+    ("a", 2047, "/a", "", "ok"),
+    ("a", 2047, "|a", "", "ok"),
+    ("a", 1365, "[1]", "", "ok"),
+    ("f(1", 2045, ",1", ")", "ok"),
+    ("", 64, "(", "", "syntax"),
+    ("", 65, "(", "", "deep"),
+    ("", 65, "[", ")))", "deep"),
+    ("", 65, "(", "#", "syntax"),
+    (")))))", 69, "(", "", "syntax"),
+    (")))))", 70, "(", "", "deep"),
+    ("a p:*", 65, "(", "", "deep"),
+    ("p:*", 65, "(", "", "deep"),
+    ("a p:b", 65, "(", "", "syntax"),
+    ("a:b::", 65, "(", "", "deep"),
+    ("nothing::", 65, "(", "", "syntax"),
+];
+
+fn limit_word(alloc: Global, text: &str) -> &'static str {
+    match parse(alloc, text) {
+        Ok(_) => "ok",
+        Err(GrammarFault::Long) => "long",
+        Err(GrammarFault::Deep) => "deep",
+        Err(GrammarFault::Syntax) => "syntax",
+        Err(GrammarFault::NoMemory) => "memory",
+    }
 }
 
 #[test]
 fn limits(rt: HostRuntime) -> Result<(), Fail> {
-    let text = repeated(rt.alloc(), "(", 64, "1", ")")?;
-    assert_eq!(rt; answer(rt.alloc(), text.as_str())?.as_str(), "1");
-    let text = repeated(rt.alloc(), "(", 65, "1", ")")?;
-    assert_eq!(rt; answer(rt.alloc(), text.as_str())?.as_str(), "deep");
-    let text = repeated(rt.alloc(), "(", 65, "#", ")")?;
-    assert_eq!(rt; answer(rt.alloc(), text.as_str())?.as_str(), "syntax");
-    let text = repeated(rt.alloc(), "[", 65, ")))", "")?;
-    assert_eq!(rt; answer(rt.alloc(), text.as_str())?.as_str(), "deep");
-    let text = repeated(rt.alloc(), "-", 4095, "1", "")?;
-    assert!(rt; parse(rt.alloc(), text.as_str()).is_ok());
-    let text = repeated(rt.alloc(), "-", 4096, "1", "")?;
-    assert_eq!(rt; answer(rt.alloc(), text.as_str())?.as_str(), "long");
-    let text = repeated(rt.alloc(), "1+", 2047, "1", "")?;
-    assert!(rt; parse(rt.alloc(), text.as_str()).is_ok());
-    let text = repeated(rt.alloc(), "a/", 2047, "b", "")?;
-    assert!(rt; parse(rt.alloc(), text.as_str()).is_ok());
-    let text = repeated(rt.alloc(), "a|", 2047, "b", "")?;
-    assert!(rt; parse(rt.alloc(), text.as_str()).is_ok());
+    for (before, count, text, behind, expected) in LIMITS {
+        let whole = row(rt.alloc(), before, count, text, behind)?;
+        assert_eq!(rt;
+            limit_word(rt.alloc(), whole.as_str()),
+            expected,
+            "of {before}{text}"
+        );
+    }
+    let opened = row(rt.alloc(), "", 64, "(", "1")?;
+    let whole = row(rt.alloc(), opened.as_str(), 64, ")", "")?;
+    assert_eq!(rt; answer(rt.alloc(), whole.as_str())?.as_str(), "1");
+    let opened = row(rt.alloc(), "", 65, "(", "1")?;
+    let whole = row(rt.alloc(), opened.as_str(), 65, ")", "")?;
+    assert_eq!(rt; answer(rt.alloc(), whole.as_str())?.as_str(), "deep");
+    Ok(())
+}
+
+// Long chains, with the refusal of their first or last part.
+const LONG: [(&str, usize, &str, &str, &str); 8] = [
+    ("1", 2046, "+1", "+$x", "variable"),
+    ("$x", 2046, "+1", "", "variable"),
+    ("1", 2000, "|a", "", "type"),
+    ("", 4000, "-", "q:a", "prefix"),
+    ("a", 2040, "/a", "/q:a", "prefix"),
+    ("a", 1350, "[1]", "[1.5]", "literal-fraction"),
+    ("concat(1", 2040, ",1", ",$x)", "variable"),
+    ("count(1", 2040, "+1", ")", "type"),
+];
+
+#[test]
+fn long_refusals(rt: HostRuntime) -> Result<(), Fail> {
+    let bindings = Bindings::new(rt.alloc());
+    for (before, count, text, behind, expected) in LONG {
+        let whole = row(rt.alloc(), before, count, text, behind)?;
+        assert_eq!(rt;
+            static_word(rt.alloc(), &bindings, whole.as_str()),
+            expected,
+            "of {before}{text}"
+        );
+    }
     Ok(())
 }
