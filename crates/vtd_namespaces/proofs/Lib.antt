@@ -8,4 +8,5 @@ pub mod OpenLemmas
 pub mod DeclarationLemmas
 pub mod QNameLemmas
 pub mod ScopeLemmas
+pub mod OffenceLemmas
 pub mod RepeatLemmas

@@ -4,3 +4,4 @@ pub mod Filter
 pub mod Repeats
 pub mod Scope
 pub mod Uris
+pub mod Offences

@@ -5,6 +5,7 @@
 mod compare;
 mod declarations;
 mod filter;
+mod offences;
 mod qnames;
 mod records;
 mod repeats;

@@ -1,0 +1,112 @@
+//! Names that offend Namespaces in XML 1.0 (sections 3, 5, 6.3 and 7).
+
+ghost use Rattle.std.specs.Prelude.{◌≡◌, ℕ, ◌+◌, ◌*◌, ◌<◌, ◌≤◌, ◌^◌, true, false, List, [], ◌∷◌, length, take, is_some, encode_utf8_all, bytes_eq, codes};
+ghost use Rattle.std.specs.List.{list_any};
+ghost use Rattle.xml_model.specs.Items.{Attribute};
+ghost use Rattle.xml_model.specs.Nest.{Forest};
+ghost use Rattle.xml_model.specs.Content.{value_content};
+ghost use Rattle.xml_model.specs.Chars.{prefix_of as prefix_of_chars};
+ghost use Rattle.xml_model.specs.Records.{Token};
+ghost use Rattle.xml_model.specs.Tree.{Holder};
+ghost use Rattle.xml_model.specs.Names.{attribute_uri};
+ghost use Rattle.xml_model.specs.Accepted.{declaration_offends as offends_by_declaration, is_reserved as is_reserved_uri};
+ghost use Rattle.vtd_words.specs.Lists.{list_of};
+ghost use Rattle.vtd_words.specs.Table.{IsNestOf, Shows};
+ghost use Rattle.vtd_text.specs.NameRecords.{IsDeclaration, IsNameOf};
+ghost use Rattle.vtd_namespaces.specs.Standing.{IsAttributeRecord};
+ghost use Rattle.vtd_namespaces.specs.Scope.{tags_in};
+ghost use Rattle.vtd_namespaces.specs.Uris.{IsScope};
+ghost use Rattle.vtd_namespaces.specs.Offences.{is_twin, IsWritten};
+
+use crate::qnames::{after_prefix, prefix_of};
+use crate::records::{parts_at, slice_of};
+use crate::scope::Scope;
+use crate::uri::{XML_URI, XMLNS_URI};
+use vtd_text::{Chars, equals_str};
+use vtd_words::{Part, Table, Words};
+
+/// Whether the value of a declaration is one of the two URIs that are bound to `xml` and `xmlns` for ever.
+fn is_reserved<W: Words>(table: &Table<'_, W>, at: u32) -> bool
+    requires { IsDeclaration table.now.bytes (W.lists table.now.words) at }
+    ensures { (nest : Forest) → IsNestOf table.now.bytes (W.lists table.now.words) nest → (a : Attribute) → IsNameOf table.now.bytes nest at a → result ≡ is_reserved_uri (value_content a.value) }
+{
+    equals_str(Chars::of_declaration(table, at), XML_URI)
+        || equals_str(Chars::of_declaration(table, at), XMLNS_URI)
+}
+
+/// Whether a declaration offends, by its name and its value (Namespaces in XML 1.0, section 3, constraint 'Reserved Prefixes
+/// and Namespace Names', and section 5, constraint 'No Prefix Undeclaring').
+fn declaration_offends<W: Words>(table: &Table<'_, W>, at: u32, name: &[u8]) -> bool
+    requires { IsDeclaration table.now.bytes (W.lists table.now.words) at }
+    ensures { (nest : Forest) → IsNestOf table.now.bytes (W.lists table.now.words) nest → (a : Attribute) → IsNameOf table.now.bytes nest at a →
+        name.now ≡ encode_utf8_all a.name → result ≡ offends_by_declaration a.name (value_content a.value) }
+{
+    if name == DEFAULT {
+        return is_reserved(table, at);
+    }
+    if name == DECLARES_XML {
+        return !equals_str(Chars::of_declaration(table, at), XML_URI);
+    }
+    if name == DECLARES_XMLNS {
+        return true;
+    }
+    if equals_str(Chars::of_declaration(table, at), "") {
+        return true;
+    }
+    is_reserved(table, at)
+}
+
+/// The name that declares the default namespace.
+const DEFAULT: &[u8] = b"xmlns";
+
+/// The name that declares the prefix `xml`.
+const DECLARES_XML: &[u8] = b"xmlns:xml";
+
+/// The name that would declare the prefix `xmlns`.
+const DECLARES_XMLNS: &[u8] = b"xmlns:xmlns";
+
+/// Whether the attribute whose name is a record has the local part and the URI of another, whose prefix is not empty and is
+/// bound (Namespaces in XML 1.0, section 6.3, constraint 'Attributes Unique').
+fn is_twin_at<W: Words>(scope: &Scope<'_, '_, W>, at: u32, name: &[u8], prefix_len: u32) -> bool
+    requires room { at < length (list_of Part.Records (W.lists scope.now.table.now.words)) }
+    requires prefix { 0 < prefix_len }
+    ensures { (nest : Forest) (hs : List Holder) → IsScope scope.now.table.now.bytes (W.lists scope.now.table.now.words) scope.now.open_tags.now scope.now.count nest hs →
+        (a : Attribute) → IsWritten name.now prefix_len a → is_some (attribute_uri (prefix_of_chars a.name) (tags_in hs)) ≡ true →
+        (rs : List Token) → Shows (list_of Part.Records (W.lists scope.now.table.now.words)) rs → (place : ℕ) (b : Attribute) → IsAttributeRecord scope.now.table.now.bytes rs at place b →
+        result ≡ is_twin (tags_in hs) a b }
+{
+    let other = parts_at(scope.table.words(), at);
+    if other.token != 2 {
+        return false;
+    }
+    if other.prefix == 0 {
+        return false;
+    }
+    let other_name = slice_of(scope.table.bytes(), other);
+    if after_prefix(other_name, other.prefix) == after_prefix(name, prefix_len) {
+        return scope.bound_alike(
+            prefix_of(name, prefix_len),
+            prefix_of(other_name, other.prefix),
+        );
+    }
+    false
+}
+
+/// Whether one of so many attributes of the nearest tag has the local part and the URI of an attribute whose prefix is not
+/// empty and is bound; the record of the first of them has the index `first`.
+fn has_twin<W: Words>(scope: &Scope<'_, '_, W>, first: u32, count: u32, name: &[u8], prefix_len: u32) -> bool
+    requires room { first + 2 * count ≤ length (list_of Part.Records (W.lists scope.now.table.now.words)) }
+    requires bound { first + 2 * count < 2 ^ 32 }
+    requires prefix { 0 < prefix_len }
+    ensures { (nest : Forest) (x : Holder) (xs : List Holder) → IsScope scope.now.table.now.bytes (W.lists scope.now.table.now.words) scope.now.open_tags.now scope.now.count nest (x ∷ xs) →
+        first ≡ x.place + 1 → count ≤ length x.tag.attributes →
+        (a : Attribute) → IsWritten name.now prefix_len a → is_some (attribute_uri (prefix_of_chars a.name) (tags_in (x ∷ xs))) ≡ true →
+        result ≡ list_any (is_twin (tags_in (x ∷ xs)) a) (take count x.tag.attributes) }
+{
+    for number in 0..count {
+        if is_twin_at(scope, first + 2 * number, name, prefix_len) {
+            return true;
+        }
+    }
+    false
+}
