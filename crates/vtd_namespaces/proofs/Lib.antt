@@ -9,4 +9,5 @@ pub mod DeclarationLemmas
 pub mod QNameLemmas
 pub mod ScopeLemmas
 pub mod OffenceLemmas
+pub mod AttributeLemmas
 pub mod RepeatLemmas

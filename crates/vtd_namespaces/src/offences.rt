@@ -1,7 +1,9 @@
 //! Names that offend Namespaces in XML 1.0 (sections 3, 5, 6.3 and 7).
 
-ghost use Rattle.std.specs.Prelude.{◌≡◌, ℕ, ◌+◌, ◌*◌, ◌<◌, ◌≤◌, ◌^◌, true, false, List, [], ◌∷◌, length, take, is_some, encode_utf8_all, bytes_eq, codes};
-ghost use Rattle.std.specs.List.{list_any};
+ghost use Rattle.std.specs.Prelude.{◌≡◌, ℕ, ◌+◌, ◌*◌, ◌<◌, ◌≤◌, ◌^◌, true, false, List, [], ◌∷◌, ◌++◌, length, take, is_some, encode_utf8_all, bytes_eq, codes};
+ghost use Rattle.std.specs.List.{AllByRecursion, list_any};
+ghost use Rattle.xml_model.specs.Scan.{record_at};
+ghost use Rattle.vtd_words.specs.Packed.{token_of};
 ghost use Rattle.xml_model.specs.Items.{Attribute};
 ghost use Rattle.xml_model.specs.Nest.{Forest};
 ghost use Rattle.xml_model.specs.Content.{value_content};
@@ -9,21 +11,21 @@ ghost use Rattle.xml_model.specs.Chars.{prefix_of as prefix_of_chars};
 ghost use Rattle.xml_model.specs.Records.{Token};
 ghost use Rattle.xml_model.specs.Tree.{Holder};
 ghost use Rattle.xml_model.specs.Names.{attribute_uri};
-ghost use Rattle.xml_model.specs.Accepted.{declaration_offends as offends_by_declaration, is_reserved as is_reserved_uri};
+ghost use Rattle.xml_model.specs.Accepted.{attribute_offends as offends_as_attribute, declaration_offends as offends_by_declaration, is_reserved as is_reserved_uri};
 ghost use Rattle.vtd_words.specs.Lists.{list_of};
 ghost use Rattle.vtd_words.specs.Table.{IsNestOf, Shows};
 ghost use Rattle.vtd_text.specs.NameRecords.{IsDeclaration, IsNameOf};
 ghost use Rattle.vtd_namespaces.specs.Standing.{IsAttributeRecord};
 ghost use Rattle.vtd_namespaces.specs.Scope.{tags_in};
 ghost use Rattle.vtd_namespaces.specs.Uris.{IsScope};
-ghost use Rattle.vtd_namespaces.specs.Offences.{is_twin, IsWritten};
+ghost use Rattle.vtd_namespaces.specs.Offences.{is_twin, seen_after, IsFine, IsWritten};
 
-use crate::qnames::{after_prefix, prefix_of};
+use crate::qnames::{after_prefix, is_qname, prefix_of};
 use crate::records::{parts_at, slice_of};
 use crate::scope::Scope;
 use crate::uri::{XML_URI, XMLNS_URI};
 use vtd_text::{Chars, equals_str};
-use vtd_words::{Part, Table, Words};
+use vtd_words::{Part, Parts, Table, Words};
 
 /// Whether the value of a declaration is one of the two URIs that are bound to `xml` and `xmlns` for ever.
 fn is_reserved<W: Words>(table: &Table<'_, W>, at: u32) -> bool
@@ -109,4 +111,31 @@ fn has_twin<W: Words>(scope: &Scope<'_, '_, W>, first: u32, count: u32, name: &[
         }
     }
     false
+}
+
+/// Whether an attribute or a declaration of the nearest tag offends, by the number of attributes before it, none of which
+/// offends; the record of the first of them has the index `first`. No two of them have one name.
+fn attribute_offends<W: Words>(scope: &Scope<'_, '_, W>, first: u32, number: u32, parts: Parts) -> bool
+    requires room { first + 2 * number < length (list_of Part.Records (W.lists scope.now.table.now.words)) }
+    requires bound { first + 2 * number < 2 ^ 32 }
+    requires here { (rs : List Token) → Shows (list_of Part.Records (W.lists scope.now.table.now.words)) rs → token_of parts ≡ record_at (first + 2 * number) rs }
+    ensures { (nest : Forest) (x : Holder) (xs : List Holder) → IsScope scope.now.table.now.bytes (W.lists scope.now.table.now.words) scope.now.open_tags.now scope.now.count nest (x ∷ xs) →
+        first ≡ x.place + 1 → (done left : List Attribute) (a : Attribute) → x.tag.attributes ≡ done ++ (a ∷ left) → length done ≡ number →
+        AllByRecursion (IsFine (tags_in (x ∷ xs))) done → AllByRecursion (λ b. bytes_eq a.name b.name ≡ false) done →
+        result ≡ offends_as_attribute (tags_in (x ∷ xs)) (seen_after (tags_in (x ∷ xs)) [] done) a }
+{
+    let name = slice_of(scope.table.bytes(), parts);
+    if !is_qname(name, parts.prefix) {
+        return true;
+    }
+    if parts.token == 3 {
+        return declaration_offends(scope.table, first + 2 * number, name);
+    }
+    if parts.prefix == 0 {
+        return false;
+    }
+    if !scope.is_bound(prefix_of(name, parts.prefix)) {
+        return true;
+    }
+    has_twin(scope, first, number, name, parts.prefix)
 }
