@@ -10,4 +10,5 @@ pub mod QNameLemmas
 pub mod ScopeLemmas
 pub mod OffenceLemmas
 pub mod AttributeLemmas
+pub mod InspectLemmas
 pub mod RepeatLemmas

@@ -4,24 +4,25 @@ ghost use Rattle.std.specs.Prelude.{◌≡◌, ℕ, ◌+◌, ◌*◌, ◌<◌, �
 ghost use Rattle.std.specs.List.{AllByRecursion, list_any};
 ghost use Rattle.xml_model.specs.Scan.{record_at};
 ghost use Rattle.vtd_words.specs.Packed.{token_of};
-ghost use Rattle.xml_model.specs.Items.{Attribute};
+ghost use Rattle.xml_model.specs.Items.{Attribute, first_place};
 ghost use Rattle.xml_model.specs.Nest.{Forest};
 ghost use Rattle.xml_model.specs.Content.{value_content};
 ghost use Rattle.xml_model.specs.Chars.{prefix_of as prefix_of_chars};
-ghost use Rattle.xml_model.specs.Records.{Token};
+ghost use Rattle.xml_model.specs.Records.{Token, records};
 ghost use Rattle.xml_model.specs.Tree.{Holder};
 ghost use Rattle.xml_model.specs.Names.{attribute_uri};
-ghost use Rattle.xml_model.specs.Accepted.{attribute_offends as offends_as_attribute, declaration_offends as offends_by_declaration, is_reserved as is_reserved_uri};
+ghost use Rattle.xml_model.specs.Accepted.{attribute_offends as offends_as_attribute, declaration_offends as offends_by_declaration, is_reserved as is_reserved_uri, offending_attributes, repeated};
 ghost use Rattle.vtd_words.specs.Lists.{list_of};
 ghost use Rattle.vtd_words.specs.Table.{IsNestOf, Shows};
 ghost use Rattle.vtd_text.specs.NameRecords.{IsDeclaration, IsNameOf};
-ghost use Rattle.vtd_namespaces.specs.Standing.{IsAttributeRecord};
+ghost use Rattle.vtd_namespaces.specs.Standing.{AttributesStand, IsAttributeRecord};
+ghost use Rattle.vtd_namespaces.specs.Faults.{first_of};
 ghost use Rattle.vtd_namespaces.specs.Scope.{tags_in};
 ghost use Rattle.vtd_namespaces.specs.Uris.{IsScope};
 ghost use Rattle.vtd_namespaces.specs.Offences.{is_twin, seen_after, IsFine, IsWritten};
 
 use crate::qnames::{after_prefix, is_qname, prefix_of};
-use crate::records::{parts_at, slice_of};
+use crate::records::{attribute_at, parts_at, slice_of};
 use crate::scope::Scope;
 use crate::uri::{XML_URI, XMLNS_URI};
 use vtd_text::{Chars, equals_str};
@@ -138,4 +139,22 @@ fn attribute_offends<W: Words>(scope: &Scope<'_, '_, W>, first: u32, number: u32
         return true;
     }
     has_twin(scope, first, number, name, parts.prefix)
+}
+
+/// Where the first name of an attribute or a declaration of the nearest tag begins that offends; no two of them have one
+/// name, and the record of the first of them has the index `first`.
+fn attributes_offence<W: Words>(scope: &Scope<'_, '_, W>, first: u32) -> Option<u32>
+    requires { first ≤ length (list_of Part.Records (W.lists scope.now.table.now.words)) }
+    ensures { (nest : Forest) (x : Holder) (xs : List Holder) → IsScope scope.now.table.now.bytes (W.lists scope.now.table.now.words) scope.now.open_tags.now scope.now.count nest (x ∷ xs) →
+        first ≡ x.place + 1 → (at : ℕ) → AttributesStand scope.now.table.now.bytes (records nest (first_place scope.now.table.now.bytes)) first at x.tag.attributes →
+        repeated at [] x.tag.attributes ≡ [] → result ≡ first_of (offending_attributes (tags_in (x ∷ xs)) at [] x.tag.attributes) }
+{
+    let mut number = 0;
+    while let Some(parts) = attribute_at(scope.table.words(), first + 2 * number) {
+        if attribute_offends(scope, first, number, parts) {
+            return Some(parts.offset);
+        }
+        number += 1;
+    }
+    None
 }
