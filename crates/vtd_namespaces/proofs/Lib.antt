@@ -11,4 +11,5 @@ pub mod ScopeLemmas
 pub mod OffenceLemmas
 pub mod AttributeLemmas
 pub mod InspectLemmas
+pub mod TagLemmas
 pub mod RepeatLemmas

@@ -2,6 +2,7 @@
 //! name tests of its nodes. No call takes memory.
 #![tactic(auto)]
 
+mod check;
 mod compare;
 mod declarations;
 mod filter;
@@ -11,3 +12,7 @@ mod records;
 mod repeats;
 mod scope;
 mod uri;
+mod walk;
+
+pub use check::check_names;
+pub use uri::Uri;

@@ -8,14 +8,14 @@ ghost use Rattle.xml_model.specs.Items.{Attribute, first_place};
 ghost use Rattle.xml_model.specs.Nest.{Forest};
 ghost use Rattle.xml_model.specs.Content.{value_content};
 ghost use Rattle.xml_model.specs.Chars.{prefix_of as prefix_of_chars};
-ghost use Rattle.xml_model.specs.Records.{Token, records};
+ghost use Rattle.xml_model.specs.Records.{Token, attributes_place, records};
 ghost use Rattle.xml_model.specs.Tree.{Holder};
 ghost use Rattle.xml_model.specs.Names.{attribute_uri};
-ghost use Rattle.xml_model.specs.Accepted.{attribute_offends as offends_as_attribute, declaration_offends as offends_by_declaration, is_reserved as is_reserved_uri, offending_attributes, repeated};
+ghost use Rattle.xml_model.specs.Accepted.{attribute_offends as offends_as_attribute, declaration_offends as offends_by_declaration, is_reserved as is_reserved_uri, offending_attributes, offending_tag, repeated, tag_offends};
 ghost use Rattle.vtd_words.specs.Lists.{list_of};
 ghost use Rattle.vtd_words.specs.Table.{IsNestOf, Shows};
 ghost use Rattle.vtd_text.specs.NameRecords.{IsDeclaration, IsNameOf};
-ghost use Rattle.vtd_namespaces.specs.Standing.{AttributesStand, IsAttributeRecord};
+ghost use Rattle.vtd_namespaces.specs.Standing.{AttributesStand, IsAttributeRecord, TagStands};
 ghost use Rattle.vtd_namespaces.specs.Faults.{first_of};
 ghost use Rattle.vtd_namespaces.specs.Scope.{tags_in};
 ghost use Rattle.vtd_namespaces.specs.Uris.{IsScope};
@@ -157,4 +157,40 @@ fn attributes_offence<W: Words>(scope: &Scope<'_, '_, W>, first: u32) -> Option<
         number += 1;
     }
     None
+}
+
+/// The prefix that no tag may have.
+const XMLNS: &[u8] = b"xmlns";
+
+/// Whether the name of the nearest tag offends, by the parts of its record.
+fn tag_name_offends<W: Words>(scope: &Scope<'_, '_, W>, tag: u32, parts: Parts) -> bool
+    requires { (rs : List Token) → Shows (list_of Part.Records (W.lists scope.now.table.now.words)) rs → token_of parts ≡ record_at tag rs }
+    ensures { (nest : Forest) (x : Holder) (xs : List Holder) → IsScope scope.now.table.now.bytes (W.lists scope.now.table.now.words) scope.now.open_tags.now scope.now.count nest (x ∷ xs) →
+        (at : ℕ) → TagStands scope.now.table.now.bytes (records nest (first_place scope.now.table.now.bytes)) tag at x.tag →
+        result ≡ tag_offends (tags_in (x ∷ xs)) x.tag.name }
+{
+    let name = slice_of(scope.table.bytes(), parts);
+    if !is_qname(name, parts.prefix) {
+        return true;
+    }
+    let prefix = prefix_of(name, parts.prefix);
+    if prefix == XMLNS {
+        return true;
+    }
+    !scope.is_bound(prefix)
+}
+
+/// Where the first name of the nearest tag begins that offends, by the index of the tag's record; no two names of its
+/// attributes and declarations are one.
+pub fn tag_offence<W: Words>(scope: &Scope<'_, '_, W>, tag: u32) -> Option<u32>
+    requires { tag < length (list_of Part.Records (W.lists scope.now.table.now.words)) }
+    ensures { (nest : Forest) (x : Holder) (xs : List Holder) → IsScope scope.now.table.now.bytes (W.lists scope.now.table.now.words) scope.now.open_tags.now scope.now.count nest (x ∷ xs) →
+        tag ≡ x.place → (at : ℕ) → TagStands scope.now.table.now.bytes (records nest (first_place scope.now.table.now.bytes)) tag at x.tag →
+        repeated (attributes_place at x.tag) [] x.tag.attributes ≡ [] → result ≡ first_of (offending_tag at (tags_in xs) x.tag) }
+{
+    let parts = parts_at(scope.table.words(), tag);
+    if tag_name_offends(scope, tag, parts) {
+        return Some(parts.offset);
+    }
+    attributes_offence(scope, tag + 1)
 }
