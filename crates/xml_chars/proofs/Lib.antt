@@ -10,3 +10,4 @@ pub mod StandLemmas
 pub mod NameLaws
 pub mod PlaceLemmas
 pub mod ColonLemmas
+pub mod SpanPlaces

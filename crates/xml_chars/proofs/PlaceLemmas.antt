@@ -126,7 +126,7 @@ char_reference bytes rest at value f = go f.piece f.shows f.fits f.to
         let is : Char value (length bytes - length rest) ≡ reference_shown at (hexadecimal d) = rw (sym same, end) refl in
         record { piece = hexadecimal d; refers = refl; meets = h; there = t.stands; shown = is }
 
-one_byte : (c : ℕ) → c < 128 → size (c ∷ []) ≡ 1
+pub one_byte : (c : ℕ) → c < 128 → size (c ∷ []) ≡ 1
 unfolding size
 one_byte c h = ap (λ (l : List ℕ). length (l ++ [])) (encode_ascii c h)
 

@@ -2,13 +2,14 @@
 use Rattle.std.proofs.Common.{◌≡◌, ℕ, Bool, true, false, ◌⊎◌, inl, inr, List, [], ◌∷◌, ◌++◌, length, take, drop, Option, Some, None, refl, sym, ap, subst, ◌∙◌, ◌<◌, ◌-◌, arith}
 use Rattle.std.specs.List.{prefix_len}
 use Rattle.std.proofs.Math.Numerals.{one-add}
-use Rattle.std.proofs.lemmas.Bool.{cases_Bool, cases_lt, lt-ltb, le-ltb, false≢true, or_left, false_from_ne_true}
+use Rattle.std.proofs.lemmas.Bool.{cases_Bool, cases_lt, lt-ltb, le-ltb, false≢true, or_left, and_parts, and_from, false_from_ne_true}
 use Rattle.std.specs.Str.{IsUtf8, chars}
 use Rattle.std.proofs.lemmas.List.{take-append-drop}
 use Rattle.xml_chars.proofs.Points.{Cut, cut_of}
 use Rattle.std.proofs.lemmas.Option.{same_Some}
 use Rattle.xml_model.specs.Chars.{is_name_start, is_name_char, in_ranges}
-use Rattle.xml_chars.specs.Wide.{is_ascii_start}
+use Rattle.xml_chars.specs.Wide.{is_ascii_start, is_ascii_name}
+use Rattle.std.specs.Prelude.{nat_lt}
 use Rattle.xml_chars.specs.Reading.{read_char, ascii_head, begins_name, read_name}
 use Rattle.xml_chars.specs.Readers.{one_of, skip, after_run}
 
@@ -36,6 +37,40 @@ after_part p q sub (c ∷ text) = elim (cases_Bool (p c)) [
   | inl t ↦ rw (t, sub c t, one-add, one-add) (after_part p q sub text)
   | inr f ↦ rw f refl
 ]
+
+-- names of ASCII
+
+pub ascii_is_name : (c : ℕ) → is_ascii_name c ≡ true → is_name_char c ≡ true
+ascii_is_name c h = (and_parts (nat_lt c 128) (is_name_char c) h).1
+
+pub ascii_name_first : (text : List ℕ) → after_run is_name_char text ≡ after_run is_name_char (after_run is_ascii_name text)
+ascii_name_first text = after_part is_ascii_name is_name_char ascii_is_name text
+
+head_bound : (c : ℕ) (text : List ℕ) → ascii_head (c ∷ text) < 128 → c < 128
+unfolding ascii_head
+head_bound c text h = elim (cases_lt c 128) [
+  | inl lt ↦ lt
+  | inr ge ↦ absurd (let n : 128 < 128 = rw (le-ltb c 128 ge) at h in omega arith)
+]
+
+ascii_name_stops : (text : List ℕ) → ascii_head (after_run is_ascii_name text) < 128 → after_run is_name_char (after_run is_ascii_name text) ≡ after_run is_ascii_name text
+ascii_name_stops [] h = refl
+ascii_name_stops (c ∷ text) h = elim (cases_Bool (is_ascii_name c)) [
+  | inl t ↦
+      let e : after_run is_ascii_name (c ∷ text) ≡ after_run is_ascii_name text = rw (t, one-add) refl in
+      ap (after_run is_name_char) e ∙ ascii_name_stops text (subst (λ (l : List ℕ). ascii_head l < 128) e h) ∙ sym e
+  | inr f ↦
+      let e : after_run is_ascii_name (c ∷ text) ≡ c ∷ text = rw f refl in
+      let low : c < 128 = head_bound c text (subst (λ (l : List ℕ). ascii_head l < 128) e h) in
+      let no : is_name_char c ≡ false = false_from_ne_true _ (λ t. false≢true (sym f ∙ and_from (nat_lt c 128) (is_name_char c) (lt-ltb c 128 low) t)) in
+      let stays : after_run is_name_char (c ∷ text) ≡ c ∷ text = rw no refl in
+      ap (after_run is_name_char) e ∙ stays ∙ sym e
+]
+
+pub ascii_name_all : (text rest : List ℕ) {h : ℕ} → rest ≡ after_run is_ascii_name text → h ≡ ascii_head rest → h < 128 → rest ≡ after_run is_name_char text
+ascii_name_all text rest {h} e head low =
+    let l : ascii_head (after_run is_ascii_name text) < 128 = subst (λ (r : List ℕ). ascii_head r < 128) e (subst (λ (k : ℕ). k < 128) head low) in
+    e ∙ sym (ascii_name_stops text l) ∙ sym (ascii_name_first text)
 
 -- the first character
 pub char_some : (text rest : List ℕ) (c : ℕ) → read_char text ≡ Some (c, rest) → text ≡ c ∷ rest

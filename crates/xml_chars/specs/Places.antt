@@ -1,5 +1,6 @@
 -- What stands at a place of some bytes.
 use Rattle.std.specs.Prelude.{◌≡◌, ℕ, ◌+◌, ◌≤◌, Bool, true, false, List, [], ◌∷◌, drop, encode_utf8_all}
+use Rattle.std.specs.Str.{IsCharBoundary}
 use Rattle.xml_model.specs.declared.Span.{Span}
 use Rattle.xml_model.specs.Chars.{begins, size, is_name, is_blank}
 use Rattle.xml_model.specs.Items.{Piece, literal, entity, decimal, hexadecimal, number_of, written_piece, meets_piece}
@@ -61,3 +62,14 @@ pub record IsReferenceAt (bytes : List ℕ) (at : ℕ) (found : Reference) : Typ
 
 abbrev pub HasNoReference : List ℕ → ℕ → Type 0
 HasNoReference bytes at = (piece : Piece) → is_reference piece ≡ true → meets_reference piece ≡ true → stands bytes at (written_piece piece) ≡ false
+
+-- a span of a text: both ends stand between characters, and in order
+pub record IsTextSpan (bytes : List ℕ) (span : Span) : Type 0 where
+  pub start : IsCharBoundary bytes span.start
+  pub end : IsCharBoundary bytes span.end
+  pub order : span.start ≤ span.end
+
+-- the places of a reference stand between characters
+abbrev pub HasTextPlaces : List ℕ → Reference → Type 0
+HasTextPlaces bytes (Char value end) = IsCharBoundary bytes end
+HasTextPlaces bytes (Named name end) = IsTextSpan bytes name × IsCharBoundary bytes end

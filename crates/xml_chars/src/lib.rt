@@ -9,7 +9,7 @@ pub mod text;
 ghost use Rattle.std.specs.Prelude.{◌≡◌, ◌↔◌, ◌<◌, ◌≤◌, ◌^◌, length, drop, IsNone, IfSome, IfNone};
 ghost use Rattle.std.specs.Str.{IsUtf8, IsCharBoundary, chars};
 ghost use Rattle.xml_model.specs.Chars.{is_char, is_name_start, is_name_char};
-ghost use Rattle.xml_chars.specs.Places.{IsCharAt, IsLongestName, HasNoName, IsLongestSpace, IsReferenceAt, HasNoReference};
+ghost use Rattle.xml_chars.specs.Places.{IsCharAt, IsLongestName, HasNoName, IsLongestSpace, IsReferenceAt, HasNoReference, HasTextPlaces};
 
 use names::name_of;
 pub use names::{is_ncname, is_qname};
@@ -110,6 +110,7 @@ pub fn reference_at(bytes: &[u8], at: u32) -> Option<Reference>
     requires size { length bytes.now < 2 ^ 32 }
     ensures reference { IfSome result (IsReferenceAt bytes.now at) }
     ensures none { IfNone result (HasNoReference bytes.now at) }
+    ensures place { IfSome result (HasTextPlaces bytes.now) }
 {
     let (referred, rest) = reference_of(text_at(bytes, at))?;
     let end = (bytes.len() - rest.len()) as u32;
@@ -124,3 +125,6 @@ pub fn reference_at(bytes: &[u8], at: u32) -> Option<Reference>
         },
     })
 }
+
+#[cfg(test)]
+mod tests;

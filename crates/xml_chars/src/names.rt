@@ -15,6 +15,7 @@ use crate::{classes, is_name_char, is_name_start};
 use memchr::memchr;
 
 /// The length of the longest front of ASCII characters that may stand in a name.
+#[inline(always)]
 fn ascii_name_len(bytes: &[u8]) -> usize
     ensures value { result ≡ prefix_len is_ascii_name bytes.now }
     ensures within { result ≤ length bytes.now }
@@ -28,6 +29,7 @@ fn ascii_name_len(bytes: &[u8]) -> usize
 }
 
 /// What follows the longest front of ASCII characters that may stand in a name.
+#[inline(always)]
 fn after_ascii_name(text: &str) -> &str
     ensures rest { chars result.now ≡ after_run is_ascii_name (chars text.now) }
     ensures shorter { length result.now ≤ length text.now }
@@ -44,8 +46,9 @@ fn after_name_char(text: &str) -> Option<&str>
     if is_name_char(c) { Some(rest) } else { None }
 }
 
-/// What follows the longest front of characters that may stand in a name.
-fn after_name_chars(text: &str) -> &str
+/// What follows the longest front of characters that may stand in a name, ASCII or not.
+#[inline(never)]
+fn after_any_name_chars(text: &str) -> &str
     ensures rest { chars result.now ≡ after_run is_name_char (chars text.now) }
     ensures shorter { length result.now ≤ length text.now }
 {
@@ -56,7 +59,33 @@ fn after_name_chars(text: &str) -> &str
     rest
 }
 
+/// What follows the longest front of characters that may stand in a name.
+#[inline(always)]
+fn after_name_chars(text: &str) -> &str
+    ensures rest { chars result.now ≡ after_run is_name_char (chars text.now) }
+    ensures shorter { length result.now ≤ length text.now }
+{
+    let rest = after_ascii_name(text);
+    if head(rest) < 128 {
+        rest
+    } else {
+        after_any_name_chars(rest)
+    }
+}
+
+/// Whether a name begins the text, ASCII or not.
+#[inline(never)]
+fn begins_any_name(text: &str) -> bool
+    ensures { result ≡ begins_name (chars text.now) }
+{
+    match step(text) {
+        Some((c, _)) => is_name_start(c),
+        None => false,
+    }
+}
+
 /// Whether a name begins the text.
+#[inline(always)]
 pub fn begins_name(text: &str) -> bool
     ensures { result ≡ begins_name (chars text.now) }
 {
@@ -64,14 +93,12 @@ pub fn begins_name(text: &str) -> bool
     if first < 128 {
         classes::is_ascii_start(first)
     } else {
-        match step(text) {
-            Some((c, _)) => is_name_start(c),
-            None => false,
-        }
+        begins_any_name(text)
     }
 }
 
 /// The longest name at the front of the text, and what follows it; None where no name begins the text.
+#[inline(always)]
 #[tactic(auto, unfolding(crate::specs::Reading::read_name))]
 pub fn name_of(text: &str) -> Option<(&str, &str)>
     ensures read { Gives (λ x. (chars x.0.now, chars x.1.now)) result (read_name (chars text.now)) }

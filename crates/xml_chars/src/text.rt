@@ -21,6 +21,7 @@ pub fn text_at(bytes: &[u8], at: u32) -> &str
 }
 
 /// The first character where it is ASCII, 0 at the end and 128 where it is not ASCII.
+#[inline(always)]
 #[tactic(auto, unfolding(crate::specs::Reading::ascii_head))]
 pub fn head(text: &str) -> u8
     ensures { result ≡ ascii_head (chars text.now) }
@@ -43,6 +44,7 @@ pub fn step(text: &str) -> Option<(char, &str)>
 }
 
 /// What follows the mark, where the text begins with it. The mark is ASCII.
+#[inline(always)]
 pub fn word_of<'a>(text: &'a str, mark: &str) -> Option<&'a str>
     requires { list_all (λ b. nat_lt b 128) mark.now ≡ true }
     ensures read { Gives (λ r. (tt, chars r.now)) result (word mark.now (chars text.now)) }
@@ -56,6 +58,7 @@ pub fn word_of<'a>(text: &'a str, mark: &str) -> Option<&'a str>
 }
 
 /// The length of the longest front of white space.
+#[inline(always)]
 fn space_len(bytes: &[u8]) -> usize
     ensures value { result ≡ prefix_len is_space bytes.now }
     ensures within { result ≤ length bytes.now }
@@ -69,6 +72,7 @@ fn space_len(bytes: &[u8]) -> usize
 }
 
 /// The longest front of white space, which may be empty, and what follows it (XML 1.0, production 3).
+#[inline(always)]
 #[tactic(auto, unfolding(crate::specs::Reading::read_space))]
 pub fn space_of(text: &str) -> (&str, &str)
     ensures read { read_space (chars text.now) ≡ Some (chars result.0.now, chars result.1.now) }

@@ -15,7 +15,7 @@ use Rattle.xml_chars.proofs.Readers.{begins_split}
 use Rattle.std.proofs.lemmas.List.{append-nil, drop-drop, length-drop, append_cancel_left, get_or-drop}
 use Rattle.std.proofs.lemmas.Str.{chars-encodes, scalars-chars, IsCharBoundary-from_drop, IsCharBoundary-before_ascii, IsUtf8-drop, encode_ascii}
 use Rattle.std.proofs.lemmas.Bool.{false≢true, and_parts, and_from}
-use Rattle.xml_model.specs.Chars.{size, begins}
+use Rattle.xml_model.specs.Chars.{size, begins, is_name, is_blank}
 use Rattle.xml_model.specs.Items.{Attribute, Tag, Declaration, Item, leaf, Leaf, start_tag, empty_tag, end_tag, before_value, written, written_pieces, written_attribute, written_attributes, written_option, meets, meets_attribute, begins_at, spelling, ends_well, may_stand, first_place, meets_part_if_there, is_version, is_encoding_name, is_yes_or_no}
 use Rattle.xml_model.specs.Records.{declaration_attributes}
 use Rattle.xml_chars.proofs.StandLemmas.{front_stands, stands_front, size-append}
@@ -27,7 +27,7 @@ use Rattle.xml_items.specs.declared.AttributeItem.{AttributeItem}
 use Rattle.xml_items.proofs.TagLaws.{attribute_reads, attribute_pos, FitAttribute, attributes_reads, tagged, no_more, close_space, close_start}
 use Rattle.xml_items.proofs.UnitLemmas.{many_first, many_none, many_end}
 use Rattle.xml_items.proofs.StepLemmas.{suffixes_some, suffixes_none}
-use Rattle.xml_items.proofs.SpanLemmas.{size_of, size_1, size_xml}
+use Rattle.xml_items.proofs.SpanLemmas.{size_of, size_1, size_slash, size_xml}
 
 abbrev pub push : Attribute → Option (List Attribute × List ℕ) → Option (List Attribute × List ℕ)
 push a o = option_and_then {U = List Attribute × List ℕ} (λ (q : List Attribute × List ℕ). Some (a ∷ q.0, q.1)) o
@@ -195,7 +195,7 @@ two v a r = sym (append_assoc v (a ++ []) r ∙ ap (λ (l : List ℕ). v ++ (l +
 three : (v a b r : List ℕ) → v ++ (a ++ (b ++ r)) ≡ (v ++ (a ++ (b ++ []))) ++ r
 three v a b r = sym (append_assoc v (a ++ (b ++ [])) r ∙ ap (λ (l : List ℕ). v ++ l) (append_assoc a (b ++ []) r ∙ ap (λ (l : List ℕ). a ++ (l ++ r)) (append-nil b)))
 
-parts_split : (v : Attribute) (en st : Option Attribute) (sp rest : List ℕ) → (codes "<?xml" ++ written_attribute v ++ written_option en ++ written_option st ++ sp ++ codes "?>") ++ rest ≡ codes "<?xml" ++ (written_attributes (declaration_attributes record { version = v; encoding = en; standalone = st; space = sp }) ++ (sp ++ 63 ∷ 62 ∷ rest))
+pub parts_split : (v : Attribute) (en st : Option Attribute) (sp rest : List ℕ) → (codes "<?xml" ++ written_attribute v ++ written_option en ++ written_option st ++ sp ++ codes "?>") ++ rest ≡ codes "<?xml" ++ (written_attributes (declaration_attributes record { version = v; encoding = en; standalone = st; space = sp }) ++ (sp ++ 63 ∷ 62 ∷ rest))
 parts_split v None None sp rest = by_parts (written_attribute v) [] [] sp rest ∙ ap (λ (l : List ℕ). codes "<?xml" ++ l) (sym (append_assoc (written_attribute v) [] (sp ++ 63 ∷ 62 ∷ rest)))
 parts_split v (Some a) None sp rest = by_parts (written_attribute v) (written_attribute a) [] sp rest ∙ ap (λ (l : List ℕ). codes "<?xml" ++ l) (two (written_attribute v) (written_attribute a) (sp ++ 63 ∷ 62 ∷ rest))
 parts_split v None (Some b) sp rest = by_parts (written_attribute v) [] (written_attribute b) sp rest ∙ ap (λ (l : List ℕ). codes "<?xml" ++ l) (two (written_attribute v) (written_attribute b) (sp ++ 63 ∷ 62 ∷ rest))
@@ -227,11 +227,31 @@ listed_declaration bytes at d u h =
     subst (λ (p : ℕ). Listed bytes p (declaration_attributes d)) (ap (λ (n : ℕ). at + n) size_xml)
     (listed_by bytes at (codes "<?xml") (d.space ++ 63 ∷ 62 ∷ f.0) (declaration_attributes d) u b (f.1 ∙ parts_split d.version d.encoding d.standalone d.space f.0) (all_parts d k) (no_more d.space (63 ∷ 62 ∷ f.0) k.space space_63 (start_63 (62 ∷ f.0))))
 
+end_split : (n sp rest : List ℕ) → (codes "</" ++ n ++ sp ++ codes ">") ++ rest ≡ (60 ∷ 47 ∷ n) ++ ([] ++ (sp ++ 62 ∷ rest))
+end_split n sp rest = simp append_assoc
+
+end_size : (n : List ℕ) (at : ℕ) → at + size (60 ∷ 47 ∷ n) ≡ at + 2 + size n
+end_size n at = omega (arith, size-append (60 ∷ 47 ∷ []) n, size_slash)
+
+-- an end tag has no attributes
+pub listed_end : (bytes : List ℕ) (at : ℕ) (n sp : List ℕ) → IsUtf8 bytes → begins_at bytes at (end_tag n sp) ≡ true → Listed bytes (at + 2 + size n) []
+unfolding begins_at spelling meets
+listed_end bytes at n sp u h =
+    let i = end_tag n sp in
+    let x = and_parts (meets i && begins (encodes (written i)) (drop at bytes) && ends_well i (drop (at + length (encodes (written i))) bytes)) (may_stand i (first_place bytes) at) h in
+    let y = and_parts (meets i && begins (encodes (written i)) (drop at bytes)) (ends_well i (drop (at + length (encodes (written i))) bytes)) x.0 in
+    let z = and_parts (meets i) (begins (encodes (written i)) (drop at bytes)) y.0 in
+    let k = and_parts (is_name n) (is_blank sp) z.0 in
+    let b : IsCharBoundary bytes at = open_boundary bytes (codes "/" ++ n ++ sp ++ codes ">") at z.1 in
+    let f = front_stands (drop at bytes) (written i) (IsUtf8-drop bytes at u b) z.1 in
+    subst (λ (p : ℕ). Listed bytes p []) (end_size n at)
+    (listed_by bytes at (60 ∷ 47 ∷ n) (sp ++ 62 ∷ f.0) [] u b (f.1 ∙ end_split n sp f.0) refl (no_more sp (62 ∷ f.0) k.1 (close_space false f.0) (close_start false f.0)))
+
 pub listed_item : (bytes : List ℕ) (at : ℕ) (i : Item) → IsUtf8 bytes → begins_at bytes at i ≡ true → has_attributes (item_kind i) ≡ true → Listed bytes (item_content at i).start (item_attributes i)
 listed_item bytes at (start_tag t) u h k = listed_start bytes at t u h
 listed_item bytes at (empty_tag t) u h k = listed_empty bytes at t u h
 listed_item bytes at (leaf (Leaf.declaration d)) u h k = listed_declaration bytes at d u h
-listed_item bytes at (end_tag n s) u h k = absurd (false≢true k)
+listed_item bytes at (end_tag n s) u h k = listed_end bytes at n s u h
 listed_item bytes at (leaf (Leaf.text x)) u h k = absurd (false≢true k)
 listed_item bytes at (leaf (Leaf.cdata x)) u h k = absurd (false≢true k)
 listed_item bytes at (leaf (Leaf.comment x)) u h k = absurd (false≢true k)

@@ -15,3 +15,6 @@ pub mod UnitLemmas
 pub mod PartLemmas
 pub mod WalkLemmas
 pub mod AttributeLemmas
+pub mod PlaceLaws
+pub mod CountLemmas
+pub mod ByteRuns

@@ -97,7 +97,7 @@ nil_is bs u = elim (cases_Bool (length bs == 0)) [
   | inr f ↦ ap is_nil (first_of bs u (omega (arith, eqb-false (length bs) 0 f))).points ∙ sym f
 ]
 
-nil_size : (cs : List ℕ) → is_nil cs ≡ (size cs == 0)
+pub nil_size : (cs : List ℕ) → is_nil cs ≡ (size cs == 0)
 unfolding size
 nil_size [] = refl
 nil_size (c ∷ cs) = sym (ne_eqb _ 0 (λ e. omega (arith, encode_pos c, length-append (encode c) (encodes cs))))

@@ -1,6 +1,6 @@
 -- The parts of the XML declaration, by bytes.
 use Rattle.std.proofs.Common.{◌≡◌, ℕ, ◌+◌, ◌-◌, ◌<◌, Bool, true, false, inl, inr, cond, List, [], ◌∷◌, ◌++◌, length, take, drop, get_or, Option, Some, None, refl, sym, ap, ◌∙◌, arith}
-use Rattle.std.specs.Prelude.{codes, ◌==◌, ◌&&◌, not, option_map, option_and_then, bytes_eq, nat_lt, nat_le}
+use Rattle.std.specs.Prelude.{codes, ◌==◌, ◌&&◌, not, option_map, option_and_then, option_to_list, bytes_eq, nat_lt, nat_le}
 use Rattle.std.specs.Str.{IsUtf8, chars}
 use Rattle.std.specs.List.{list_all}
 use Rattle.std.specs.Char.{is_ascii_digit}
@@ -8,7 +8,7 @@ use lib.Utf8.{encode, encodes}
 use Rattle.std.proofs.lemmas.Slice.Eq.{bytes_eq-Decides}
 use Rattle.std.proofs.lemmas.Str.{encodes-chars, encode_ascii, char_from_byte}
 use Rattle.std.proofs.lemmas.List.{length-append}
-use Rattle.std.proofs.lemmas.Bool.{cases_Bool, false≢true, and_parts, or_cases, ltb-true, leb-true, false_from_ne_true}
+use Rattle.std.proofs.lemmas.Bool.{cases_Bool, false≢true, and_parts, or_cases, ltb-true, leb-true, lt-ltb, le-ltb, eqb-false, false_from_ne_true}
 use Rattle.xml_model.specs.Chars.{size, is_space}
 use Rattle.xml_model.specs.Items.{Attribute, Declaration, Item, leaf, Leaf, written, spelling, written_pieces, written_attribute, written_attributes, written_option, is_nil, is_letter, is_version, is_encoding_name, is_yes_or_no}
 use Rattle.xml_model.specs.Records.{declaration_attributes}
@@ -30,8 +30,11 @@ use Rattle.xml_items.specs.Parts.{read_named, value_text, is_encoding_char}
 use Rattle.xml_items.specs.declared.ItemKind.TheVariants as kinds
 use Rattle.xml_items.proofs.StepLemmas.{suffixes_some, suffixes_none}
 use Rattle.xml_items.proofs.DeclarationLaws.{part_reads, option_reads, declaration_reads}
-use Rattle.xml_items.proofs.MarkSpans.{shows, nil_is}
-use Rattle.xml_items.proofs.SpanLemmas.{size_of, spelled, size_xml, item_by, same_item, shown_some}
+use Rattle.xml_items.proofs.MarkSpans.{nil_is, nil_size}
+use Rattle.xml_items.specs.Counted.{with_count}
+use Rattle.xml_items.proofs.CountLemmas.{counts, counted_some}
+use Rattle.xml_items.proofs.TagLaws.{attribute_pos}
+use Rattle.xml_items.proofs.SpanLemmas.{size_of, spelled, size_xml, item_by, same_item}
 
 -- ---- tests of ASCII by bytes
 
@@ -236,22 +239,22 @@ read_standalone = read_option (codes "standalone") is_yes_or_no
 abbrev read_version : Reader Attribute
 read_version = read_part (codes "version") is_version
 
-pub declaration_1 : (at : ℕ) (s : List ℕ) → word (codes "<?xml") s ≡ None → shows at (read_declaration s) ≡ None
+pub declaration_1 : (at : ℕ) (s : List ℕ) → word (codes "<?xml") s ≡ None → counts at (read_declaration s) ≡ None
 unfolding read_declaration
 declaration_1 at s e1 = rw e1 refl
 
-pub declaration_2 : (at : ℕ) (s a : List ℕ) → word (codes "<?xml") s ≡ Some (tt, a) → None ≡ skip read_version a → shows at (read_declaration s) ≡ None
+pub declaration_2 : (at : ℕ) (s a : List ℕ) → word (codes "<?xml") s ≡ Some (tt, a) → None ≡ skip read_version a → counts at (read_declaration s) ≡ None
 unfolding read_declaration
 declaration_2 at s a e1 e2 = let n = skip_none read_version a (sym e2) in rw (e1, n) refl
 
-pub declaration_3 : (at : ℕ) (s a b : List ℕ) → word (codes "<?xml") s ≡ Some (tt, a) → Some b ≡ skip read_version a → None ≡ skip read_encoding b → shows at (read_declaration s) ≡ None
+pub declaration_3 : (at : ℕ) (s a b : List ℕ) → word (codes "<?xml") s ≡ Some (tt, a) → Some b ≡ skip read_version a → None ≡ skip read_encoding b → counts at (read_declaration s) ≡ None
 unfolding read_declaration
 declaration_3 at s a b e1 e2 e3 =
     let x = (skip_some read_version a b (sym e2)).1 in
     let n = skip_none read_encoding b (sym e3) in
     rw (e1, x, n) refl
 
-pub declaration_4 : (at : ℕ) (s a b c : List ℕ) → word (codes "<?xml") s ≡ Some (tt, a) → Some b ≡ skip read_version a → Some c ≡ skip read_encoding b → None ≡ skip read_standalone c → shows at (read_declaration s) ≡ None
+pub declaration_4 : (at : ℕ) (s a b c : List ℕ) → word (codes "<?xml") s ≡ Some (tt, a) → Some b ≡ skip read_version a → Some c ≡ skip read_encoding b → None ≡ skip read_standalone c → counts at (read_declaration s) ≡ None
 unfolding read_declaration
 declaration_4 at s a b c e1 e2 e3 e4 =
     let x = (skip_some read_version a b (sym e2)).1 in
@@ -259,7 +262,7 @@ declaration_4 at s a b c e1 e2 e3 e4 =
     let n = skip_none read_standalone c (sym e4) in
     rw (e1, x, y, n) refl
 
-pub declaration_5 : (at : ℕ) (s a b c d sp e : List ℕ) → word (codes "<?xml") s ≡ Some (tt, a) → Some b ≡ skip read_version a → Some c ≡ skip read_encoding b → Some d ≡ skip read_standalone c → read_space d ≡ Some (sp, e) → word (codes "?>") e ≡ None → shows at (read_declaration s) ≡ None
+pub declaration_5 : (at : ℕ) (s a b c d sp e : List ℕ) → word (codes "<?xml") s ≡ Some (tt, a) → Some b ≡ skip read_version a → Some c ≡ skip read_encoding b → Some d ≡ skip read_standalone c → read_space d ≡ Some (sp, e) → word (codes "?>") e ≡ None → counts at (read_declaration s) ≡ None
 unfolding read_declaration
 declaration_5 at s a b c d sp e e1 e2 e3 e4 e5 e6 =
     let x = (skip_some read_version a b (sym e2)).1 in
@@ -282,8 +285,26 @@ declared_size v (Some a) None sp = omega (arith, size-append (written_attribute 
 declared_size v None (Some b) sp = omega (arith, size-append (written_attribute v) (written_attribute b ++ []), size-append (written_attribute b) [], size_nil)
 declared_size v (Some a) (Some b) sp = omega (arith, size-append (written_attribute v) (written_attribute a ++ (written_attribute b ++ [])), size-append (written_attribute a) (written_attribute b ++ []), size-append (written_attribute b) [], size_nil)
 
+option_part : (b c : List ℕ) (o : Option Attribute) → length b ≡ size (written_option o) + length c → cond (nat_lt (length c) (length b)) 1 0 ≡ length (option_to_list o)
+option_part b c None e = ap (λ (t : Bool). cond t 1 0) (le-ltb (length c) (length b) (omega (arith, size_nil)))
+option_part b c (Some a) e =
+    let some : is_nil (written_attribute a) ≡ false = not_nil (written_attribute a) (attribute_pos a) in
+    let pos : (size (written_attribute a) == 0) ≡ false = sym (nil_size (written_attribute a)) ∙ some in
+    ap (λ (t : Bool). cond t 1 0) (lt-ltb (length c) (length b) (omega (arith, eqb-false (size (written_attribute a)) 0 pos)))
+  where
+    not_nil : (w : List ℕ) → 0 < length w → is_nil w ≡ false
+    not_nil [] h = absurd (omega arith)
+    not_nil (c ∷ w) h = refl
+
+parts_number : (b c d : List ℕ) (v : Attribute) (en st : Option Attribute) (sp : List ℕ) → length b ≡ size (written_option en) + length c → length c ≡ size (written_option st) + length d
+    → 1 + (cond (nat_lt (length c) (length b)) 1 0 + cond (nat_lt (length d) (length c)) 1 0) ≡ length (declaration_attributes record { version = v; encoding = en; standalone = st; space = sp })
+parts_number b c d v en st sp e f =
+    let n : cond (nat_lt (length c) (length b)) 1 0 ≡ length (option_to_list en) = option_part b c en e in
+    let m : cond (nat_lt (length d) (length c)) 1 0 ≡ length (option_to_list st) = option_part c d st f in
+    omega (arith, n, m, length-append (option_to_list en) (option_to_list st))
+
 pub declaration_6 : (at : ℕ) (s a b c d sp e f : List ℕ) → IsUtf8 s → IsUtf8 a → IsUtf8 b → IsUtf8 c → IsUtf8 d → IsUtf8 e → IsUtf8 f → word (codes "<?xml") (chars s) ≡ Some (tt, chars a) → Some (chars b) ≡ skip read_version (chars a) → Some (chars c) ≡ skip read_encoding (chars b) → Some (chars d) ≡ skip read_standalone (chars c) → read_space (chars d) ≡ Some (sp, chars e) → word (codes "?>") (chars e) ≡ Some (tt, chars f)
-    → Some (item_by kinds.Declaration (at + (length s - length s)) (at + (length s - length f)) (at + (length s - length s)) (at + (length s - length s)) (at + (length s - length a)) (at + (length s - length e))) ≡ shows at (read_declaration (chars s))
+    → Some (with_count (1 + (cond (nat_lt (length c) (length b)) 1 0 + cond (nat_lt (length d) (length c)) 1 0)) (item_by kinds.Declaration (at + (length s - length s)) (at + (length s - length f)) (at + (length s - length s)) (at + (length s - length s)) (at + (length s - length a)) (at + (length s - length e)))) ≡ counts at (read_declaration (chars s))
 declaration_6 at s a b c d sp e f us ua ub uc ud ue uf e1 e2 e3 e4 e5 e6 =
     let x = skip_some read_version (chars a) (chars b) (sym e2) in
     let y = skip_some read_encoding (chars b) (chars c) (sym e3) in
@@ -297,6 +318,7 @@ declaration_6 at s a b c d sp e f us ua ub uc ud ue uf e1 e2 e3 e4 e5 e6 =
     let z4 : length c ≡ size (written_option z.0) + length d = size_of c d (written_option z.0) uc ud ((option_reads (codes "standalone") is_yes_or_no).takes (chars c) z.0 (chars d) z.1).0 in
     let z5 : length d ≡ size sp + length e = size_of d e sp ud ue (space_reads.takes (chars d) sp (chars e) e5).0 in
     let total : length s ≡ size (written i) + length f = size_of s f (written i) us uf (declaration_reads.takes (chars s) i (chars f) read).0 in
-    shown_some at (read_declaration (chars s)) i (chars f) _ read
+    counted_some at _ (read_declaration (chars s)) i (chars f) _ read
     (same_item kinds.Declaration _ _ _ _ _ _ at (at + length (spelling i)) at at (at + 5) (at + 5 + size (written_attributes (declaration_attributes decl) ++ sp))
     (omega arith) (omega (arith, spelled i)) (omega arith) (omega arith) (omega (arith, size_xml)) (omega (arith, size_xml, declared_size x.0 y.0 z.0 sp, size-append (written_attributes (declaration_attributes decl)) sp)))
+    (parts_number b c d x.0 y.0 z.0 sp z3 z4)

@@ -1,13 +1,13 @@
 -- Plain bytes, and what reads past them.
 use Rattle.std.proofs.Common.{◌≡◌, ℕ, ◌<◌, Bool, true, false, inl, inr, List, [], ◌∷◌, length, drop, get_or, Option, Some, None, refl, sym, ap, ◌∙◌, arith}
-use Rattle.std.specs.Prelude.{◌&&◌, ◌==◌, not, nat_lt, codes}
+use Rattle.std.specs.Prelude.{◌&&◌, ◌==◌, not, nat_le, codes}
 use Rattle.std.specs.List.{list_all}
 use Rattle.std.proofs.Math.Numerals.{one-add}
 use Rattle.std.specs.Str.{IsUtf8, chars}
 use Rattle.std.proofs.lemmas.Str.{chars-nil}
 use Rattle.std.proofs.lemmas.List.{nil_from_length}
 use Rattle.xml_chars.proofs.Points.{first_of, wide_first, ascii_char}
-use Rattle.std.proofs.lemmas.Bool.{cases_Bool, cases_lt, false≢true, and_parts, and_from, ltb-true, not-true, not_from_false, ne_eqb, eq-eqb}
+use Rattle.std.proofs.lemmas.Bool.{cases_Bool, cases_lt, false≢true, and_parts, and_from, not-true, not_from_false, ne_eqb, eq-eqb}
 use Rattle.xml_model.specs.Chars.{is_char, begins}
 use Rattle.xml_model.specs.Items.{Quote, single, double, quote_char, written_piece}
 use Rattle.xml_chars.specs.Readers.{Reader, many, skip, after_run, word}
@@ -17,9 +17,6 @@ use Rattle.xml_items.specs.Plain.{is_plain_char, is_plain_text, is_plain_value}
 use Rattle.xml_items.specs.Reading.{ends_text, is_literal, by_itself, piece_form, read_piece, in_text, read_pieces, ends_value, in_value, read_value}
 use Rattle.xml_items.proofs.PieceLaws.{FitPiece, piece_reads, piece_pos, literal_form, in_value_is}
 use Rattle.xml_items.proofs.TextLaws.{none, literal_goes}
-
-pub plain_char_low : (b : ℕ) → is_plain_char b ≡ true → b < 128
-plain_char_low b h = ltb-true b 128 (and_parts (nat_lt b 128) (is_char b) h).0
 
 pub record PlainText (b : ℕ) : Type 0 where
   pub plain : is_plain_char b ≡ true
@@ -33,9 +30,6 @@ plain_text b h =
     let a = and_parts (is_plain_char b && not (b == 60)) (not (b == 38)) c.0 in
     let o = and_parts (is_plain_char b) (not (b == 60)) a.0 in
     record { plain = o.0; no_open = not-true _ o.1; no_and = not-true _ a.1; no_bracket = not-true _ c.1 }
-
-pub plain_text_low : (b : ℕ) → is_plain_text b ≡ true → b < 128
-plain_text_low b h = plain_char_low b (plain_text b h).plain
 
 pub record PlainValue (b : ℕ) : Type 0 where
   pub plain : is_plain_char b ≡ true
@@ -54,9 +48,6 @@ plain_value b h =
     by_quote : (b == 39) ≡ false → (b == 34) ≡ false → (q : Quote) → (b == quote_char q) ≡ false
     by_quote s d single = s
     by_quote s d double = d
-
-pub plain_value_low : (b : ℕ) → is_plain_value b ≡ true → b < 128
-plain_value_low b h = plain_char_low b (plain_value b h).plain
 
 -- a run of which each character is one of many
 pub run_many : {X : Type 0} (t : List ℕ → Bool) (f : Reader X) (s : X → List ℕ) (F : X → List ℕ → Type 0) → ((x : X) → 0 < length (s x)) → IsReader f s F
@@ -77,7 +68,7 @@ unfolding read_piece
 literal_piece stops c text h = rw (literal_form stops c text h, h) refl
 
 pub plain_is : (c : ℕ) → is_plain_char c ≡ true → is_char c ≡ true
-plain_is c h = (and_parts (nat_lt c 128) (is_char c) h).1
+plain_is c h = (and_parts (is_char c) (not (nat_le 0xF000 c && nat_le c 0xFFFF)) h).0
 
 text_literal : (c : ℕ) → is_plain_text c ≡ true → is_literal none c ≡ true
 text_literal c h =
@@ -138,6 +129,10 @@ text_stuck text go e = many_stuck in_text (read_piece none) text go e
 pub text_done : (text : List ℕ) → in_text text ≡ false → skip read_pieces text ≡ Some text
 unfolding read_pieces
 text_done text h = many_done in_text (read_piece none) text h
+
+pub text_ended : (text : List ℕ) → ends_text text ≡ true → skip read_pieces text ≡ Some text
+unfolding in_text
+text_ended text h = text_done text (ap (λ (b : Bool). not b && not (begins (codes "]]>") text)) h)
 
 pub goes_by_head : (q : Quote) (b : ℕ) (text : List ℕ) → quote_char q ≡ b → (ascii_head text ≡ b → ⊥) → in_value q text ≡ true
 unfolding in_value

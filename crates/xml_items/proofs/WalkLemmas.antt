@@ -19,10 +19,11 @@ use Rattle.xml_chars.proofs.TextLemmas.{pointwise-begins}
 use Rattle.xml_chars.proofs.StandLemmas.{front_stands, read_to, To}
 use Rattle.xml_items.specs.Reading.{is_name_read, ItemForm, as_text, as_tag, as_end_tag, as_comment, as_cdata, as_doctype, as_instruction, as_declaration, item_form, read_by, read_item}
 use Rattle.xml_items.specs.Stands.{stands_first}
-use Rattle.xml_items.specs.Shown.{item_shown, IsItemAt, HasNoItem}
-use Rattle.xml_items.specs.declared.Item.{Item as ItemShown}
+use Rattle.xml_items.specs.Shown.{HasNoItem}
+use Rattle.xml_items.specs.Counted.{counted_shown, IsCountedAt}
+use Rattle.xml_items.specs.declared.Counted.{Counted}
 use Rattle.xml_items.proofs.ItemLaws.{FitItem, item_reads}
-use Rattle.xml_items.proofs.MarkSpans.{shows}
+use Rattle.xml_items.proofs.CountLemmas.{counts}
 use Rattle.xml_items.proofs.PlainLemmas.{word_none}
 
 -- ---- by the first characters
@@ -41,9 +42,9 @@ head_is b (c ∷ r) pos low = elim (cases_lt c 128) [
       | inr f ↦ ap (λ (x : Bool). x && true) (ne_eqb b c (λ e. false≢true (sym f ∙ eq-eqb c b (sym e)))) ∙ sym f
     ]
 
-pub by_form : (at : ℕ) (first : Bool) (s : List ℕ) (k : ItemForm) → item_form s ≡ k → shows at (read_item first s) ≡ shows at (read_by first k s)
+pub by_form : (at : ℕ) (first : Bool) (s : List ℕ) (k : ItemForm) → item_form s ≡ k → counts at (read_item first s) ≡ counts at (read_by first k s)
 unfolding read_item
-by_form at first s k e = ap (λ (f : ItemForm). shows at (read_by first f s)) e
+by_form at first s k e = ap (λ (f : ItemForm). counts at (read_by first f s)) e
 
 pub form_text : (s : List ℕ) → word (codes "<") s ≡ None → item_form s ≡ as_text
 unfolding item_form
@@ -163,15 +164,15 @@ stand_from false (start_tag t) first p e h = refl
 stand_from false (empty_tag t) first p e h = refl
 stand_from false (end_tag n s) first p e h = refl
 
-pub record ItemAt (bytes : List ℕ) (at : ℕ) (found : ItemShown) : Type 0 where
-  pub is : IsItemAt bytes at found
-  pub boundary : IsCharBoundary bytes found.span.end
+pub record ItemAt (bytes : List ℕ) (at : ℕ) (found : Counted) : Type 0 where
+  pub is : IsCountedAt bytes at found
+  pub boundary : IsCharBoundary bytes found.item.span.end
 
 scalar_back : (w v : List ℕ) → lib.Utf8.scalars (w ++ v) ≡ true → lib.Utf8.scalars v ≡ true
 scalar_back [] v h = h
 scalar_back (c ∷ w) v h = scalar_back w v (and_parts (lib.Utf8.scalar c) (lib.Utf8.scalars (w ++ v)) h).1
 
-item_sound_by : (bytes : List ℕ) (at : ℕ) (found : ItemShown) (i : Item) (rest : List ℕ) → IsUtf8 (encodes rest) → chars (encodes rest) ≡ rest → To bytes (encodes rest) at (written i) → FitItem (at == first_place bytes) i rest → item_shown at i ≡ found → ItemAt bytes at found
+item_sound_by : (bytes : List ℕ) (at : ℕ) (found : Counted) (i : Item) (rest : List ℕ) → IsUtf8 (encodes rest) → chars (encodes rest) ≡ rest → To bytes (encodes rest) at (written i) → FitItem (at == first_place bytes) i rest → counted_shown at i ≡ found → ItemAt bytes at found
 unfolding begins_at spelling size
 item_sound_by bytes at found i rest v back k fit shown =
     let after : drop (at + length (encodes (written i))) bytes ≡ encodes rest = ap (λ (n : ℕ). drop n bytes) (sym k.end) ∙ k.after in
@@ -180,14 +181,15 @@ item_sound_by bytes at found i rest v back k fit shown =
       is = record {
         item = i;
         begins = and_from _ _ (and_from _ _ (and_from _ _ fit.0 k.stands) ends) (stand_to i (first_place bytes) at fit.2);
-        shown = sym shown;
+        shown = ap (λ (f : Counted). f.item) (sym shown);
+        counted = ap (λ (f : Counted). f.attributes) (sym shown);
       };
-      boundary = subst (λ (n : ℕ). IsCharBoundary bytes n) (k.end ∙ ap (λ (f : ItemShown). f.span.end) shown) k.boundary;
+      boundary = subst (λ (n : ℕ). IsCharBoundary bytes n) (k.end ∙ ap (λ (f : Counted). f.item.span.end) shown) k.boundary;
     }
 
-pub item_sound : (bytes text : List ℕ) (at : ℕ) (found : ItemShown) → at ≤ length bytes → text ≡ drop at bytes → IsUtf8 text → Some found ≡ shows at (read_item (at == first_place bytes) (chars text)) → ItemAt bytes at found
+pub item_sound : (bytes text : List ℕ) (at : ℕ) (found : Counted) → at ≤ length bytes → text ≡ drop at bytes → IsUtf8 text → Some found ≡ counts at (read_item (at == first_place bytes) (chars text)) → ItemAt bytes at found
 item_sound bytes text at found within is u e =
-    let m = map_some (λ (p : Item × List ℕ). item_shown at p.0) (read_item (at == first_place bytes) (chars text)) found (sym e) in
+    let m = map_some (λ (p : Item × List ℕ). counted_shown at p.0) (read_item (at == first_place bytes) (chars text)) found (sym e) in
     let i = m.0.0 in
     let rest = m.0.1 in
     let t = (item_reads (at == first_place bytes)).takes (chars text) i rest m.1 in
@@ -196,6 +198,9 @@ item_sound bytes text at found within is u e =
     let back : chars (encodes rest) ≡ rest = chars-encodes rest s in
     let k = read_to bytes text (encodes rest) at (written i) within is u v (t.0 ∙ ap (λ (l : List ℕ). written i ++ l) (sym back)) in
     item_sound_by bytes at found i rest v back k t.1 m.2
+
+pub item_sound_at : (bytes text : List ℕ) (at : ℕ) (first : Bool) (found : Counted) → at ≤ length bytes → text ≡ drop at bytes → IsUtf8 text → first ≡ (at == first_place bytes) → Some found ≡ counts at (read_item first (chars text)) → ItemAt bytes at found
+item_sound_at bytes text at first found within is u f e = item_sound bytes text at found within is u (e ∙ ap (λ (b : Bool). counts at (read_item b (chars text))) f)
 
 size_of_drop : (w text : List ℕ) → drop (length (encodes w)) text ≡ drop (size w) text
 size_of_drop w text = size_drop w text
@@ -216,11 +221,11 @@ item_read bytes text at i is u b =
     let fit : FitItem (at == first_place bytes) i f.0 = (y.0, ends, stand_from (at == first_place bytes) i (first_place bytes) at refl q.1) in
     (f.0, ap (read_item (at == first_place bytes)) f.1 ∙ (item_reads (at == first_place bytes)).again i f.0 fit)
 
-none_some : (x : ItemShown) → ◌≡◌ {A = Option ItemShown} None (Some x) → ⊥
+none_some : (x : Counted) → ◌≡◌ {A = Option Counted} None (Some x) → ⊥
 none_some x e = absurd (cc)
 
-item_there : (bytes text : List ℕ) (at : ℕ) (i : Item) → text ≡ drop at bytes → IsUtf8 text → begins_at bytes at i ≡ true → None ≡ shows at (read_item (at == first_place bytes) (chars text)) → ⊥
-item_there bytes text at i is u b e = none_some (item_shown at i) (e ∙ ap (shows at) (item_read bytes text at i is u b).1)
+item_there : (bytes text : List ℕ) (at : ℕ) (i : Item) → text ≡ drop at bytes → IsUtf8 text → begins_at bytes at i ≡ true → None ≡ counts at (read_item (at == first_place bytes) (chars text)) → ⊥
+item_there bytes text at i is u b e = none_some (counted_shown at i) (e ∙ ap (counts at) (item_read bytes text at i is u b).1)
 
 pub one_item : (bytes : List ℕ) (at : ℕ) (i j : Item) → IsUtf8 (drop at bytes) → begins_at bytes at i ≡ true → begins_at bytes at j ≡ true → i ≡ j
 one_item bytes at i j u a b =
@@ -228,11 +233,21 @@ one_item bytes at i j u a b =
     let y = item_read bytes (drop at bytes) at j refl u b in
     ap (λ (z : Item × List ℕ). z.0) (same_Some (i, x.0) (j, y.0) (sym x.1 ∙ y.1))
 
-pub item_complete : (bytes text : List ℕ) (at : ℕ) → text ≡ drop at bytes → IsUtf8 text → None ≡ shows at (read_item (at == first_place bytes) (chars text)) → HasNoItem bytes at
+pub item_complete : (bytes text : List ℕ) (at : ℕ) → text ≡ drop at bytes → IsUtf8 text → None ≡ counts at (read_item (at == first_place bytes) (chars text)) → HasNoItem bytes at
 item_complete bytes text at is u e i = false_from_ne_true _ (λ b. item_there bytes text at i is u b e)
+
+pub item_complete_at : (bytes text : List ℕ) (at : ℕ) (first : Bool) → text ≡ drop at bytes → IsUtf8 text → first ≡ (at == first_place bytes) → None ≡ counts at (read_item first (chars text)) → HasNoItem bytes at
+item_complete_at bytes text at first is u f e = item_complete bytes text at is u (e ∙ ap (λ (b : Bool). counts at (read_item b (chars text))) f)
 
 pub drop_some : (s r : List ℕ) (c : ℕ) → s ≡ c ∷ r → drop 1 s ≡ r
 drop_some s r c e = ap (drop 1) e
 
 pub drop_none : (s : List ℕ) → s ≡ [] → drop 1 s ≡ s
 drop_none s e = ap (drop 1) e ∙ sym e
+
+pub first_low : (bytes : List ℕ) → first_place bytes ≤ 3
+unfolding first_place
+first_low bytes = elim (cases_Bool (begins byte_order_mark bytes)) [
+  | inl t ↦ rw t (omega arith)
+  | inr f ↦ rw f (omega arith)
+]

@@ -18,9 +18,11 @@ item_attributes (empty_tag t) = t.attributes
 item_attributes (leaf (Leaf.declaration d)) = declaration_attributes d
 item_attributes _ = []
 
+-- whether an item is a tag or a declaration: an end tag has no attributes, and the list of them is empty
 abbrev pub has_attributes : ItemKind → Bool
 has_attributes kinds.StartTag = true
 has_attributes kinds.EmptyTag = true
+has_attributes kinds.EndTag = true
 has_attributes kinds.Declaration = true
 has_attributes _ = false
 

@@ -6,3 +6,5 @@ pub mod Quotes
 pub mod Suffixes
 pub mod Parts
 pub mod AttributeList
+pub mod Counted
+pub mod Runs

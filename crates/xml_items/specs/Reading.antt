@@ -45,15 +45,24 @@ read_value q = many (in_value q) (read_piece (ends_value q))
 abbrev pub some_space : List ℕ → Bool
 some_space space = not (is_nil space)
 
+abbrev pub BareParts : Type 0
+BareParts = List ℕ × (List ℕ × (Unit {0} × (List ℕ × (Quote × (List Piece × Unit {0})))))
+
+-- an attribute without the white space before it
+abbrev pub read_bare_parts : Reader BareParts
+read_bare_parts = both read_name (λ _. both read_space (λ _. both (word (codes "=")) (λ _. both read_space (λ _. both read_quote (λ q. both (read_value q) (λ _. word (quote_char q ∷ [])))))))
+
 abbrev pub AttributeParts : Type 0
-AttributeParts = List ℕ × (List ℕ × (List ℕ × (Unit {0} × (List ℕ × (Quote × (List Piece × Unit {0}))))))
+AttributeParts = List ℕ × BareParts
 
 abbrev pub read_attribute_parts : Reader AttributeParts
-read_attribute_parts =
-    both (kept some_space read_space) (λ _. both read_name (λ _. both read_space (λ _. both (word (codes "=")) (λ _. both read_space (λ _. both read_quote (λ q. both (read_value q) (λ _. word (quote_char q ∷ []))))))))
+read_attribute_parts = both (kept some_space read_space) (λ _. read_bare_parts)
 
 abbrev pub attribute_of : AttributeParts → Attribute
 attribute_of p = record { space = p.0; name = p.1.0; left = p.1.1.0; right = p.1.1.1.1.0; quote = p.1.1.1.1.1.0; value = p.1.1.1.1.1.1.0 }
+
+unfoldable pub read_bare : Reader Attribute
+read_bare = mapped (λ p. attribute_of ([], p)) read_bare_parts
 
 unfoldable pub read_attribute : Reader Attribute
 read_attribute = mapped attribute_of read_attribute_parts

@@ -4,7 +4,7 @@ use Rattle.xml_model.specs.declared.Span.{Span}
 use Rattle.xml_model.specs.Chars.{size}
 use Rattle.xml_model.specs.Items.{Tag, Leaf, Item, leaf, start_tag, empty_tag, end_tag, text, cdata, declaration, doctype, written_pieces, written_attributes, written_units, spelling, begins_at}
 use Rattle.xml_model.specs.Records.{declaration_attributes}
-use Rattle.xml_chars.specs.Places.{span_from}
+use Rattle.xml_chars.specs.Places.{span_from, IsTextSpan}
 use Rattle.xml_items.specs.declared.ItemKind.{ItemKind}
 use Rattle.xml_items.specs.declared.ItemKind.TheVariants as kinds
 use Rattle.xml_items.specs.declared.Item.{Item as ItemShown}
@@ -62,3 +62,9 @@ pub record IsItemAt (bytes : List ℕ) (at : ℕ) (found : ItemShown) : Type 0 w
 
 abbrev pub HasNoItem : List ℕ → ℕ → Type 0
 HasNoItem bytes at = (item : Item) → begins_at bytes at item ≡ false
+
+-- the spans of an item as code hands it out are spans of the text
+pub record HasTextSpans (bytes : List ℕ) (found : ItemShown) : Type 0 where
+  pub span : IsTextSpan bytes found.span
+  pub name : IsTextSpan bytes found.name
+  pub content : IsTextSpan bytes found.content

@@ -1,7 +1,7 @@
 //! The XML declaration (XML 1.0, productions 23 to 26, 32, 80 and 81).
 #![tactic(auto)]
 
-ghost use Rattle.std.specs.Prelude.{◌≡◌, ◌≤◌, ◌<◌, ◌+◌, ◌^◌, ◌&&◌, not, true, length, nat_lt, option_map, IfSome, codes, bytes_eq};
+ghost use Rattle.std.specs.Prelude.{◌≡◌, ◌≤◌, ◌<◌, ◌+◌, ◌^◌, ◌&&◌, not, true, length, nat_lt, cond, option_map, IfSome, codes, bytes_eq};
 ghost use Rattle.std.specs.List.{list_all};
 ghost use Rattle.std.specs.Char.{is_ascii_digit};
 ghost use Rattle.std.specs.Option.{option_copied};
@@ -10,11 +10,11 @@ ghost use Rattle.xml_model.specs.Items.{is_nil, is_letter, is_version, is_encodi
 ghost use Rattle.xml_chars.specs.Readers.{Gives, skip, mapped};
 ghost use Rattle.xml_items.specs.Reading.{begins_part, read_part, read_option, read_declaration};
 ghost use Rattle.xml_items.specs.Parts.{read_named, value_text, is_encoding_char};
-ghost use Rattle.xml_items.specs.Shown.{item_shown};
+ghost use Rattle.xml_items.specs.Counted.{counted_shown};
 
 use crate::spans::span_between;
 use crate::tags::attribute_of;
-use crate::{Item, ItemKind};
+use crate::{Counted, Item, ItemKind};
 use xml_chars::names::name_of;
 use xml_chars::text::{space_of, word_of};
 
@@ -180,21 +180,34 @@ fn after_standalone(text: &str) -> Option<&str>
     }
 }
 
+/// How many parts stand between two rests of a text, the second of which follows one part of the first, or none.
+fn parts_between(from: &str, to: &str) -> u32
+    ensures { result ≡ cond (nat_lt (length to.now) (length from.now)) 1 0 }
+{
+    if to.len() < from.len() { 1 } else { 0 }
+}
+
 /// The XML declaration at the front of a text that begins at the place.
-pub fn declaration_at(text: &str, at: u32) -> Option<Item>
+pub fn declaration_at(text: &str, at: u32) -> Option<Counted>
     requires { at + length text.now < 2 ^ 32 }
-    ensures { result ≡ option_map (λ p. item_shown at p.0) (read_declaration (chars text.now)) }
+    ensures { result ≡ option_map (λ p. counted_shown at p.0) (read_declaration (chars text.now)) }
 {
     let content = word_of(text, "<?xml")?;
-    let rest = after_version(content)?;
-    let rest = after_encoding(rest)?;
-    let rest = after_standalone(rest)?;
-    let (_, close) = space_of(rest);
+    let after_version = after_version(content)?;
+    let after_encoding = after_encoding(after_version)?;
+    let after_standalone = after_standalone(after_encoding)?;
+    let (_, close) = space_of(after_standalone);
     let rest = word_of(close, "?>")?;
-    Some(Item {
+    let item = Item {
         kind: ItemKind::Declaration,
         span: span_between(at, text, text, rest),
         name: span_between(at, text, text, text),
         content: span_between(at, text, content, close),
+    };
+    let options = parts_between(after_version, after_encoding)
+        + parts_between(after_encoding, after_standalone);
+    Some(Counted {
+        item,
+        attributes: 1 + options,
     })
 }

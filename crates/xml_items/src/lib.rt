@@ -1,12 +1,14 @@
 //! The items of a document: texts, tags, comments and the rest (XML 1.0, productions 14 to 44).
 #![tactic(auto)]
 
-ghost use Rattle.std.specs.Prelude.{◌≡◌, ◌<◌, ◌+◌, ◌^◌, ◌↔◌, List, ℕ, drop, true, length, option_map, codes, IfOk, IfErr, IfSome};
+ghost use Rattle.std.specs.Prelude.{◌≡◌, ◌==◌, ◌<◌, ◌+◌, ◌^◌, ◌↔◌, List, ℕ, drop, true, length, option_map, codes, Some, IfOk, IfErr, IfSome};
 ghost use Rattle.std.specs.Str.{chars, IsUtf8, IsCharBoundary};
 ghost use Rattle.xml_model.specs.Items.{first_place};
-ghost use Rattle.xml_chars.specs.Reading.{read_name};
+ghost use Rattle.xml_chars.specs.Readers.{word};
+ghost use Rattle.xml_chars.specs.Reading.{ascii_head, read_name};
 ghost use Rattle.xml_items.specs.Reading.{is_name_read, read_item};
-ghost use Rattle.xml_items.specs.Shown.{item_shown, IsItemAt, HasNoItem};
+ghost use Rattle.xml_items.specs.Shown.{IsItemAt, HasNoItem, HasTextSpans};
+ghost use Rattle.xml_items.specs.Counted.{counted_shown, with_count, IsCountedAt};
 
 mod attributes;
 mod classes;
@@ -57,6 +59,14 @@ pub struct Item {
     pub content: Span,
 }
 
+/// An item with the number of its attributes.
+#[derive(Clone, Copy, Debug, PartialEq, Eq)]
+pub struct Counted {
+    pub item: Item,
+    /// The number of attributes of a tag, or of parts of the XML declaration; 0 for the others.
+    pub attributes: u32,
+}
+
 /// No item begins at the place.
 #[derive(Clone, Copy, Debug, PartialEq, Eq)]
 pub struct ItemFault;
@@ -80,6 +90,14 @@ fn first_place(bytes: &[u8]) -> u32
     }
 }
 
+/// Whether the place is the first place of the document.
+#[inline(always)]
+fn is_first_place(bytes: &[u8], at: u32) -> bool
+    ensures { result ≡ (at == first_place bytes.now) }
+{
+    at <= 3 && at == first_place(bytes)
+}
+
 /// What follows the first character.
 fn after_first(text: &str) -> &str
     ensures { chars result.now ≡ drop 1 (chars text.now) }
@@ -100,40 +118,101 @@ fn begins_xml(text: &str) -> bool
     }
 }
 
+/// The item as one that has no attributes.
+fn without_attributes(item: Option<Item>) -> Option<Counted>
+    ensures { result ≡ option_map (with_count 0) item }
+{
+    Some(Counted {
+        item: item?,
+        attributes: 0,
+    })
+}
+
+/// The item at the front of a text that begins at the place with `<?`, which is the document's first place or is not. What
+/// follows the `<` is `rest`.
+fn question_item_of(text: &str, rest: &str, at: u32, first: bool) -> Option<Counted>
+    requires room { at + length text.now < 2 ^ 32 }
+    requires rest { word (codes "<") (chars text.now) ≡ Some (tt, chars rest.now) }
+    requires mark { ascii_head (chars rest.now) ≡ 63 }
+    ensures { result ≡ option_map (λ p. counted_shown at p.0) (read_item first (chars text.now)) }
+{
+    if !begins_xml(after_first(rest)) {
+        return without_attributes(instruction_at(text, at));
+    }
+    if first {
+        declaration_at(text, at)
+    } else {
+        None
+    }
+}
+
+/// The item at the front of a text that begins at the place with `<!`. What follows the `<` is `rest`.
+fn bang_item_of(text: &str, rest: &str, at: u32, first: bool) -> Option<Counted>
+    requires room { at + length text.now < 2 ^ 32 }
+    requires rest { word (codes "<") (chars text.now) ≡ Some (tt, chars rest.now) }
+    requires mark { ascii_head (chars rest.now) ≡ 33 }
+    ensures { result ≡ option_map (λ p. counted_shown at p.0) (read_item first (chars text.now)) }
+{
+    let mark = head(after_first(rest));
+    if mark == b'-' {
+        return without_attributes(comment_at(text, at));
+    }
+    if mark == b'[' {
+        return without_attributes(cdata_at(text, at));
+    }
+    without_attributes(doctype_at(text, at))
+}
+
 /// The item at the front of a text that begins at the place, which is the document's first place or is not.
-fn item_of(text: &str, at: u32, first: bool) -> Option<Item>
+#[inline(always)]
+fn item_of(text: &str, at: u32, first: bool) -> Option<Counted>
     requires { at + length text.now < 2 ^ 32 }
-    ensures { result ≡ option_map (λ p. item_shown at p.0) (read_item first (chars text.now)) }
+    ensures { result ≡ option_map (λ p. counted_shown at p.0) (read_item first (chars text.now)) }
 {
     let Some(rest) = word_of(text, "<") else {
-        return text_item_at(text, at);
+        return without_attributes(text_item_at(text, at));
     };
-    if head(rest) == b'/' {
-        return end_tag_at(text, at);
+    let mark = head(rest);
+    if mark == b'/' {
+        return without_attributes(end_tag_at(text, at));
     }
-    if head(rest) == b'?' {
-        if !begins_xml(after_first(rest)) {
-            return instruction_at(text, at);
-        }
-        if first {
-            return declaration_at(text, at);
-        }
-        return None;
+    if mark == b'?' {
+        return question_item_of(text, rest, at, first);
     }
-    if head(rest) == b'!' {
-        if head(after_first(rest)) == b'-' {
-            return comment_at(text, at);
-        }
-        if head(after_first(rest)) == b'[' {
-            return cdata_at(text, at);
-        }
-        return doctype_at(text, at);
+    if mark == b'!' {
+        return bang_item_of(text, rest, at, first);
     }
     tag_at(text, at)
 }
 
+/// The item that begins at the place, with the number of its attributes: `Ok(None)` exactly at the end, and `Err` exactly
+/// where the place is before the end and no item begins there.
+#[inline]
+pub fn next_counted(bytes: &[u8], at: u32) -> Result<Option<Counted>, ItemFault>
+    requires utf8 { IsUtf8 bytes.now }
+    requires place { IsCharBoundary bytes.now at }
+    requires size { length bytes.now < 2 ^ 32 }
+    ensures end { (result ≡ Ok None) ↔ (at ≡ length bytes.now) }
+    ensures item { IfOk result (λ found. IfSome found (IsCountedAt bytes.now at)) }
+    ensures start { IfOk result (λ found. IfSome found (λ counted. counted.item.span.start ≡ at)) }
+    ensures fault { IfErr result (λ _. (at < length bytes.now) × HasNoItem bytes.now at) }
+    ensures place { IfOk result (λ found. IfSome found (λ counted. IsCharBoundary bytes.now counted.item.span.end)) }
+    ensures spans { IfOk result (λ found. IfSome found (λ counted. HasTextSpans bytes.now counted.item)) }
+{
+    let text = text_at(bytes, at);
+    if text.is_empty() {
+        return Ok(None);
+    }
+    let first = is_first_place(bytes, at);
+    match item_of(text, at, first) {
+        Some(counted) => Ok(Some(counted)),
+        None => Err(ItemFault),
+    }
+}
+
 /// The item that begins at the place: `Ok(None)` exactly at the end, and `Err` exactly where the place is before the end
 /// and no item begins there.
+#[inline]
 pub fn next_item(bytes: &[u8], at: u32) -> Result<Option<Item>, ItemFault>
     requires utf8 { IsUtf8 bytes.now }
     requires place { IsCharBoundary bytes.now at }
@@ -143,15 +222,12 @@ pub fn next_item(bytes: &[u8], at: u32) -> Result<Option<Item>, ItemFault>
     ensures start { IfOk result (λ found. IfSome found (λ item. item.span.start ≡ at)) }
     ensures fault { IfErr result (λ _. (at < length bytes.now) × HasNoItem bytes.now at) }
     ensures place { IfOk result (λ found. IfSome found (λ item. IsCharBoundary bytes.now item.span.end)) }
+    ensures spans { IfOk result (λ found. IfSome found (HasTextSpans bytes.now)) }
 {
-    let text = text_at(bytes, at);
-    if text.is_empty() {
-        return Ok(None);
-    }
-    let first = at == first_place(bytes);
-    match item_of(text, at, first) {
-        Some(item) => Ok(Some(item)),
-        None => Err(ItemFault),
+    match next_counted(bytes, at) {
+        Ok(Some(counted)) => Ok(Some(counted.item)),
+        Ok(None) => Ok(None),
+        Err(fault) => Err(fault),
     }
 }
 

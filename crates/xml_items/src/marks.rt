@@ -102,10 +102,10 @@ pub fn cdata_at(text: &str, at: u32) -> Option<Item>
 }
 
 /// Whether white space stands before the data of an instruction, or there are none. The data end where `end` begins.
-fn is_parted(space: &str, data: &str, end: &str) -> bool
-    ensures { result ≡ (not (length space.now == 0) || length data.now == length end.now) }
+fn is_parted(space: &str, content: &str, end: &str) -> bool
+    ensures { result ≡ (not (length space.now == 0) || length content.now == length end.now) }
 {
-    !space.is_empty() || data.len() == end.len()
+    !space.is_empty() || content.len() == end.len()
 }
 
 /// The instruction at the front of a text that begins at the place (XML 1.0, productions 16 and 17).

@@ -2,7 +2,7 @@
 #![tactic(auto)]
 
 ghost use Rattle.std.specs.Prelude.{◌≡◌, ◌≤◌, ◌<◌, ◌+◌, length, option_map, IfSome, codes, true, false};
-ghost use Rattle.std.specs.List.{prefix_len, list_all};
+ghost use Rattle.std.specs.List.{list_all};
 ghost use Rattle.std.specs.Option.{option_copied};
 ghost use Rattle.std.specs.Str.{chars};
 ghost use Rattle.xml_model.specs.Chars.{is_char, begins};
@@ -13,24 +13,12 @@ ghost use Rattle.xml_items.specs.Plain.{is_plain_text, is_plain_value, is_plain_
 ghost use Rattle.xml_items.specs.Reading.{is_literal, read_piece, ends_text, in_text, read_pieces, ends_value, in_value, read_value};
 ghost use Rattle.xml_items.specs.Quotes.{quote_of};
 
-use crate::classes;
+use crate::classes::{plain_char_len, plain_text_len, plain_value_len};
 use xml_chars::references::reference_of;
 use xml_chars::text::{head, step, word_of};
 
-/// The length of the longest front of ASCII Chars that mean themselves in a text.
-fn plain_text_len(bytes: &[u8]) -> usize
-    ensures value { result ≡ prefix_len is_plain_text bytes.now }
-    ensures within { result ≤ length bytes.now }
-{
-    for (i, b) in bytes.iter().enumerate() {
-        if !classes::is_plain_text(*b) {
-            return i;
-        }
-    }
-    bytes.len()
-}
-
-/// What follows the longest front of ASCII Chars that mean themselves in a text.
+/// What follows the longest front of plain characters of a text.
+#[inline(always)]
 fn after_plain_text(text: &str) -> &str
     ensures rest { chars result.now ≡ after_run is_plain_text (chars text.now) }
     ensures shorter { length result.now ≤ length text.now }
@@ -38,20 +26,8 @@ fn after_plain_text(text: &str) -> &str
     text.split_at(plain_text_len(text.as_bytes())).1
 }
 
-/// The length of the longest front of ASCII Chars that mean themselves in a value.
-fn plain_value_len(bytes: &[u8]) -> usize
-    ensures value { result ≡ prefix_len is_plain_value bytes.now }
-    ensures within { result ≤ length bytes.now }
-{
-    for (i, b) in bytes.iter().enumerate() {
-        if !classes::is_plain_value(*b) {
-            return i;
-        }
-    }
-    bytes.len()
-}
-
-/// What follows the longest front of ASCII Chars that mean themselves in a value.
+/// What follows the longest front of plain characters of a value.
+#[inline(always)]
 pub fn after_plain_value(text: &str) -> &str
     ensures rest { chars result.now ≡ after_run is_plain_value (chars text.now) }
     ensures shorter { length result.now ≤ length text.now }
@@ -59,20 +35,7 @@ pub fn after_plain_value(text: &str) -> &str
     text.split_at(plain_value_len(text.as_bytes())).1
 }
 
-/// The length of the longest front of ASCII Chars.
-fn plain_char_len(bytes: &[u8]) -> usize
-    ensures value { result ≡ prefix_len is_plain_char bytes.now }
-    ensures within { result ≤ length bytes.now }
-{
-    for (i, b) in bytes.iter().enumerate() {
-        if !classes::is_plain_char(*b) {
-            return i;
-        }
-    }
-    bytes.len()
-}
-
-/// What follows the longest front of ASCII Chars.
+/// What follows the longest front of plain Chars.
 fn after_plain_char(text: &str) -> &str
     ensures rest { chars result.now ≡ after_run is_plain_char (chars text.now) }
     ensures shorter { length result.now ≤ length text.now }
@@ -134,6 +97,7 @@ fn after_value_piece(text: &str, quote: u8) -> Option<&str>
 }
 
 /// Whether a text ends here: at the end or at a `<`.
+#[inline(always)]
 pub fn ends_text(text: &str) -> bool
     ensures { result ≡ ends_text (chars text.now) }
 {
@@ -158,8 +122,9 @@ fn begins_end(text: &str) -> bool
     word_of(text, "]]>").is_some()
 }
 
-/// What follows the pieces of a text; None where one of them is wrong.
-pub fn after_pieces(text: &str) -> Option<&str>
+/// What follows the pieces of a text, whatever they are; None where one of them is wrong.
+#[inline(never)]
+fn after_any_pieces(text: &str) -> Option<&str>
     ensures read { option_map chars (option_copied result) ≡ skip read_pieces (chars text.now) }
     ensures shorter { IfSome result (λ r. length r.now ≤ length text.now) }
 {
@@ -170,8 +135,24 @@ pub fn after_pieces(text: &str) -> Option<&str>
     Some(rest)
 }
 
-/// What follows the pieces of a value that the quote ends, up to the quote; None where one of them is wrong.
-pub fn after_value(text: &str, quote: u8) -> Option<&str>
+/// What follows the pieces of a text; None where one of them is wrong.
+#[inline(always)]
+pub fn after_pieces(text: &str) -> Option<&str>
+    ensures read { option_map chars (option_copied result) ≡ skip read_pieces (chars text.now) }
+    ensures shorter { IfSome result (λ r. length r.now ≤ length text.now) }
+{
+    let rest = after_plain_text(text);
+    if ends_text(rest) {
+        Some(rest)
+    } else {
+        after_any_pieces(rest)
+    }
+}
+
+/// What follows the pieces of a value that the quote ends, whatever they are, up to the quote; None where one of them is
+/// wrong.
+#[inline(never)]
+fn after_any_value(text: &str, quote: u8) -> Option<&str>
     requires { quote_char (quote_of quote) ≡ quote }
     ensures read { option_map chars (option_copied result) ≡ skip (read_value (quote_of quote)) (chars text.now) }
     ensures shorter { IfSome result (λ r. length r.now ≤ length text.now) }
@@ -181,6 +162,21 @@ pub fn after_value(text: &str, quote: u8) -> Option<&str>
         rest = after_plain_value(after_value_piece(rest, quote)?);
     }
     Some(rest)
+}
+
+/// What follows the pieces of a value that the quote ends, up to the quote; None where one of them is wrong.
+#[inline(always)]
+pub fn after_value(text: &str, quote: u8) -> Option<&str>
+    requires { quote_char (quote_of quote) ≡ quote }
+    ensures read { option_map chars (option_copied result) ≡ skip (read_value (quote_of quote)) (chars text.now) }
+    ensures shorter { IfSome result (λ r. length r.now ≤ length text.now) }
+{
+    let rest = after_plain_value(text);
+    if head(rest) == quote {
+        Some(rest)
+    } else {
+        after_any_value(rest, quote)
+    }
 }
 
 /// Whether all characters may stand in a document.

@@ -6,6 +6,7 @@ ghost use Rattle.std.specs.Prelude.{◌≡◌, ◌≤◌, ◌<◌, ◌+◌, ◌-
 use xml_model::Span;
 
 /// The span from the start of one rest of the text to the start of a later one. The text begins at the place.
+#[inline(always)]
 pub fn span_between(at: u32, text: &str, from: &str, to: &str) -> Span
     requires room { at + length text.now < 2 ^ 32 }
     requires from { length from.now ≤ length text.now }

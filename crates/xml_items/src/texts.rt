@@ -11,6 +11,7 @@ use crate::spans::span_between;
 use crate::{Item, ItemKind};
 
 /// The text at the front of a text that begins at the place: to the next `<` or the end.
+#[inline(always)]
 pub fn text_item_at(text: &str, at: u32) -> Option<Item>
     requires { at + length text.now < 2 ^ 32 }
     ensures { result ≡ option_map (λ p. item_shown at p.0) (read_text (chars text.now)) }

@@ -1,20 +1,27 @@
 use Rattle.std.proofs.Common.{sym, ◌∙◌, arith, rules}
-use Rattle.std.specs.Str.{chars, IsUtf8}
-use Rattle.xml_items.proofs.StepLemmas.{attributes_more, attributes_stuck, attributes_done}
+use Rattle.std.specs.Str.{IsUtf8}
+use Rattle.xml_items.specs.Suffixes.{suffixes_seen}
+use Rattle.xml_items.proofs.StepLemmas.{space_there, space_gone}
+use Rattle.xml_items.proofs.CountLemmas.{number_done, number_unspaced, number_stuck, number_more}
 use Rattle.xml_items.proofs.tags.after_attributes.Goals as goal
 
-pub loop-rest-preserved : goal.loop-rest-preserved
-loop-rest-preserved c =
-    let v : IsUtf8 c.in_ok-rest.rest.now = search rules in
-    record {
-      same = sym (attributes_more (chars c.loop-rest.rest.now) (chars c.in_ok-rest.rest.now) (sym c.begins_attribute.ensures ∙ c.loop-rest-test.true) (sym c.in_ok-rest.ensures.read)) ∙ c.loop-rest.invariant.same;
-      shorter = omega (arith, c.in_ok-rest.ensures.shorter);
-      utf8 = v;
-    }
+pub returns-then-not-begins_name-clause-read : goal.returns-then-not-begins_name-clause-read
+returns-then-not-begins_name-clause-read c = sym c.loop-space.invariant.same ∙ number_done c.loop-space.count _ _ _ c.space_of.ensures.read (sym c.begins_name.ensures ∙ c.if-not-begins_name.true)
+
+pub returns-then-is_empty-clause-read : goal.returns-then-is_empty-clause-read
+returns-then-is_empty-clause-read c = sym c.loop-space.invariant.same ∙ number_unspaced c.loop-space.count _ _ _ c.space_of.ensures.read (sym c.begins_name.ensures ∙ c.if-not-begins_name.false) (space_gone c.space_of.result.0.now (sym c.is_empty.ensures ∙ c.if-is_empty.true))
 
 pub returns-in_err-rest-clause-read : goal.returns-in_err-rest-clause-read
 returns-in_err-rest-clause-read c =
-    rw c.from_residual.ensures (sym (sym c.loop-rest.invariant.same ∙ attributes_stuck (chars c.loop-rest.rest.now) (sym c.begins_attribute.ensures ∙ c.loop-rest-test.true) (sym c.in_err-rest.ensures.read)))
+    let v : IsUtf8 c.space_of.result.0.now = search rules in
+    rw c.from_residual.ensures (sym c.loop-space.invariant.same ∙ number_stuck c.loop-space.count _ _ _ c.space_of.ensures.read (sym c.begins_name.ensures ∙ c.if-not-begins_name.false) (space_there c.space_of.result.0.now v (sym c.is_empty.ensures ∙ c.if-is_empty.false)) c.in_err-rest.ensures.read)
 
-pub returns-clause-read : goal.returns-clause-read
-returns-clause-read c = sym (attributes_done (chars c.loop-rest.rest.now) (sym c.begins_attribute.ensures ∙ c.loop-rest-test.false)) ∙ c.loop-rest.invariant.same
+pub loop-space-preserved : goal.loop-space-preserved
+loop-space-preserved c =
+    let u : IsUtf8 c.space_of.result.0.now = search rules in
+    let v : IsUtf8 c.in_ok-rest.field-0.rest.now = search rules in
+    record {
+      same = number_more c.loop-space.count _ _ _ (suffixes_seen c.in_ok-rest.field-0) c.space_of.ensures.read (sym c.begins_name.ensures ∙ c.if-not-begins_name.false) (space_there c.space_of.result.0.now u (sym c.is_empty.ensures ∙ c.if-is_empty.false)) c.in_ok-rest.ensures.read ∙ c.loop-space.invariant.same;
+      shorter = omega (arith, c.in_ok-rest.ensures.first.0, c.in_ok-rest.ensures.first.1, c.in_ok-rest.ensures.later.0, c.in_ok-rest.ensures.later.1, c.in_ok-rest.ensures.later.2);
+      utf8 = v;
+    }

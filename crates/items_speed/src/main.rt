@@ -1,0 +1,70 @@
+//! How fast items are read: times one pass over a document beside a plain sum of its bytes and a count of its `<`.
+//! The times go to standard error, and what was counted to standard output.
+#![tactic(auto)]
+
+ghost use Rattle.std.specs.Prelude.{◌<◌, ◌^◌, length};
+ghost use Rattle.std.specs.Str.{IsUtf8};
+
+use memchr::memchr_iter;
+use std::env;
+use std::fs;
+use std::io;
+use std::time::Instant;
+use xml_items::next_item;
+
+/// The number of items from the start to the end, or to the first place where none begins.
+fn count_items(bytes: &[u8]) -> u64
+    requires utf8 { IsUtf8 bytes.now }
+    requires size { length bytes.now < 2 ^ 32 }
+{
+    let mut count = 0u64;
+    let mut at = 0;
+    for _ in 0..bytes.len() {
+        match next_item(bytes, at) {
+            Ok(Some(item)) => {
+                count = count.wrapping_add(1);
+                at = item.span.end;
+            }
+            _ => return count,
+        }
+    }
+    count
+}
+
+fn sum_of(bytes: &[u8]) -> u64 {
+    let mut sum = 0u64;
+    for byte in bytes {
+        sum = sum.wrapping_add(*byte as u64);
+    }
+    sum
+}
+
+fn main(rt: HostRuntime) -> io::Result<()> {
+    let mut words = env::args(&rt)?;
+    let _program = words.next();
+    let Some(name) = words.next() else {
+        return Ok(());
+    };
+    let document = fs::read(&rt, &name)?;
+    let bytes = document.as_slice();
+    if bytes.len() >= 1 << 32 {
+        return Ok(());
+    }
+    let start = Instant::now(&rt)?;
+    let sum = sum_of(bytes);
+    let summed = start.elapsed(&rt)?;
+    let start = Instant::now(&rt)?;
+    let angles = memchr_iter(b'<', bytes).count();
+    let counted = start.elapsed(&rt)?;
+    let start = Instant::now(&rt)?;
+    let Ok(text) = simdutf8::compat::from_utf8(bytes) else {
+        return Ok(());
+    };
+    let checked = start.elapsed(&rt)?;
+    let start = Instant::now(&rt)?;
+    let items = count_items(text.as_bytes());
+    let walked = start.elapsed(&rt)?;
+    println!(rt; "sum {sum}, angles {angles}, items {items}")?;
+    eprintln!(rt; "sum {summed:?}, memchr {counted:?}, utf8 {checked:?}, items {walked:?}")?;
+    Ok(())
+}

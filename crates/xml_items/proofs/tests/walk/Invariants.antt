@@ -1,0 +1,6 @@
+use Rattle.std.specs.Str.{IsUtf8, IsCharBoundary}
+use Rattle.std.proofs.Common.{◌≡◌}
+use Rattle.xml_items.proofs.tests.walk.Given as goal
+
+abbrev pub invariant-loop-count : goal.invariant-loop-count
+invariant-loop-count l = record { place : IsCharBoundary l.bytes l.at; utf8 : IsUtf8 l.bytes }
