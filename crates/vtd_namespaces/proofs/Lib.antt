@@ -12,4 +12,5 @@ pub mod OffenceLemmas
 pub mod AttributeLemmas
 pub mod InspectLemmas
 pub mod TagLemmas
+pub mod CheckLemmas
 pub mod RepeatLemmas
