@@ -13,4 +13,5 @@ pub mod AttributeLemmas
 pub mod InspectLemmas
 pub mod TagLemmas
 pub mod CheckLemmas
+pub mod NodeNameLemmas
 pub mod RepeatLemmas

@@ -256,3 +256,25 @@ pub named_some : (name cs : List ℕ) → is_name cs ≡ true → name ≡ encod
 unfolding is_name
 named_some name [] n e h = false≢true n
 named_some name (c ∷ cs) n e h = omega (arith, eqb-true (length name) 0 h, ap length e, Rattle.std.proofs.Common.length-append (encode c) (encode_utf8_all cs), length-encode c, (len_utf8_bounds c).0)
+
+-- local parts
+
+pub local_prefixed : (cs : List ℕ) (n : ℕ) → n ≡ size (prefix_of cs) → (n ≡ 0 → ⊥) → after_colon cs ≡ local_of cs
+local_prefixed cs n e z = sym (prefixed cs (λ k. z (e ∙ k))).local
+
+pub local_whole : (cs : List ℕ) (n : ℕ) → n ≡ size (prefix_of cs) → n ≡ 0 → is_qname cs ≡ true → cs ≡ local_of cs
+local_whole cs n e z q = sym ((unprefixed cs (sym e ∙ z)).local q)
+
+begins_with_colon : (cs : List ℕ) → (get_or cs 0 0 == 58) ≡ true → drop 1 (encode_utf8_all cs) ≡ encode_utf8_all (local_of cs)
+unfolding encode local_of
+begins_with_colon [] h = absurd (false≢true h)
+begins_with_colon (c ∷ cs) h =
+    let e : c ≡ 58 = eqb-true c 58 h in
+    subst (λ d. drop 1 (encode_utf8_all (d ∷ cs)) ≡ encode_utf8_all (local_of (d ∷ cs))) (sym e) refl
+
+pub local_behind : (name cs : List ℕ) (n : ℕ) → is_name cs ≡ true → name ≡ encode_utf8_all cs → n ≡ size (prefix_of cs) → n ≡ 0 → is_qname cs ≡ false → drop 1 name ≡ encode_utf8_all (local_of cs)
+local_behind name cs n m e h z q = ap (drop 1) e ∙ begins_with_colon cs (not_false (get_or cs 0 0 == 58) (sym ((unprefixed cs (sym h ∙ z)).qname m) ∙ q))
+  where
+    not_false : (b : Bool) → not b ≡ false → b ≡ true
+    not_false true k = refl
+    not_false false k = absurd (false≢true (sym k))

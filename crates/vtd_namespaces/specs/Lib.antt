@@ -5,3 +5,4 @@ pub mod Repeats
 pub mod Scope
 pub mod Uris
 pub mod Offences
+pub mod NodeNames

@@ -6,6 +6,7 @@ mod check;
 mod compare;
 mod declarations;
 mod filter;
+mod nodes;
 mod offences;
 mod qnames;
 mod records;
@@ -15,4 +16,5 @@ mod uri;
 mod walk;
 
 pub use check::check_names;
+pub use nodes::{local_of, prefix_of};
 pub use uri::Uri;
