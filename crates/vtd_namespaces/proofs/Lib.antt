@@ -14,4 +14,6 @@ pub mod InspectLemmas
 pub mod TagLemmas
 pub mod CheckLemmas
 pub mod NodeNameLemmas
+pub mod HolderLemmas
+pub mod UriLemmas
 pub mod RepeatLemmas

@@ -92,7 +92,7 @@ or_three a false c e = sym (ap (λ x. x || false || c) e)
 pub xmlns_offends : (name cs u : List ℕ) → name ≡ encode_utf8_all cs → bytes_eq name (codes "xmlns") ≡ false → bytes_eq name (codes "xmlns:xml") ≡ false → bytes_eq name (codes "xmlns:xmlns") ≡ true → true ≡ declaration_offends cs u
 xmlns_offends name cs u e f g t = or_three _ (is_nil u) (is_reserved u) t ∙ sym (others name cs u e f g)
 
-eq_nil : (v : List ℕ) → bytes_eq v [] ≡ is_nil v
+pub eq_nil : (v : List ℕ) → bytes_eq v [] ≡ is_nil v
 eq_nil [] = refl
 eq_nil (c ∷ v) = refl
 

@@ -6,6 +6,7 @@ mod check;
 mod compare;
 mod declarations;
 mod filter;
+mod holders;
 mod nodes;
 mod offences;
 mod qnames;
@@ -16,5 +17,5 @@ mod uri;
 mod walk;
 
 pub use check::check_names;
-pub use nodes::{local_of, prefix_of};
+pub use nodes::{local_of, matches, prefix_of, uri_of};
 pub use uri::Uri;
