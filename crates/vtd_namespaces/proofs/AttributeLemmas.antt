@@ -1,29 +1,28 @@
 -- Whether an attribute or a declaration offends.
-use Rattle.std.proofs.Common.{◌≡◌, ℕ, zero, suc, ◌+◌, ◌*◌, ◌<◌, ◌≤◌, ◌^◌, Bool, true, false, cond, not, ◌&&◌, ◌||◌, List, [], ◌∷◌, ◌++◌, length, take, get_or, refl, ap, ap₂, sym, ◌∙◌, subst, arith, Option, Some, None, is_some, bytes_eq, codes, ◌⊎◌, ⊎_elim, inl, inr, length-append}
-use Rattle.std.specs.Prelude.{encode_utf8_all, slice_get}
+use Rattle.std.proofs.Common.{◌≡◌, ℕ, ◌+◌, ◌*◌, ◌<◌, Bool, true, false, cond, not, ◌&&◌, ◌||◌, List, [], ◌∷◌, ◌++◌, length, take, get_or, refl, ap, ap₂, sym, ◌∙◌, subst, arith, Option, Some, None, is_some, bytes_eq, codes, ◌⊎◌, ⊎_elim, inl, inr, length-append}
+use Rattle.std.specs.Prelude.{slice_get}
 use Rattle.std.specs.List.{list_any, AllByRecursion as Each}
 use Rattle.std.proofs.Math.Seq.{take-append_seam, get_or-append_seam}
 use Rattle.std.proofs.lemmas.Bool.{false≢true, cases_Bool}
-use Rattle.std.proofs.lemmas.List.Folds.{list_any-append}
-use Rattle.xml_model.specs.Chars.{size, prefix_of, local_of, is_name, is_qname}
-use Rattle.xml_model.specs.Items.{Attribute, Tag, first_place, is_nil}
+use Rattle.xml_model.specs.Chars.{size, prefix_of, local_of, is_qname}
+use Rattle.xml_model.specs.Items.{Attribute, Tag, first_place}
 use Rattle.xml_model.specs.Nest.{Forest}
-use Rattle.xml_model.specs.Records.{Token, records, declares, name_token}
+use Rattle.xml_model.specs.Records.{Token, records, declares}
 use Rattle.xml_model.specs.Scan.{record_at}
-use Rattle.xml_model.specs.Tree.{Entry, Holder}
+use Rattle.xml_model.specs.Tree.{Holder}
 use Rattle.xml_model.specs.Content.{value_content}
 use Rattle.xml_model.specs.Names.{Expanded, attribute_uri, nearest, xml_uri}
 use Rattle.xml_model.specs.Accepted.{is_bound, declaration_offends, attribute_offends, expanded_of, same_expanded, seen_with}
 use Rattle.vtd_words.specs.declared.packing.Parts.{Parts}
 use Rattle.vtd_words.specs.Packed.{token_of}
 use Rattle.vtd_words.specs.Lists.{Lists}
-use Rattle.vtd_words.specs.Table.{IsTable, IsNestOf, Shows, nodes_of}
+use Rattle.vtd_words.specs.Table.{IsTable, Shows, nodes_of}
 use Rattle.vtd_words.proofs.Fitting.{nest_shown}
 use Rattle.vtd_text.specs.NameRecords.{IsDeclaration, IsNameOf}
-use Rattle.vtd_namespaces.specs.Standing.{slice_of, IsAttributeRecord}
+use Rattle.vtd_namespaces.specs.Standing.{IsAttributeRecord}
 use Rattle.vtd_namespaces.specs.Scope.{HolderIn}
 use Rattle.vtd_namespaces.specs.Uris.{IsScope, same_uri}
-use Rattle.vtd_namespaces.specs.Offences.{is_twin, seen_after, IsFine, IsWritten}
+use Rattle.vtd_namespaces.specs.Offences.{is_twin, seen_after, IsFine}
 use Rattle.vtd_namespaces.proofs.QNameLemmas.{unprefixed}
 use Rattle.vtd_namespaces.proofs.ScopeLemmas.{uri_by}
 use Rattle.vtd_namespaces.proofs.OffenceLemmas.{OtherName, other_name, scope_attribute, same_expanded_is}

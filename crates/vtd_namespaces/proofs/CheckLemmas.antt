@@ -1,10 +1,9 @@
 -- What the first fault of a document's names, or that there is none, says of the document.
-use Rattle.std.proofs.Common.{◌≡◌, ℕ, ◌+◌, ◌<◌, ◌≤◌, List, [], ◌∷◌, refl, ap, sym, ◌∙◌, arith, Option, Some, None}
-use Rattle.xml_model.specs.declared.DocFault.{DocFault}
+use Rattle.std.proofs.Common.{◌≡◌, ℕ, ◌≤◌, List, [], sym, ◌∙◌, arith, Option, Some, None}
 use Rattle.xml_model.specs.declared.DocFault.TheVariants as faults
 use Rattle.xml_model.specs.Items.{first_place}
 use Rattle.xml_model.specs.Nest.{Forest}
-use Rattle.xml_model.specs.Accepted.{Faults, over_names, repeats, offences, RefusesName, Accepted, AcceptedTo, IsRefusal, Refuses, layer}
+use Rattle.xml_model.specs.Accepted.{Faults, over_names, repeats, offences, RefusesName, Accepted, AcceptedTo, IsRefusal}
 use Rattle.xml_model.proofs.Bridge.{no_refusal_from_accepted}
 use Rattle.xml_items.proofs.PlaceLaws.{one_item_on_walks}
 use Rattle.vtd_words.specs.Lists.{Lists}

@@ -1,28 +1,26 @@
 -- From an element to the one that holds it.
-use Rattle.std.proofs.Common.{◌≡◌, ℕ, zero, suc, ◌+◌, ◌*◌, ◌<◌, ◌≤◌, ◌^◌, Bool, true, false, cond, not, ◌&&◌, ◌||◌, ◌==◌, List, [], ◌∷◌, map, length, refl, ap, ap₂, sym, ◌∙◌, subst, arith, Option, Some, None, bytes_eq, codes, IfSome, is_some}
-use Rattle.std.specs.Prelude.{encode_utf8_all}
-use Rattle.std.specs.List.{AllByRecursion as Each, Contains}
+use Rattle.std.proofs.Common.{◌≡◌, ℕ, ◌+◌, ◌*◌, ◌<◌, ◌^◌, true, false, not, ◌==◌, List, [], ◌∷◌, length, refl, ap, sym, ◌∙◌, subst, arith, Option, Some, None, IfSome, is_some}
+use Rattle.std.specs.List.{Contains}
 use Rattle.std.proofs.lemmas.Bool.{false≢true, eqb-true, and_parts}
 use Rattle.xml_model.specs.declared.Kind.{Kind}
 use Rattle.xml_model.specs.declared.Kind.TheVariants as kinds
-use Rattle.xml_model.specs.declared.Axis.TheVariants as axes
 use Rattle.xml_model.specs.declared.Node.{Node}
-use Rattle.xml_model.specs.Items.{Attribute, Tag, first_place}
+use Rattle.xml_model.specs.Items.{Tag, first_place}
 use Rattle.xml_model.specs.Nest.{Forest}
 use Rattle.xml_model.specs.Records.{Token, records}
-use Rattle.xml_model.specs.Tree.{Thing, Entry, Holder, Stands, kind_of, all, on_axis}
+use Rattle.xml_model.specs.Tree.{Thing, Entry, Holder, Stands, kind_of}
 use Rattle.xml_model.specs.Scan.{holder_by_scan}
 use Rattle.xml_model.specs.Laws.{holder_place, is_root_thing}
 use Rattle.xml_model.proofs.Each.{each_at}
 use Rattle.xml_model.proofs.Bounds.{nest_shallow}
 use Rattle.xml_model.proofs.NodeLaws.{parent_of_node, holder_of_node}
 use Rattle.vtd_words.specs.Lists.{Lists}
-use Rattle.vtd_words.specs.Table.{IsNestOf, IsNodeOf, IsParent, nodes_of}
+use Rattle.vtd_words.specs.Table.{IsNestOf, IsParent, nodes_of}
 use Rattle.vtd_words.specs.Table.{Shows}
 use Rattle.vtd_words.proofs.Fitting.{nest_shown}
 use Rattle.xml_model.specs.Names.{nearest, first_of}
 use Rattle.vtd_namespaces.specs.Standing.{AttributesStand}
-use Rattle.vtd_namespaces.specs.Scope.{HolderIn, Chain, IsDeclarationIn, IsNearest, tags_in}
+use Rattle.vtd_namespaces.specs.Scope.{Chain, IsDeclarationIn, IsNearest, tags_in}
 use Rattle.vtd_namespaces.proofs.StandingLemmas.{document_stands}
 use Rattle.vtd_namespaces.proofs.DeclarationLemmas.{chain_attributes}
 use Rattle.vtd_namespaces.specs.NodeNames.{IsElementAt}

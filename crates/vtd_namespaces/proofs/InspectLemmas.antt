@@ -1,16 +1,14 @@
 -- The names of a tag one after another: which is the first that offends.
-use Rattle.std.proofs.Common.{◌≡◌, ℕ, zero, suc, ◌+◌, ◌*◌, ◌<◌, ◌≤◌, ◌^◌, Bool, true, false, cond, not, ◌&&◌, ◌||◌, List, [], ◌∷◌, ◌++◌, length, refl, ap, ap₂, sym, ◌∙◌, subst, arith, Option, Some, None, bytes_eq, codes, append_assoc, append-nil, length-append}
+use Rattle.std.proofs.Common.{◌≡◌, ℕ, ◌+◌, ◌*◌, Bool, true, false, cond, not, ◌||◌, List, [], ◌∷◌, ◌++◌, length, refl, ap, sym, ◌∙◌, subst, arith, Some, None, bytes_eq, append_assoc, length-append}
 use Rattle.std.specs.List.{list_any, AllByRecursion as Each}
 use Rattle.std.proofs.lemmas.Bool.{false≢true}
-use Rattle.xml_model.specs.Chars.{size, prefix_of, is_qname, is_name}
-use Rattle.xml_model.specs.Items.{Attribute, Tag, first_place, written_attribute}
-use Rattle.xml_model.specs.Nest.{Forest}
-use Rattle.xml_model.specs.Records.{Token, records, declares, attributes_place}
+use Rattle.xml_model.specs.Chars.{size, prefix_of, is_qname}
+use Rattle.xml_model.specs.Items.{Attribute, Tag, written_attribute}
+use Rattle.xml_model.specs.Records.{Token, declares}
 use Rattle.xml_model.specs.Scan.{record_at}
-use Rattle.xml_model.specs.Tree.{Entry, Holder}
 use Rattle.xml_model.specs.Content.{value_content}
 use Rattle.xml_model.specs.Names.{Expanded}
-use Rattle.xml_model.specs.Accepted.{name_place, repeated, is_bound, declaration_offends, attribute_offends, offending_attributes, expanded_of, same_expanded, seen_with, tag_offends}
+use Rattle.xml_model.specs.Accepted.{name_place, repeated, is_bound, declaration_offends, attribute_offends, offending_attributes, expanded_of, same_expanded, seen_with}
 use Rattle.xml_model.proofs.Each.{each_append}
 use Rattle.vtd_words.specs.declared.packing.Parts.{Parts}
 use Rattle.vtd_words.specs.Packed.{token_of}

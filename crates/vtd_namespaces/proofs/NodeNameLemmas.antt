@@ -1,20 +1,17 @@
 -- The names of nodes, by their first records.
-use Rattle.std.proofs.Common.{◌≡◌, ℕ, zero, suc, ◌+◌, ◌<◌, ◌≤◌, ◌^◌, Bool, true, false, cond, ◌&&◌, ◌==◌, List, [], ◌∷◌, map, length, refl, ap, ap₂, sym, ◌∙◌, subst, arith, Option, Some, None, bytes_eq, codes, eq-eqb, ne_eqb, is_some}
+use Rattle.std.proofs.Common.{◌≡◌, ℕ, suc, ◌<◌, ◌^◌, true, ◌==◌, List, [], ◌∷◌, length, refl, ap, sym, ◌∙◌, subst, arith, Option, Some, bytes_eq, codes, ne_eqb}
 use Rattle.std.specs.Prelude.{encode_utf8_all, IsUtf8}
-use Rattle.std.specs.List.{AllByRecursion as Each, Contains}
 use Rattle.std.specs.Str.{chars}
 use Rattle.std.proofs.Math.Utf8.{encode}
-use Rattle.std.proofs.lemmas.Bool.{false≢true, false_from_ne_true}
 use Rattle.std.proofs.lemmas.Str.{encodes-chars, chars-nil}
-use Rattle.std.proofs.lemmas.Slice.Eq.{bytes_eq-Decides}
 use Rattle.xml_model.specs.declared.Kind.{Kind}
 use Rattle.xml_model.specs.declared.Kind.TheVariants as kinds
 use Rattle.xml_model.specs.Chars.{size, prefix_of, local_of, is_name}
-use Rattle.xml_model.specs.Items.{Attribute, Tag, Instruction, first_place}
+use Rattle.xml_model.specs.Items.{first_place}
 use Rattle.xml_model.specs.Nest.{Forest}
 use Rattle.xml_model.specs.Records.{Token, records}
 use Rattle.xml_model.specs.Scan.{record_at, kind_of_token}
-use Rattle.xml_model.specs.Tree.{Thing, Entry, Holder, Stands, kind_of}
+use Rattle.xml_model.specs.Tree.{Thing, Entry, Stands, kind_of}
 use Rattle.xml_model.specs.Names.{xml_uri}
 use Rattle.xml_model.specs.Laws.{FirstRecordShows}
 use Rattle.xml_model.proofs.Each.{each_at}
@@ -29,7 +26,6 @@ use Rattle.vtd_namespaces.specs.Standing.{slice_of, ThingStands, StandsAt}
 use Rattle.vtd_namespaces.specs.NodeNames.{HasName, node_prefix, node_local}
 use Rattle.vtd_namespaces.proofs.StandingLemmas.{document_stands}
 use Rattle.vtd_namespaces.proofs.RepeatLemmas.{eq_encoded}
-use Rattle.vtd_namespaces.proofs.OffenceLemmas.{xml_chars}
 
 -- an element or an attribute, by its record
 pub record IsNamed (bytes : List ℕ) (p : Parts) (what : Thing) : Type 0 where

@@ -1,10 +1,10 @@
 -- The offences of single names.
-use Rattle.std.proofs.Common.{◌≡◌, ℕ, zero, suc, ◌+◌, ◌*◌, ◌<◌, ◌≤◌, ◌^◌, Bool, true, false, cond, not, ◌&&◌, ◌||◌, List, [], ◌∷◌, ◌++◌, length, take, get_or, refl, ap, ap₂, sym, ◌∙◌, subst, arith, Option, Some, None, is_some, bytes_eq, codes, ◌-◌}
+use Rattle.std.proofs.Common.{◌≡◌, ℕ, zero, suc, ◌+◌, ◌*◌, ◌<◌, Bool, true, false, cond, not, ◌&&◌, ◌||◌, List, [], ◌∷◌, length, take, get_or, refl, ap, ap₂, sym, ◌∙◌, subst, arith, Option, Some, None, is_some, bytes_eq, codes, ◌-◌}
 use Rattle.std.specs.Prelude.{encode_utf8_all}
-use Rattle.std.specs.List.{list_any, AllByRecursion as Each}
+use Rattle.std.specs.List.{list_any}
 use Rattle.std.specs.Str.{chars}
 use Rattle.std.proofs.Math.Utf8.{encode}
-use Rattle.std.proofs.lemmas.Bool.{false≢true, false_from_ne_true, and_parts}
+use Rattle.std.proofs.lemmas.Bool.{false≢true}
 use Rattle.std.proofs.lemmas.Str.{chars-nil}
 use Rattle.std.proofs.lemmas.List.Folds.{list_any_more, list_any_kept}
 use Rattle.xml_model.specs.Chars.{size, prefix_of, local_of, after_colon, is_name}
@@ -12,14 +12,13 @@ use Rattle.xml_model.specs.Items.{Attribute, Tag, first_place, is_nil, written_a
 use Rattle.xml_model.specs.Nest.{Forest}
 use Rattle.xml_model.specs.Records.{Token, records, declares, name_token}
 use Rattle.xml_model.specs.Scan.{record_at}
-use Rattle.xml_model.specs.Tree.{Entry, Holder}
-use Rattle.xml_model.specs.Content.{value_content}
+use Rattle.xml_model.specs.Tree.{Holder}
 use Rattle.xml_model.specs.Names.{Expanded, attribute_uri, xml_uri, xmlns_uri}
-use Rattle.xml_model.specs.Accepted.{name_place, is_bound, is_reserved, declaration_offends, expanded_of, same_expanded}
+use Rattle.xml_model.specs.Accepted.{name_place, is_reserved, declaration_offends, expanded_of, same_expanded}
 use Rattle.vtd_words.specs.declared.packing.Parts.{Parts}
 use Rattle.vtd_words.specs.Packed.{token_of}
 use Rattle.vtd_words.specs.Lists.{Lists}
-use Rattle.vtd_words.specs.Table.{IsNestOf, Shows, nodes_of}
+use Rattle.vtd_words.specs.Table.{nodes_of}
 use Rattle.vtd_namespaces.specs.Standing.{slice_of, IsAttributeRecord, AttributesStand}
 use Rattle.vtd_namespaces.specs.Uris.{IsScope, same_uri}
 use Rattle.vtd_namespaces.proofs.StandingLemmas.{document_stands}

@@ -1,15 +1,13 @@
 -- The tags that are open at a record are those that the last tags of each depth are.
-use Rattle.std.proofs.Common.{◌≡◌, ℕ, zero, suc, ◌+◌, ◌<◌, ◌≤◌, Bool, true, false, cond, ◌&&◌, ◌==◌, nat_lt, List, [], ◌∷◌, ◌++◌, map, length, take, set, refl, ap, ap₂, sym, ◌∙◌, subst, arith, Option, Some, None, length-append, get_or-set_same, get_or-set_other, ◌≢◌, ◌⊎◌, ⊎_elim, inl, inr}
+use Rattle.std.proofs.Common.{◌≡◌, ℕ, zero, suc, ◌+◌, ◌<◌, ◌≤◌, Bool, true, false, cond, ◌&&◌, ◌==◌, nat_lt, List, [], ◌∷◌, length, set, refl, ap, ap₂, sym, ◌∙◌, subst, arith, Some, get_or-set_same, get_or-set_other, ◌⊎◌, ⊎_elim, inl, inr}
 use Rattle.std.specs.Prelude.{replicate}
 use Rattle.std.specs.List.{slice_index_or, Contains}
 use Rattle.std.proofs.lemmas.Bool.{eq-eqb, lt-ltb, cases_lt}
-use Rattle.std.proofs.Math.Seq.{take-append_seam}
 use Rattle.std.proofs.Math.ListN.{get_or-append}
 use Rattle.xml_model.specs.Records.{Token, document, records}
-use Rattle.xml_model.specs.declared.Kind.{Kind}
 use Rattle.xml_model.specs.declared.Kind.TheVariants as kinds
 use Rattle.xml_model.specs.Scan.{record_at, level_of, tag_or, last_tag, kind_of_token}
-use Rattle.xml_model.specs.Tree.{Thing, Entry, Holder, all, kind_of}
+use Rattle.xml_model.specs.Tree.{Entry, Holder, all, kind_of}
 use Rattle.xml_model.specs.Nest.{Forest}
 use Rattle.xml_model.specs.Laws.{holder_place}
 use Rattle.xml_model.proofs.Each.{each_at}

@@ -1,5 +1,5 @@
 -- Whether a tag's names offend, and what a document's nodes have of it.
-use Rattle.std.proofs.Common.{◌≡◌, ℕ, zero, suc, ◌+◌, ◌*◌, ◌<◌, ◌≤◌, ◌^◌, Bool, true, false, cond, not, ◌&&◌, ◌||◌, List, [], ◌∷◌, ◌++◌, map, length, refl, ap, ap₂, sym, ◌∙◌, subst, arith, Option, Some, None, bytes_eq, codes, ◌==◌, ◌⊎◌, ⊎_elim, IfSome, is_some}
+use Rattle.std.proofs.Common.{◌≡◌, ℕ, suc, ◌+◌, ◌<◌, ◌^◌, Bool, true, false, cond, not, ◌||◌, List, [], ◌∷◌, ◌++◌, length, refl, ap, ap₂, sym, ◌∙◌, subst, arith, Option, Some, None, bytes_eq, codes, ◌==◌, ◌⊎◌, ⊎_elim, IfSome, is_some}
 use Rattle.std.specs.Prelude.{encode_utf8_all}
 use Rattle.std.specs.List.{AllByRecursion as Each, Contains, flat_map}
 use Rattle.std.proofs.Math.Utf8.{encode}
@@ -7,11 +7,11 @@ use Rattle.std.proofs.lemmas.Bool.{false≢true}
 use Rattle.xml_model.specs.declared.Kind.{Kind}
 use Rattle.xml_model.specs.declared.Kind.TheVariants as kinds
 use Rattle.xml_model.specs.Chars.{size, prefix_of, is_name, is_qname, has_colon}
-use Rattle.xml_model.specs.Items.{Attribute, Tag, Instruction, first_place}
+use Rattle.xml_model.specs.Items.{Tag, first_place}
 use Rattle.xml_model.specs.Nest.{Forest}
 use Rattle.xml_model.specs.Records.{Token, records, attributes_place}
 use Rattle.xml_model.specs.Scan.{record_at, level_of, kind_of_token, is_start_token}
-use Rattle.xml_model.specs.Tree.{Thing, Entry, Holder, all, kind_of, Stands}
+use Rattle.xml_model.specs.Tree.{Thing, Entry, Holder, all, kind_of}
 use Rattle.xml_model.specs.Names.{tags_of}
 use Rattle.xml_model.specs.Laws.{FirstRecordShows}
 use Rattle.xml_model.specs.Accepted.{Faults, over_names, repeated, repeats, offences, is_bound, tag_offends, offending_tag, offending_attributes}
@@ -23,8 +23,8 @@ use Rattle.vtd_words.specs.Packed.{token_of}
 use Rattle.vtd_words.specs.Lists.{Lists}
 use Rattle.vtd_words.specs.Table.{IsNestOf, Shows, nodes_of}
 use Rattle.vtd_words.proofs.Fitting.{nest_shown}
-use Rattle.vtd_namespaces.specs.Standing.{slice_of, TagStands, InstructionStands, ThingStands, StandsAt}
-use Rattle.vtd_namespaces.specs.Scope.{HolderIn, Chain, Opened, IsOpenBefore, tags_in}
+use Rattle.vtd_namespaces.specs.Standing.{slice_of, TagStands, ThingStands, StandsAt}
+use Rattle.vtd_namespaces.specs.Scope.{HolderIn, Chain, IsOpenBefore, tags_in}
 use Rattle.vtd_namespaces.specs.Uris.{IsScope}
 use Rattle.vtd_namespaces.specs.Faults.{first_of, node_faults, thing_faults, OffenceAt}
 use Rattle.vtd_namespaces.proofs.Shown.{shown_length}
@@ -177,8 +177,8 @@ pub element_offence : (bytes : List ℕ) (lists : Lists) (nest : Forest) → len
 element_offence bytes lists nest few s h open_tags at depth r o t d told =
     each_more (Known bytes nest) (λ e. e.place ≡ at → r ≡ first_of (node_faults offences e))
     (λ e k p.
-      let x = tag_known bytes lists nest few s open_tags at depth o t d e p k in
-      told (record { tag = x.tag; place = at }) e.holders x.scope refl e.start x.stands x.unrepeated ∙ sym (ap (λ w. first_of (thing_faults offences e.start (tags_of e) w)) x.what))
+    let x = tag_known bytes lists nest few s open_tags at depth o t d e p k in
+    told (record { tag = x.tag; place = at }) e.holders x.scope refl e.start x.stands x.unrepeated ∙ sym (ap (λ w. first_of (thing_faults offences e.start (tags_of e) w)) x.what))
     (nodes_of bytes nest) (all_known bytes lists nest s h)
 
 -- an instruction
@@ -206,8 +206,8 @@ instruction_offence bytes lists nest few s at p r here t told =
     let token : (record_at at rs).token ≡ 7 = sym (ap (λ x. x.token) e') ∙ t in
     each_both (FirstRecordShows rs) (StandsAt bytes rs) (λ e. e.place ≡ at → cond r (Some p.offset) None ≡ first_of (node_faults offences e))
     (λ e f w h.
-      let kind : kind_of e.what ≡ kinds.Instruction = same_kind _ _ (sym f.kind ∙ ap (λ k. kind_of_token (record_at k rs).token) h ∙ ap kind_of_token token) in
-      instruction_by bytes rs p e.place e.start (tags_of e) e.what r (e' ∙ ap (λ n. record_at n rs) (sym h)) kind w told)
+    let kind : kind_of e.what ≡ kinds.Instruction = same_kind _ _ (sym f.kind ∙ ap (λ k. kind_of_token (record_at k rs).token) h ∙ ap kind_of_token token) in
+    instruction_by bytes rs p e.place e.start (tags_of e) e.what r (e' ∙ ap (λ n. record_at n rs) (sym h)) kind w told)
     (nodes_of bytes nest) (first_records nest (first_place bytes) (nest_shallow nest s.accepted.document.nests)) (document_stands bytes nest s.accepted.document)
 
 -- another record

@@ -1,26 +1,25 @@
 -- The URI of a prefix and the expanded name of a node.
-use Rattle.std.proofs.Common.{◌≡◌, ℕ, zero, suc, ◌+◌, ◌<◌, ◌^◌, Bool, true, false, cond, ◌&&◌, ◌==◌, List, [], ◌∷◌, map, length, refl, ap, ap₂, sym, ◌∙◌, subst, arith, Option, Some, None, bytes_eq, codes}
+use Rattle.std.proofs.Common.{◌≡◌, ℕ, Bool, true, false, cond, ◌&&◌, List, [], ◌∷◌, length, refl, ap, ap₂, sym, ◌∙◌, subst, Option, Some, None, bytes_eq, codes}
 use Rattle.std.specs.Prelude.{encode_utf8_all, IsUtf8}
 use Rattle.std.specs.Option.{unwrap_or}
-use Rattle.std.specs.List.{AllByRecursion as Each, Contains}
+use Rattle.std.specs.List.{Contains}
 use Rattle.std.specs.Str.{chars}
-use Rattle.std.proofs.lemmas.Bool.{false≢true}
 use Rattle.std.proofs.lemmas.Str.{chars-nil}
 use Rattle.xml_model.specs.declared.Kind.{Kind}
 use Rattle.xml_model.specs.declared.Kind.TheVariants as kinds
 use Rattle.xml_model.specs.declared.Node.{Node}
-use Rattle.xml_model.specs.Chars.{size, prefix_of, local_of}
+use Rattle.xml_model.specs.Chars.{prefix_of}
 use Rattle.xml_model.specs.Items.{Attribute, Tag, first_place, is_nil}
 use Rattle.xml_model.specs.Nest.{Forest}
 use Rattle.xml_model.specs.Tree.{Thing, Entry, Holder, Stands, kind_of}
 use Rattle.xml_model.specs.Content.{value_content}
-use Rattle.xml_model.specs.Names.{Expanded, binding, attribute_uri, declared, unless_empty, nearest, xml_uri, expanded, expanded_name, tags_of, NameTest, any, any_in, named, name_passes}
+use Rattle.xml_model.specs.Names.{binding, attribute_uri, declared, nearest, xml_uri, expanded, expanded_name, tags_of, NameTest, any, any_in, named, name_passes}
 use Rattle.xml_model.specs.Laws.{holder_place}
 use Rattle.vtd_words.specs.Lists.{Lists}
 use Rattle.vtd_words.specs.Table.{IsNestOf, IsNodeOf, IsParent, nodes_of}
 use Rattle.vtd_text.specs.NameRecords.{IsNameOf}
 use Rattle.xml_model.proofs.Each.{each_at}
-use Rattle.vtd_namespaces.specs.Scope.{IsNearest, HolderIn, Chain, tags_in}
+use Rattle.vtd_namespaces.specs.Scope.{IsNearest, Chain, tags_in}
 use Rattle.vtd_namespaces.specs.NodeNames.{HasName, HasExpandedName, with_own, reaching, node_prefix, node_local, uri_in, IsElementAt}
 use Rattle.vtd_namespaces.proofs.ChainLemmas.{document_chain}
 use Rattle.vtd_namespaces.proofs.DeclarationLemmas.{empty_encoded}

@@ -1,5 +1,5 @@
 -- The faults of a document's names, node by node.
-use Rattle.std.specs.Prelude.{◌≡◌, ℕ, ◌+◌, List, [], ◌∷◌, map, Option, Some, None}
+use Rattle.std.specs.Prelude.{◌≡◌, ℕ, ◌+◌, List, [], ◌∷◌, Option, Some, None}
 use Rattle.xml_model.specs.Items.{Tag}
 use Rattle.xml_model.specs.Tree.{Thing, Entry}
 use Rattle.xml_model.specs.Names.{tags_of}

@@ -1,15 +1,13 @@
 -- The names of nodes: Namespaces in XML 1.0, sections 2.1 and 6, and XPath 1.0, sections 2.3 and 5.
-use Rattle.std.specs.Prelude.{◌≡◌, ℕ, List, [], ◌∷◌, Option, Some, None}
+use Rattle.std.specs.Prelude.{ℕ, List, [], ◌∷◌, Option, Some, None}
 use Rattle.std.specs.Str.{chars}
 use Rattle.xml_model.specs.declared.Kind.{Kind}
 use Rattle.xml_model.specs.declared.Kind.TheVariants as kinds
-use Rattle.xml_model.specs.declared.Node.{Node}
 use Rattle.xml_model.specs.declared.NameTest.{NameTest as Tested}
 use Rattle.xml_model.specs.declared.NameTest.TheVariants as tested
 use Rattle.xml_model.specs.Chars.{prefix_of, local_of}
-use Rattle.xml_model.specs.Items.{Tag}
 use Rattle.xml_model.specs.Tree.{Thing, Entry, Holder}
-use Rattle.xml_model.specs.Names.{Expanded, NameTest, expanded, any, any_in, named}
+use Rattle.xml_model.specs.Names.{Expanded, NameTest, any, any_in, named}
 use Rattle.vtd_words.specs.Lists.{Lists}
 use Rattle.vtd_words.specs.Table.{IsNodeOf}
 

@@ -1,11 +1,9 @@
 -- The offences of a tag's names, name by name.
-use Rattle.std.specs.Prelude.{◌≡◌, ℕ, ◌+◌, ◌<◌, Bool, true, not, ◌&&◌, List, [], ◌∷◌, take, is_some, encode_utf8_all}
-use Rattle.std.specs.Prelude.{⊤}
-use Rattle.std.specs.List.{AllByRecursion}
+use Rattle.std.specs.Prelude.{◌≡◌, ℕ, Bool, true, not, ◌&&◌, List, [], ◌∷◌, encode_utf8_all}
 use Rattle.xml_model.specs.Chars.{size, prefix_of, is_name, is_qname}
 use Rattle.xml_model.specs.Items.{Attribute, Tag}
 use Rattle.xml_model.specs.Records.{declares}
-use Rattle.xml_model.specs.Names.{Expanded, attribute_uri}
+use Rattle.xml_model.specs.Names.{Expanded}
 use Rattle.xml_model.specs.Accepted.{expanded_of, seen_with, same_expanded, is_bound}
 
 -- whether an attribute under tags has the expanded name of another; a declaration has none: Namespaces in XML 1.0, section 6.3

@@ -97,7 +97,13 @@ fn is_twin_at<W: Words>(scope: &Scope<'_, '_, W>, at: u32, name: &[u8], prefix_l
 
 /// Whether one of so many attributes of the nearest tag has the local part and the URI of an attribute whose prefix is not
 /// empty and is bound; the record of the first of them has the index `first`.
-fn has_twin<W: Words>(scope: &Scope<'_, '_, W>, first: u32, count: u32, name: &[u8], prefix_len: u32) -> bool
+fn has_twin<W: Words>(
+    scope: &Scope<'_, '_, W>,
+    first: u32,
+    count: u32,
+    name: &[u8],
+    prefix_len: u32,
+) -> bool
     requires room { first + 2 * count ≤ length (list_of Part.Records (W.lists scope.now.table.now.words)) }
     requires bound { first + 2 * count < 2 ^ 32 }
     requires prefix { 0 < prefix_len }
@@ -116,7 +122,12 @@ fn has_twin<W: Words>(scope: &Scope<'_, '_, W>, first: u32, count: u32, name: &[
 
 /// Whether an attribute or a declaration of the nearest tag offends, by the number of attributes before it, none of which
 /// offends; the record of the first of them has the index `first`. No two of them have one name.
-fn attribute_offends<W: Words>(scope: &Scope<'_, '_, W>, first: u32, number: u32, parts: Parts) -> bool
+fn attribute_offends<W: Words>(
+    scope: &Scope<'_, '_, W>,
+    first: u32,
+    number: u32,
+    parts: Parts,
+) -> bool
     requires room { first + 2 * number < length (list_of Part.Records (W.lists scope.now.table.now.words)) }
     requires bound { first + 2 * number < 2 ^ 32 }
     requires here { (rs : List Token) → Shows (list_of Part.Records (W.lists scope.now.table.now.words)) rs → token_of parts ≡ record_at (first + 2 * number) rs }

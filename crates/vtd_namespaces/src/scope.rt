@@ -6,8 +6,8 @@ ghost use Rattle.xml_model.specs.Nest.{Forest};
 ghost use Rattle.xml_model.specs.Tree.{Holder};
 ghost use Rattle.vtd_words.specs.Table.{nodes_of};
 
-use crate::declarations::declaration_for;
 use crate::compare::same_uri;
+use crate::declarations::declaration_for;
 use crate::uri::Uri;
 use vtd_text::Chars;
 use vtd_words::{Table, Words};

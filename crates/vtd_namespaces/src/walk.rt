@@ -21,7 +21,12 @@ use vtd_words::{Part, Parts, Table, Words};
 
 /// Where the first name of an element's tag begins that offends. The list has the indexes of the tags that are open there, by
 /// their depth, with its own.
-fn element_offence<W: Words>(table: &Table<'_, W>, open_tags: &[u32; 256], at: u32, depth: u8) -> Option<u32>
+fn element_offence<W: Words>(
+    table: &Table<'_, W>,
+    open_tags: &[u32; 256],
+    at: u32,
+    depth: u8,
+) -> Option<u32>
     requires room { at < length (list_of Part.Records (W.lists table.now.words)) }
     requires tags { (k : ℕ) → slice_index_or open_tags.now k 0 < length (list_of Part.Records (W.lists table.now.words)) }
     requires tag { (rs : List Token) → Shows (list_of Part.Records (W.lists table.now.words)) rs → (record_at at rs).token ≡ 0 }

@@ -1,4 +1,4 @@
-use Rattle.std.proofs.Common.{◌≡◌, ◌∙◌, ap, sym, bytes_eq, [], ◌==◌, length}
+use Rattle.std.proofs.Common.{◌∙◌, ap, sym, bytes_eq, []}
 use Rattle.std.specs.Option.{unwrap_or}
 use Rattle.std.specs.Str.{chars}
 use Rattle.vtd_namespaces.specs.Uris.{uri_value}

@@ -1,4 +1,4 @@
-use Rattle.std.proofs.Common.{◌≡◌, ◌∙◌, sym, arith}
+use Rattle.std.proofs.Common.{◌∙◌, sym}
 use Rattle.vtd_namespaces.proofs.ScopeLemmas.{declaration_there}
 use Rattle.vtd_namespaces.proofs.HolderLemmas.{all_above, none_above, next_above}
 use Rattle.vtd_namespaces.proofs.holders.declaration_above.Goals as goal

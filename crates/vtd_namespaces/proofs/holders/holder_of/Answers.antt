@@ -1,4 +1,4 @@
-use Rattle.std.proofs.Common.{◌≡◌, ◌∙◌, ◌<◌, arith, refl, ℕ}
+use Rattle.std.proofs.Common.{◌≡◌, arith, refl}
 use Rattle.xml_model.specs.Laws.{holder_place}
 use Rattle.vtd_namespaces.proofs.HolderLemmas.{element_at, holder_found, holder_lower, holder_element}
 use Rattle.vtd_namespaces.proofs.holders.holder_of.Goals as goal

@@ -1,4 +1,3 @@
-use Rattle.std.proofs.Common.{refl}
 use Rattle.vtd_namespaces.proofs.UriLemmas.{owner_reaching, owner_element}
 use Rattle.vtd_namespaces.proofs.holders.nearest_element.Goals as goal
 

@@ -1,4 +1,4 @@
-use Rattle.std.proofs.Common.{◌≡◌, ◌∙◌, sym}
+use Rattle.std.proofs.Common.{◌∙◌, sym}
 use Rattle.std.proofs.lemmas.Bool.{eqb-true}
 use Rattle.vtd_namespaces.specs.Scope.{tags_in}
 use Rattle.vtd_namespaces.proofs.DeclarationLemmas.{some_length}
@@ -22,8 +22,8 @@ returns-else-is_empty g c = λ nest s hs k h p e.
     elim c.else-is_empty.branch [
       | else-is_empty-via-then-is_empty+else-equals_str w ↦
           bind_kept c.args.table.now.bytes nest hs c.args.prefix.now p c.declaration_above.result c.in-Some.at c.of_declaration-in-Some.result w.of_declaration.result w.equals_str.result e (sym c.eq.ensures ∙ c.if-eq.false) c.in-Some.is (c.declaration_above.ensures.found nest s hs k h p e)
-              (c.of_declaration-in-Some.ensures nest s) (w.of_declaration.ensures nest s) (eqb-true _ _ (sym c.is_empty.ensures ∙ w.if-is_empty.true)) w.equals_str.ensures w.if-equals_str.false
+          (c.of_declaration-in-Some.ensures nest s) (w.of_declaration.ensures nest s) (eqb-true _ _ (sym c.is_empty.ensures ∙ w.if-is_empty.true)) w.equals_str.ensures w.if-equals_str.false
       | else-is_empty-via-else-is_empty w ↦
           bind_prefix c.args.table.now.bytes nest hs c.args.prefix.now p c.declaration_above.result c.in-Some.at c.of_declaration-in-Some.result e (sym c.eq.ensures ∙ c.if-eq.false) c.in-Some.is (c.declaration_above.ensures.found nest s hs k h p e)
-              (c.of_declaration-in-Some.ensures nest s) (some_length c.args.prefix.now (sym c.is_empty.ensures ∙ w.if-is_empty.false))
+          (c.of_declaration-in-Some.ensures nest s) (some_length c.args.prefix.now (sym c.is_empty.ensures ∙ w.if-is_empty.false))
     ]

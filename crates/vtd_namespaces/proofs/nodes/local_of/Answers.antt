@@ -1,4 +1,4 @@
-use Rattle.std.proofs.Common.{◌≡◌, ◌∙◌, ap, sym}
+use Rattle.std.proofs.Common.{◌∙◌, ap, sym}
 use Rattle.std.specs.Prelude.{encode_utf8_all}
 use Rattle.vtd_words.specs.Packed.{token_of}
 use Rattle.vtd_words.proofs.Nodes.{at_room}

@@ -1,4 +1,4 @@
-use Rattle.std.proofs.Common.{◌≡◌, ◌∙◌, ap, sym, subst, refl}
+use Rattle.std.proofs.Common.{◌∙◌, ap, sym, subst}
 use Rattle.vtd_namespaces.specs.NodeNames.{test_of, HasExpandedName}
 use Rattle.vtd_namespaces.specs.Uris.{uri_value}
 use Rattle.vtd_namespaces.proofs.UriLemmas.{passes_any, passes_any_in, passes_named, passes_other}

@@ -1,10 +1,9 @@
 use Rattle.std.proofs.Common.{◌≡◌, ◌∙◌, ap, sym}
-use Rattle.std.specs.Prelude.{encode_utf8_all}
 use Rattle.std.proofs.lemmas.Bool.{eqb-true}
 use Rattle.vtd_namespaces.specs.NodeNames.{node_prefix, reaching}
 use Rattle.vtd_namespaces.proofs.DeclarationLemmas.{empty_encoded, some_length}
 use Rattle.vtd_namespaces.proofs.ScopeLemmas.{not_empty}
-use Rattle.vtd_namespaces.proofs.UriLemmas.{uri_told, attribute_without, instruction_without, other_kind, element_expanded, attribute_expanded, expanded_named, reaching_chain}
+use Rattle.vtd_namespaces.proofs.UriLemmas.{uri_told, attribute_without, instruction_without, other_kind, element_expanded, attribute_expanded, reaching_chain}
 use Rattle.vtd_namespaces.proofs.nodes.uri_of.Goals as goal
 
 pub returns-then-is_empty : goal.returns-then-is_empty

@@ -1,4 +1,4 @@
-use Rattle.std.proofs.Common.{◌≡◌, ◌∙◌, ◌+◌, ◌*◌, ◌∷◌, ap, sym, arith, ℕ, length, length-append}
+use Rattle.std.proofs.Common.{◌∙◌, ◌+◌, ◌*◌, ◌∷◌, ap, sym, arith, length, length-append}
 use Rattle.std.specs.List.{list_any}
 use Rattle.vtd_words.specs.Packed.{token_of}
 use Rattle.vtd_namespaces.specs.Standing.{slice_of}

@@ -1,4 +1,4 @@
-use Rattle.std.proofs.Common.{◌≡◌, ◌∙◌, ◌+◌, ◌*◌, ◌≤◌, ◌<◌, ◌^◌, ◌∷◌, sym, arith, length}
+use Rattle.std.proofs.Common.{◌∙◌, ◌∷◌, sym, arith}
 use Rattle.xml_model.specs.Items.{first_place}
 use Rattle.xml_model.specs.Records.{records}
 use Rattle.vtd_words.proofs.Fitting.{nest_shown}

@@ -1,4 +1,4 @@
-use Rattle.std.proofs.Common.{◌≡◌, ◌∙◌, ◌+◌, ◌*◌, ◌<◌, sym, arith, true, false, length, get_or, ◌∷◌}
+use Rattle.std.proofs.Common.{◌≡◌, ◌∙◌, ◌<◌, sym, arith, length, get_or, ◌∷◌}
 use Rattle.xml_model.specs.Items.{first_place}
 use Rattle.xml_model.specs.Records.{records}
 use Rattle.vtd_words.proofs.Fitting.{nest_shown}

@@ -1,4 +1,4 @@
-use Rattle.std.proofs.Common.{◌≡◌, ◌∙◌, ap, sym, arith, ℕ, List}
+use Rattle.std.proofs.Common.{◌∙◌, ap, sym, arith}
 use Rattle.vtd_words.specs.Packed.{token_of}
 use Rattle.vtd_namespaces.specs.Standing.{slice_of}
 use Rattle.vtd_namespaces.specs.Scope.{tags_in}

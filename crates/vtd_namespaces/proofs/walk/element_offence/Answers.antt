@@ -1,4 +1,3 @@
-use Rattle.std.proofs.Common.{refl}
 use Rattle.xml_model.specs.Items.{first_place}
 use Rattle.xml_model.specs.Records.{records}
 use Rattle.vtd_words.proofs.Fitting.{nest_shown}

@@ -1,9 +1,6 @@
-use Rattle.std.proofs.Common.{◌≡◌, ◌∙◌, ap, sym, cond, Some, None, ℕ, List}
-use Rattle.std.specs.Prelude.{encode_utf8_all}
+use Rattle.std.proofs.Common.{◌∙◌, ap, cond, Some, None}
 use Rattle.vtd_words.specs.Packed.{token_of}
 use Rattle.vtd_namespaces.specs.Standing.{slice_of}
-use Rattle.vtd_namespaces.specs.Faults.{OffenceAt}
-use Rattle.vtd_words.specs.Table.{nodes_of}
 use Rattle.vtd_namespaces.proofs.TagLemmas.{instruction_offence, offence_for}
 use Rattle.vtd_namespaces.proofs.walk.instruction_offence.Goals as goal
 
