@@ -1,6 +1,6 @@
 //! Documents with their records, built from bytes.
 
-ghost use Rattle.std.specs.Prelude.{◌≡◌, ◌+◌, ◌^◌, ◌<◌, ◌≤◌, length, vec_len, IfErr, IfOk};
+ghost use Rattle.std.specs.Prelude.{◌≡◌, ◌+◌, ◌^◌, ◌<◌, ◌≤◌, length, vec_len, IfErr, IfOk, OnOk};
 ghost use Rattle.xml_model.specs.declared.DocFault.{DocFault};
 ghost use Rattle.xml_model.specs.Nest.{Forest};
 ghost use Rattle.xml_model.specs.Accepted.{Accepted, IsRefusal, layer};
@@ -13,6 +13,7 @@ use crate::filling::Filling;
 use std::alloc::Global;
 use std::marker::Model;
 use vtd_location::Nav;
+use vtd_namespaces::check_names;
 use vtd_words::{Counts, Table, WordVec};
 use xml_acceptance::check;
 use xml_model::{DocFault, NoMemory};
@@ -83,6 +84,17 @@ fn reserve(alloc: Global, counts: Counts) -> Result<Filling, NoMemory>
     })
 }
 
+/// Whether the names of a document are accepted, by its records.
+fn check_recorded(bytes: &[u8], words: &WordVec) -> Result<(), DocFault>
+    requires size { length bytes.now < 2 ^ 30 }
+    requires accepted { (nest : Forest) × Accepted 6 bytes.now nest }
+    requires recorded { (nest : Forest) → Accepted 6 bytes.now nest → words.now.lists ≡ words_of bytes.now nest }
+    ensures accepted { OnOk result ((nest : Forest) → Accepted 6 bytes.now nest → Accepted layers bytes.now nest) }
+    ensures refused { IfErr result (λ fault. IsRefusal bytes.now fault × (layer fault ≤ layers)) }
+{
+    check_names(&Table::of(bytes, words))
+}
+
 /// The document of the bytes, with the words of its records; its levels are empty. All memory is taken at once, after the
 /// check, so `NoMemory` comes only where no check refuses the bytes.
 ///
@@ -95,7 +107,7 @@ pub fn build(alloc: Global, bytes: Vec<u8>) -> Result<Doc, (Vec<u8>, BuildFault)
     ensures words { IfOk result (λ doc. (nest : Forest) → Accepted layers bytes.items nest → doc.words ≡ words_of bytes.items nest) }
     ensures given_back { IfErr result (λ e. e.0 ≡ bytes) }
     ensures refused { IfErr result (λ e. (fault : DocFault) → e.1 ≡ BuildFault.Doc fault → IsRefusal bytes.items fault × (layer fault ≤ layers)) }
-    ensures no_memory { IfErr result (λ e. e.1 ≡ BuildFault.NoMemory → (nest : Forest) × Accepted layers bytes.items nest) }
+    ensures no_memory { IfErr result (λ e. e.1 ≡ BuildFault.NoMemory → (nest : Forest) × Accepted 6 bytes.items nest) }
 {
     let counts = match check(&bytes) {
         Ok(counts) => counts,
@@ -107,8 +119,9 @@ pub fn build(alloc: Global, bytes: Vec<u8>) -> Result<Doc, (Vec<u8>, BuildFault)
     if emit(&bytes, &mut sink).is_err() {
         unreachable!()
     }
-    Ok(Doc {
-        bytes,
-        words: sink.words,
-    })
+    let words = sink.words;
+    if let Err(fault) = check_recorded(&bytes, &words) {
+        return Err((bytes, BuildFault::Doc(fault)));
+    }
+    Ok(Doc { bytes, words })
 }

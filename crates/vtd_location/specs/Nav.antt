@@ -8,7 +8,7 @@ use Rattle.vtd_words.specs.Lists.{Lists}
 
 -- how many layers of checks a document has passed
 abbrev pub layers : ℕ
-layers = 6
+layers = 8
 
 -- the nest of a document that is accepted, whose records the words are
 pub record IsNavOf (bytes : List ℕ) (lists : Lists) (nest : Forest) : Type 0 where

@@ -1,13 +1,12 @@
 -- What holds a node is a chain of elements, whose tags a scan backwards finds.
-use Rattle.std.proofs.Common.{◌≡◌, ℕ, zero, suc, ◌+◌, ◌<◌, ◌≤◌, Bool, true, false, cond, ◌&&◌, ◌==◌, nat_lt, List, [], ◌∷◌, ◌++◌, map, length, take, refl, ap, ap₂, sym, ◌∙◌, subst, arith, Option, Some, None, IfSome}
-use Rattle.std.specs.Prelude.{⊤}
+use Rattle.std.proofs.Common.{◌≡◌, ℕ, suc, ◌+◌, List, [], ◌∷◌, ◌++◌, map, refl, Option, Some, None, IfSome}
 use Rattle.std.specs.List.{AllByRecursion as Each, Contains, cons_option}
 use Rattle.std.proofs.lemmas.List.Elements.{Contains-append_left, Contains-append_right}
 use Rattle.xml_model.specs.Chars.{size}
 use Rattle.xml_model.specs.Items.{Attribute, Tag, Leaf, text, cdata, declaration, doctype, written_attribute}
 use Rattle.xml_model.specs.Nest.{Forest, done, single, empty, element}
 use Rattle.xml_model.specs.Records.{declares, attributes_place, past_empty, past_element}
-use Rattle.xml_model.specs.Tree.{Step, Thing, Entry, Here, Holder, attributes, attribute_entry, nodes, all, at_first, root_entry, leaf_node, begins_run, run, after_leaf, inside_of, behind, element_entry, tag_attributes, under, held, one_if}
+use Rattle.xml_model.specs.Tree.{Step, Entry, Here, Holder, attributes, attribute_entry, nodes, all, at_first, root_entry, leaf_node, begins_run, run, after_leaf, inside_of, behind, element_entry, tag_attributes, under, held}
 use Rattle.xml_model.proofs.Each.{each_append, each_option, each_map, if_some_cond, if_some_second, contains_here, contains_next, contains_map}
 use Rattle.vtd_namespaces.specs.Scope.{HolderIn, Chain}
 

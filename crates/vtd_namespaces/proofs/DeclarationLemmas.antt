@@ -1,5 +1,5 @@
 -- The declarations in a tag, one after another, and in the tags that hold something.
-use Rattle.std.proofs.Common.{◌≡◌, ℕ, zero, suc, ◌+◌, ◌*◌, ◌<◌, ◌≤◌, Bool, true, false, cond, ◌&&◌, ◌||◌, List, [], ◌∷◌, ◌++◌, map, length, take, drop, refl, ap, ap₂, sym, ◌∙◌, subst, arith, Option, Some, None, bytes_eq, find, codes, MatchOption, length-append, ◌-◌, ◌^◌, is_some}
+use Rattle.std.proofs.Common.{◌≡◌, ℕ, suc, ◌+◌, ◌*◌, ◌<◌, ◌≤◌, Bool, true, false, cond, ◌&&◌, List, [], ◌∷◌, ◌++◌, length, take, drop, refl, ap, ap₂, sym, ◌∙◌, subst, arith, Option, Some, None, bytes_eq, find, codes, length-append, ◌-◌, ◌^◌, is_some}
 use Rattle.std.specs.Prelude.{encode_utf8_all, slice_get, ◌==◌}
 use Rattle.std.specs.List.{AllByRecursion as Each, slice_index_or}
 use Rattle.xml_model.proofs.Each.{each_at}
@@ -7,18 +7,17 @@ use Rattle.std.proofs.Math.Utf8.{encode}
 use Rattle.std.proofs.lemmas.Bool.{false≢true, false_from_ne_true}
 use Rattle.std.proofs.lemmas.Str.{encodes-append, length-encode, len_utf8_bounds}
 use Rattle.std.proofs.lemmas.Slice.Eq.{bytes_eq-Decides}
-use Rattle.xml_model.specs.Chars.{size, begins}
+use Rattle.xml_model.specs.Chars.{size}
 use Rattle.xml_model.specs.Items.{Attribute, Tag, first_place, written_attribute}
 use Rattle.xml_model.specs.Nest.{Forest}
 use Rattle.xml_model.specs.Records.{Token, records, declares, attributes_place}
 use Rattle.xml_model.specs.Scan.{record_at}
-use Rattle.xml_model.specs.Tree.{Thing, Entry, Holder}
-use Rattle.xml_model.specs.Content.{value_content}
+use Rattle.xml_model.specs.Tree.{Entry, Holder}
 use Rattle.xml_model.specs.Names.{declaring, declaration_of, nearest, first_of}
 use Rattle.xml_model.specs.Accepted.{name_place}
 use Rattle.vtd_words.specs.declared.packing.Parts.{Parts}
 use Rattle.vtd_words.specs.Packed.{token_of}
-use Rattle.vtd_namespaces.specs.Standing.{slice_of, is_attribute_token, IsAttributeRecord, AttributesStand, TagStands, ThingStands, StandsAt}
+use Rattle.vtd_namespaces.specs.Standing.{slice_of, is_attribute_token, AttributesStand, TagStands, ThingStands, StandsAt}
 use Rattle.vtd_namespaces.specs.Repeats.{HasNoAttribute}
 use Rattle.vtd_namespaces.specs.Scope.{IsDeclaredAt, IsDeclarationIn, IsNearestAt, IsNearest, HolderIn, Chain, Opened, tags_in}
 use Rattle.vtd_words.specs.Lists.{Lists}

@@ -1,16 +1,15 @@
 -- The faults of a document's names are those of its nodes, in order.
-use Rattle.std.proofs.Common.{◌≡◌, ℕ, zero, suc, ◌+◌, ◌<◌, ◌≤◌, Bool, true, false, cond, List, [], ◌∷◌, ◌++◌, map, length, refl, ap, ap₂, sym, ◌∙◌, subst, arith, append_assoc, append-nil, Option, Some, None}
+use Rattle.std.proofs.Common.{◌≡◌, ℕ, zero, suc, ◌+◌, ◌<◌, Bool, true, false, List, [], ◌∷◌, ◌++◌, map, refl, ap, ap₂, sym, ◌∙◌, arith, append-nil, Some, None}
 use Rattle.std.specs.List.{AllByRecursion as Each, Contains, flat_map, cons_option}
 use Rattle.std.proofs.lemmas.List.Concat.{flat_map-append}
 use Rattle.xml_model.specs.Chars.{size}
-use Rattle.xml_model.specs.Items.{Attribute, Tag, Leaf, text, cdata, declaration, doctype, first_place, written_attribute}
+use Rattle.xml_model.specs.Items.{Attribute, Tag, Leaf, text, cdata, declaration, doctype, written_attribute}
 use Rattle.xml_model.specs.Nest.{Forest, done, single, empty, element}
-use Rattle.xml_model.specs.Records.{declares, past_leaf, past_empty, past_start, past_element, attributes_place}
-use Rattle.xml_model.specs.Tree.{Step, Thing, Entry, Here, Holder, attributes, attribute_entry, nodes, all, at_first, leaf_node, begins_run, run, after_leaf, inside_of, behind, element_entry, tag_attributes, under, held, one_if}
-use Rattle.xml_model.specs.Names.{tags_of}
+use Rattle.xml_model.specs.Records.{declares, past_empty, past_element, attributes_place}
+use Rattle.xml_model.specs.Tree.{Step, Entry, Here, Holder, attributes, nodes, all, at_first, leaf_node, begins_run, run, after_leaf, inside_of, behind, element_entry, tag_attributes, under, held}
 use Rattle.xml_model.specs.Accepted.{Faults, leaf_faults, over_names}
 use Rattle.xml_model.proofs.Each.{Rising, Pairs, each_more, rising_pairs}
-use Rattle.xml_model.proofs.Rise.{place, places_rise}
+use Rattle.xml_model.proofs.Rise.{places_rise}
 use Rattle.vtd_namespaces.specs.Faults.{first_of, node_faults}
 
 attributes_none : (w : Faults) (others : List Attribute) (holders : List Holder) (at n i : ℕ) → flat_map (node_faults w) (attributes holders at n i others) ≡ []

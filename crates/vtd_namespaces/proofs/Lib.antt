@@ -8,4 +8,12 @@ pub mod OpenLemmas
 pub mod DeclarationLemmas
 pub mod QNameLemmas
 pub mod ScopeLemmas
+pub mod OffenceLemmas
+pub mod AttributeLemmas
+pub mod InspectLemmas
+pub mod TagLemmas
+pub mod CheckLemmas
+pub mod NodeNameLemmas
+pub mod HolderLemmas
+pub mod UriLemmas
 pub mod RepeatLemmas

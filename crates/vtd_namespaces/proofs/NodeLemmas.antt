@@ -1,7 +1,7 @@
 -- The nodes of a document that have names, by the types of their records.
-use Rattle.std.proofs.Common.{◌≡◌, ℕ, zero, suc, ◌+◌, ◌<◌, ◌≤◌, ◌^◌, Bool, true, false, cond, ◌&&◌, ◌||◌, ◌==◌, List, [], ◌∷◌, ◌++◌, map, length, drop, refl, ap, ap₂, sym, ◌∙◌, subst, arith, Option, Some, None, ne_eqb, eqb, ⊎_elim, not}
-use Rattle.std.specs.List.{AllByRecursion as Each, Contains}
-use Rattle.std.proofs.lemmas.Bool.{false≢true, cases_lt}
+use Rattle.std.proofs.Common.{◌≡◌, ℕ, zero, suc, ◌+◌, ◌<◌, ◌≤◌, ◌^◌, true, cond, ◌&&◌, ◌||◌, List, [], ◌∷◌, length, drop, refl, ap, sym, ◌∙◌, subst, arith, Option, Some, None, ⊎_elim, not}
+use Rattle.std.specs.List.{AllByRecursion as Each}
+use Rattle.std.proofs.lemmas.Bool.{cases_lt}
 use Rattle.xml_model.specs.declared.Kind.{Kind}
 use Rattle.xml_model.specs.declared.Kind.TheVariants as kinds
 use Rattle.xml_model.specs.Items.{Attribute, Tag, first_place}
@@ -12,10 +12,9 @@ use Rattle.xml_model.specs.Tree.{Thing, Entry, Stands, all, at_place, kind_of}
 use Rattle.xml_model.specs.Laws.{FirstRecordShows}
 use Rattle.xml_model.specs.Names.{tags_of}
 use Rattle.xml_model.specs.Accepted.{Faults, over_names, repeated, repeats}
-use Rattle.xml_model.proofs.Each.{each_both, each_more, each_always, each_at, Rising, rising_pairs}
+use Rattle.xml_model.proofs.Each.{each_both, each_more, each_always, each_at, Rising}
 use Rattle.xml_model.proofs.Rise.{place, places_rise}
 use Rattle.xml_model.proofs.ScanSteps.{begins_here}
-use Rattle.xml_model.proofs.NodeLaws.{first_record_of_node}
 use Rattle.xml_model.proofs.FirstRecords.{first_records}
 use Rattle.xml_model.proofs.Bounds.{nest_shallow}
 use Rattle.vtd_words.specs.Lists.{Lists}

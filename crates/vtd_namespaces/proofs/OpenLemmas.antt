@@ -1,14 +1,13 @@
 -- The tags that are open at a record are those that the last tags of each depth are.
-use Rattle.std.proofs.Common.{◌≡◌, ℕ, zero, suc, ◌+◌, ◌<◌, ◌≤◌, Bool, true, false, cond, ◌&&◌, ◌==◌, nat_lt, List, [], ◌∷◌, ◌++◌, map, length, take, set, refl, ap, ap₂, sym, ◌∙◌, subst, arith, Option, Some, None, length-append, get_or-set_same, get_or-set_other, ◌≢◌, ◌⊎◌, ⊎_elim, inl, inr}
+use Rattle.std.proofs.Common.{◌≡◌, ℕ, zero, suc, ◌+◌, ◌<◌, ◌≤◌, Bool, true, false, cond, ◌&&◌, ◌==◌, nat_lt, List, [], ◌∷◌, length, set, refl, ap, ap₂, sym, ◌∙◌, subst, arith, Some, get_or-set_same, get_or-set_other, ◌⊎◌, ⊎_elim, inl, inr}
+use Rattle.std.specs.Prelude.{replicate}
 use Rattle.std.specs.List.{slice_index_or, Contains}
 use Rattle.std.proofs.lemmas.Bool.{eq-eqb, lt-ltb, cases_lt}
-use Rattle.std.proofs.Math.Seq.{take-append_seam}
 use Rattle.std.proofs.Math.ListN.{get_or-append}
 use Rattle.xml_model.specs.Records.{Token, document, records}
-use Rattle.xml_model.specs.declared.Kind.{Kind}
 use Rattle.xml_model.specs.declared.Kind.TheVariants as kinds
 use Rattle.xml_model.specs.Scan.{record_at, level_of, tag_or, last_tag, kind_of_token}
-use Rattle.xml_model.specs.Tree.{Thing, Entry, Holder, all, kind_of}
+use Rattle.xml_model.specs.Tree.{Entry, Holder, all, kind_of}
 use Rattle.xml_model.specs.Nest.{Forest}
 use Rattle.xml_model.specs.Laws.{holder_place}
 use Rattle.xml_model.proofs.Each.{each_at}
@@ -179,3 +178,11 @@ open_more open_tags rs at d b w h t e = record { within = within; last = last }
         let k : (record_at q rs).depth ≡ d = ap (λ i. (record_at i rs).depth) is ∙ e in
         ap (λ i. slice_index_or (set open_tags d at) i 0) k ∙ same ∙ sym is)
         (cases_lt q at)
+
+zeros : (m k : ℕ) → ◌≡◌ {A = ℕ} (slice_index_or (replicate m 0) k 0) 0
+zeros zero k = refl
+zeros (suc m) zero = refl
+zeros (suc m) (suc k) = zeros m k
+
+pub all_zero : (xs : List ℕ) → xs ≡ replicate 256 0 → (k : ℕ) → slice_index_or xs k 0 ≡ 0
+all_zero xs e k = ap (λ l. slice_index_or l k 0) e ∙ zeros 256 k

@@ -6,9 +6,9 @@ use Rattle.std.specs.Str.{chars}
 use lib.Utf8.{scalar, scalars}
 use Rattle.std.proofs.Math.Utf8.{encode}
 use Rattle.std.proofs.Math.Seq.{take-append_seam, drop-append_seam}
-use Rattle.std.proofs.lemmas.Bool.{false≢true, false_from_ne_true, and_parts, and_from, or_cases, eqb-true, eq-eqb, leb-true, ltb-true, cases_Bool, cases_lt}
+use Rattle.std.proofs.lemmas.Bool.{false≢true, false_from_ne_true, and_parts, and_from, or_cases, eqb-true, eq-eqb, cases_Bool, cases_lt}
 use Rattle.std.proofs.lemmas.Str.{encodes-append, encode_ascii, chars-encodes, byte_from_char, char_from_byte, length-encode, len_utf8_bounds, inside_one}
-use Rattle.xml_model.specs.Chars.{size, is_name, is_ncname, is_qname, is_name_start, is_name_char, in_ranges, name_start_ranges, has_colon, before_colon, after_colon, prefix_of, local_of, colon}
+use Rattle.xml_model.specs.Chars.{size, is_name, is_ncname, is_qname, is_name_start, is_name_char, in_ranges, name_start_ranges, has_colon, before_colon, after_colon, prefix_of, local_of}
 use Rattle.xml_chars.proofs.NameLaws.{name_chars}
 
 -- the characters of names are scalars
@@ -211,9 +211,9 @@ first_colon c cs = by (cases_Bool (c == 58))
         ⊎_elim
         (λ t. let e : c ≡ 58 = eqb-true c 58 t in eq-eqb _ 58 (byte_from_char (encode_utf8_all (c ∷ cs)) (encode_utf8_all cs) c refl (omega arith) ∙ e) ∙ sym t)
         (λ f. false_from_ne_true _ (λ t.
-          let z : get_or (encode_utf8_all (c ∷ cs)) 0 0 ≡ 58 = eqb-true _ 58 t in
-          let l : 0 < length (encode_utf8_all (c ∷ cs)) = omega (arith, Rattle.std.proofs.Common.length-append (encode c) (encode_utf8_all cs), length-encode c, (len_utf8_bounds c).0) in
-          false≢true (sym f ∙ eq-eqb c 58 (char_from_byte (encode_utf8_all (c ∷ cs)) (encode_utf8_all cs) c refl (omega arith) l ∙ z))) ∙ sym f)
+        let z : get_or (encode_utf8_all (c ∷ cs)) 0 0 ≡ 58 = eqb-true _ 58 t in
+        let l : 0 < length (encode_utf8_all (c ∷ cs)) = omega (arith, Rattle.std.proofs.Common.length-append (encode c) (encode_utf8_all cs), length-encode c, (len_utf8_bounds c).0) in
+        false≢true (sym f ∙ eq-eqb c 58 (char_from_byte (encode_utf8_all (c ∷ cs)) (encode_utf8_all cs) c refl (omega arith) l ∙ z))) ∙ sym f)
         k
 
 pub first_byte : (cs : List ℕ) → is_name cs ≡ true → (get_or (encode_utf8_all cs) 0 0 == 58) ≡ (get_or cs 0 0 == 58)
@@ -256,3 +256,25 @@ pub named_some : (name cs : List ℕ) → is_name cs ≡ true → name ≡ encod
 unfolding is_name
 named_some name [] n e h = false≢true n
 named_some name (c ∷ cs) n e h = omega (arith, eqb-true (length name) 0 h, ap length e, Rattle.std.proofs.Common.length-append (encode c) (encode_utf8_all cs), length-encode c, (len_utf8_bounds c).0)
+
+-- local parts
+
+pub local_prefixed : (cs : List ℕ) (n : ℕ) → n ≡ size (prefix_of cs) → (n ≡ 0 → ⊥) → after_colon cs ≡ local_of cs
+local_prefixed cs n e z = sym (prefixed cs (λ k. z (e ∙ k))).local
+
+pub local_whole : (cs : List ℕ) (n : ℕ) → n ≡ size (prefix_of cs) → n ≡ 0 → is_qname cs ≡ true → cs ≡ local_of cs
+local_whole cs n e z q = sym ((unprefixed cs (sym e ∙ z)).local q)
+
+begins_with_colon : (cs : List ℕ) → (get_or cs 0 0 == 58) ≡ true → drop 1 (encode_utf8_all cs) ≡ encode_utf8_all (local_of cs)
+unfolding encode local_of
+begins_with_colon [] h = absurd (false≢true h)
+begins_with_colon (c ∷ cs) h =
+    let e : c ≡ 58 = eqb-true c 58 h in
+    subst (λ d. drop 1 (encode_utf8_all (d ∷ cs)) ≡ encode_utf8_all (local_of (d ∷ cs))) (sym e) refl
+
+pub local_behind : (name cs : List ℕ) (n : ℕ) → is_name cs ≡ true → name ≡ encode_utf8_all cs → n ≡ size (prefix_of cs) → n ≡ 0 → is_qname cs ≡ false → drop 1 name ≡ encode_utf8_all (local_of cs)
+local_behind name cs n m e h z q = ap (drop 1) e ∙ begins_with_colon cs (not_false (get_or cs 0 0 == 58) (sym ((unprefixed cs (sym h ∙ z)).qname m) ∙ q))
+  where
+    not_false : (b : Bool) → not b ≡ false → b ≡ true
+    not_false true k = refl
+    not_false false k = absurd (false≢true (sym k))

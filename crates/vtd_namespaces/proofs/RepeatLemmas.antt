@@ -1,13 +1,13 @@
 -- The names of a tag one after another: which repeats an earlier one.
-use Rattle.std.proofs.Common.{◌≡◌, ℕ, zero, suc, ◌+◌, ◌*◌, ◌<◌, ◌≤◌, Bool, true, false, cond, List, [], ◌∷◌, ◌++◌, map, length, refl, ap, ap₂, sym, ◌∙◌, subst, arith, Option, Some, None, bytes_eq, ⊎_elim, ◌-◌, not}
+use Rattle.std.proofs.Common.{◌≡◌, ℕ, zero, suc, ◌+◌, ◌*◌, ◌<◌, Bool, true, false, cond, List, [], ◌∷◌, ◌++◌, map, refl, ap, ap₂, sym, ◌∙◌, subst, arith, Some, None, bytes_eq, ⊎_elim, ◌-◌, not}
 use Rattle.std.specs.Prelude.{encode_utf8_all, ◌||◌}
-use Rattle.std.specs.List.{list_any, slice_index_or}
+use Rattle.std.specs.List.{list_any}
 use Rattle.std.proofs.lemmas.Bool.{false≢true, false_from_ne_true}
 use Rattle.std.proofs.lemmas.Str.{encodes_same}
 use Rattle.std.proofs.lemmas.Slice.Eq.{bytes_eq-Decides}
 use Rattle.xml_model.specs.Chars.{size}
 use Rattle.xml_model.specs.Items.{Attribute, written_attribute}
-use Rattle.xml_model.specs.Records.{Token, name_token, declares}
+use Rattle.xml_model.specs.Records.{Token, declares}
 use Rattle.xml_model.specs.Scan.{record_at}
 use Rattle.xml_model.specs.Accepted.{repeated, name_place}
 use Rattle.vtd_words.specs.declared.packing.Parts.{Parts}

@@ -1,5 +1,5 @@
 -- The URI of a prefix under the tags that reach it.
-use Rattle.std.proofs.Common.{◌≡◌, ℕ, ◌+◌, ◌<◌, ◌^◌, Bool, true, false, cond, ◌||◌, List, [], ◌∷◌, length, refl, ap, ap₂, sym, ◌∙◌, subst, arith, Option, Some, None, is_some, bytes_eq, codes, IfSome, MatchOption}
+use Rattle.std.proofs.Common.{◌≡◌, ℕ, Bool, true, false, cond, ◌||◌, List, [], ◌∷◌, length, refl, ap, ap₂, sym, ◌∙◌, subst, Option, Some, None, is_some, bytes_eq, codes, IfSome}
 use Rattle.std.specs.Prelude.{encode_utf8_all}
 use Rattle.std.proofs.Math.Utf8.{encode}
 use Rattle.std.proofs.lemmas.Bool.{false≢true, false_from_ne_true}
@@ -13,10 +13,10 @@ use Rattle.xml_model.specs.Content.{value_content}
 use Rattle.xml_model.specs.Names.{binding, attribute_uri, nearest, xml_uri}
 use Rattle.xml_model.specs.Accepted.{is_bound}
 use Rattle.vtd_words.specs.Lists.{Lists}
-use Rattle.vtd_words.specs.Table.{IsTable, IsNestOf, Shows, nodes_of}
+use Rattle.vtd_words.specs.Table.{IsTable, Shows, nodes_of}
 use Rattle.vtd_words.proofs.Fitting.{nest_shown}
 use Rattle.vtd_text.specs.NameRecords.{IsDeclaration, IsNameOf}
-use Rattle.vtd_namespaces.specs.Scope.{IsNearestAt, IsNearest, IsDeclaredAt, tags_in}
+use Rattle.vtd_namespaces.specs.Scope.{IsNearestAt, IsNearest, tags_in}
 use Rattle.vtd_namespaces.proofs.RepeatLemmas.{eq_encoded}
 use Rattle.vtd_namespaces.proofs.DeclarationLemmas.{empty_encoded}
 

@@ -1,6 +1,6 @@
 -- The names of an accepted document stand in its bytes and its records.
-use Rattle.std.proofs.Common.{◌≡◌, ℕ, zero, suc, ◌+◌, ◌<◌, ◌≤◌, Bool, true, false, cond, ◌&&◌, List, [], ◌∷◌, ◌++◌, length, take, drop, refl, ap, ap₂, sym, ◌∙◌, subst, arith, append_assoc, append-nil, length-append, add-one, add-zero, codes, Some, None, IfSome, map}
-use Rattle.std.specs.Prelude.{encode_utf8_all, ⊤}
+use Rattle.std.proofs.Common.{◌≡◌, ℕ, zero, suc, ◌+◌, ◌<◌, true, false, ◌&&◌, List, [], ◌∷◌, ◌++◌, length, take, drop, refl, ap, ap₂, sym, ◌∙◌, subst, arith, append_assoc, append-nil, length-append, add-one, add-zero, codes, IfSome, map}
+use Rattle.std.specs.Prelude.{encode_utf8_all}
 use Rattle.std.specs.List.{AllByRecursion as Each, list_all}
 use Rattle.std.proofs.lemmas.Bool.{and_parts}
 use Rattle.std.proofs.Math.Seq.{get_or-append_seam}
@@ -8,14 +8,14 @@ use Rattle.std.proofs.lemmas.List.{get_or-append-add}
 use Rattle.xml_model.specs.Chars.{size, begins, is_name, is_blank}
 use Rattle.xml_model.specs.Items.{Attribute, Tag, Leaf, text, cdata, declaration, doctype, Item, leaf, start_tag, empty_tag, end_tag, meets, meets_tag, meets_attribute, meets_instruction, written, spelling, begins_at, ends_well, may_stand, walk, walk_from, walk_to_end, end_of_items, first_place, before_value, written_attribute, written_attributes, written_pieces, written_tag, written_end, written_leaf, quote_char}
 use Rattle.xml_model.specs.Nest.{Forest, done, single, empty, element, flat}
-use Rattle.xml_model.specs.Records.{Token, document, records, named, name_token, attribute_tokens, attributes_tokens, attributes_place, tag_tokens, leaf_tokens, text_tokens, depth_at, tokens, past_leaf, past_empty, past_start, past_element, past_forest, declares}
+use Rattle.xml_model.specs.Records.{Token, document, records, named, name_token, attribute_tokens, attributes_tokens, attributes_place, tag_tokens, leaf_tokens, tokens, past_leaf, past_empty, past_start, past_element, past_forest, declares}
 use Rattle.xml_model.specs.Scan.{record_at}
-use Rattle.xml_model.specs.Tree.{Step, Thing, Entry, Here, Holder, attributes, attribute_entry, nodes, all, at_first, leaf_node, begins_run, run, after_leaf, inside_of, behind, element_entry, tag_attributes, under, held, one_if}
+use Rattle.xml_model.specs.Tree.{Step, Entry, Here, Holder, attributes, attribute_entry, nodes, all, at_first, leaf_node, begins_run, run, after_leaf, inside_of, behind, element_entry, tag_attributes, under, held}
 use Rattle.xml_model.specs.Accepted.{IsDocument, name_place}
 use Rattle.xml_model.proofs.Each.{each_append, each_option, each_map, if_some_cond, if_some_second}
 use Rattle.xml_model.proofs.Fits.{first_part, second_part, behind_length}
 use Rattle.vtd_words.proofs.Fitting.{past_items}
-use Rattle.vtd_namespaces.specs.Standing.{is_attribute_token, IsNameRecord, IsAttributeRecord, AttributesStand, TagStands, InstructionStands, ThingStands, StandsAt}
+use Rattle.vtd_namespaces.specs.Standing.{is_attribute_token, IsNameRecord, IsAttributeRecord, AttributesStand, TagStands, InstructionStands, StandsAt}
 use Rattle.vtd_namespaces.proofs.SpelledLemmas.{Spelled, spelled_from, spelled_front, spelled_back, spelled_slice, spelled_at, size_append, size_angle, size_question}
 
 -- records by their index

@@ -1,9 +1,10 @@
 -- The faults of a document's names, node by node.
-use Rattle.std.specs.Prelude.{ℕ, ◌+◌, List, [], ◌∷◌, map, Option, Some, None}
+use Rattle.std.specs.Prelude.{◌≡◌, ℕ, ◌+◌, List, [], ◌∷◌, Option, Some, None}
 use Rattle.xml_model.specs.Items.{Tag}
 use Rattle.xml_model.specs.Tree.{Thing, Entry}
 use Rattle.xml_model.specs.Names.{tags_of}
-use Rattle.xml_model.specs.Accepted.{Faults}
+use Rattle.xml_model.specs.Accepted.{Faults, offences}
+use Rattle.std.specs.List.{AllByRecursion}
 
 -- the first of some places
 abbrev pub first_of : List ℕ → Option ℕ
@@ -19,3 +20,7 @@ thing_faults w at tags _ = []
 -- the places of what is sought at a node
 abbrev pub node_faults : Faults → Entry → List ℕ
 node_faults w e = thing_faults w e.start (tags_of e) e.what
+
+-- the first offence of the nodes whose first record has an index, of which there is one at most
+abbrev pub OffenceAt : ℕ → Option ℕ → List Entry → Type 0
+OffenceAt at r es = AllByRecursion (λ e. e.place ≡ at → r ≡ first_of (node_faults offences e)) es

@@ -4,3 +4,5 @@ pub mod Filter
 pub mod Repeats
 pub mod Scope
 pub mod Uris
+pub mod Offences
+pub mod NodeNames

@@ -1,5 +1,5 @@
 -- The names of a tag, by their records (this project's own).
-use Rattle.std.specs.Prelude.{◌≡◌, ℕ, zero, suc, ◌+◌, ◌*◌, ◌≤◌, ◌⊎◌, false, true, List, [], ◌∷◌, length}
+use Rattle.std.specs.Prelude.{◌≡◌, ℕ, zero, suc, ◌+◌, ◌*◌, ◌≤◌, ◌⊎◌, false, List, [], ◌∷◌, length}
 use Rattle.xml_model.specs.Records.{Token}
 use Rattle.xml_model.specs.Scan.{record_at}
 use Rattle.vtd_namespaces.specs.Standing.{slice_of, is_attribute_token}

@@ -1,5 +1,5 @@
 -- URIs, and the tags under which they are looked up (this project's own).
-use Rattle.std.specs.Prelude.{◌≡◌, ℕ, List, length, Option, Some, None, Bool, true, false, bytes_eq}
+use Rattle.std.specs.Prelude.{◌≡◌, ℕ, ◌<◌, ◌^◌, List, length, Option, Some, None, Bool, true, false, bytes_eq}
 use Rattle.xml_model.specs.Nest.{Forest}
 use Rattle.xml_model.specs.Tree.{Holder}
 use Rattle.xml_model.specs.Names.{xml_uri}
@@ -11,6 +11,7 @@ use Rattle.vtd_namespaces.specs.declared.uri.Uri.TheVariants as uris
 
 -- in a nest of a table these elements hold what is looked at, the nearest one first, and a list has the indexes of so many tags
 pub record IsScope (bytes : List ℕ) (lists : Lists) (open_tags : List ℕ) (count : ℕ) (nest : Forest) (hs : List Holder) : Type 0 where
+  pub few : length bytes < 2 ^ 30
   pub shown : IsNestOf bytes lists nest
   pub chain : Chain (nodes_of bytes nest) hs
   pub opened : Opened open_tags hs

@@ -2,11 +2,20 @@
 //! name tests of its nodes. No call takes memory.
 #![tactic(auto)]
 
+mod check;
 mod compare;
 mod declarations;
 mod filter;
+mod holders;
+mod nodes;
+mod offences;
 mod qnames;
 mod records;
 mod repeats;
 mod scope;
 mod uri;
+mod walk;
+
+pub use check::check_names;
+pub use nodes::{local_of, matches, prefix_of, uri_of};
+pub use uri::Uri;

@@ -47,3 +47,16 @@ pub fn has_colon(name: &[u8]) -> bool
 {
     name.contains(&b':')
 }
+
+/// The local part of a name, whose prefix has a length: what follows the first colon, or the whole.
+pub fn local_of(name: &[u8], prefix_len: u32) -> &[u8]
+    ensures { (cs : List ℕ) → is_name cs ≡ true → name.now ≡ encode_utf8_all cs → prefix_len ≡ size (prefix_of cs) → result.now ≡ encode_utf8_all (local_of cs) }
+{
+    if prefix_len > 0 {
+        return after_prefix(name, prefix_len);
+    }
+    if is_qname(name, prefix_len) {
+        return name;
+    }
+    behind(name, 1)
+}

@@ -6,8 +6,8 @@ ghost use Rattle.xml_model.specs.Nest.{Forest};
 ghost use Rattle.xml_model.specs.Tree.{Holder};
 ghost use Rattle.vtd_words.specs.Table.{nodes_of};
 
-use crate::declarations::declaration_for;
 use crate::compare::same_uri;
+use crate::declarations::declaration_for;
 use crate::uri::Uri;
 use vtd_text::Chars;
 use vtd_words::{Table, Words};
@@ -16,6 +16,7 @@ use vtd_words::{Table, Words};
 const XML: &[u8] = b"xml";
 
 /// The tags that are open at a tag, itself included: the indexes of their records by their depth, and how many they are.
+#[derive(Drop)]
 pub struct Scope<'s, 'a, W: Words> {
     pub table: &'s Table<'a, W>,
     pub open_tags: &'s [u32; 256],

@@ -1,5 +1,5 @@
-use Rattle.std.proofs.Common.{◌≡◌, ◌∙◌, ℕ, sym, refl, arith}
-use Rattle.vtd_namespaces.proofs.DeclarationLemmas.{none_sought, all_sought, next_sought, NextSought}
+use Rattle.std.proofs.Common.{◌∙◌, sym, refl, arith}
+use Rattle.vtd_namespaces.proofs.DeclarationLemmas.{none_sought, all_sought, next_sought}
 use Rattle.vtd_namespaces.proofs.declarations.declaration_in.Goals as goal
 use Rattle.vtd_namespaces.proofs.declarations.declaration_in.Goals.{else-parts-eq3-via-then-parts-eq3+else-is_declaring, else-parts-eq3-via-else-parts-eq3}
 

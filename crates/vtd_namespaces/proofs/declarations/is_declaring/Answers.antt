@@ -1,4 +1,4 @@
-use Rattle.std.proofs.Common.{◌∙◌, sym, arith}
+use Rattle.std.proofs.Common.{◌∙◌, sym}
 use Rattle.std.proofs.lemmas.Bool.{eqb-true}
 use Rattle.vtd_namespaces.proofs.DeclarationLemmas.{declares_default, mark_there, mark_missing, too_short, some_length}
 use Rattle.vtd_namespaces.proofs.declarations.is_declaring.Goals as goal

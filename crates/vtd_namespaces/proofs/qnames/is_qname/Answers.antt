@@ -1,4 +1,4 @@
-use Rattle.std.proofs.Common.{◌≡◌, ◌∙◌, ap, sym, arith, not, ◌==◌, get_or}
+use Rattle.std.proofs.Common.{◌∙◌, ap, sym, arith, not, ◌==◌, get_or}
 use Rattle.vtd_namespaces.proofs.QNameLemmas.{prefixed, unprefixed, first_byte, named_some}
 use Rattle.vtd_namespaces.proofs.qnames.is_qname.Goals as goal
 

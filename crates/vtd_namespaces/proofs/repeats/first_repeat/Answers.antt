@@ -1,4 +1,4 @@
-use Rattle.std.proofs.Common.{◌∙◌, sym, arith}
+use Rattle.std.proofs.Common.{arith}
 use Rattle.xml_model.specs.Accepted.{repeats}
 use Rattle.vtd_namespaces.proofs.NodeLemmas.{none_before_first, no_tag, tag_passed, tag_repeats, all_before}
 use Rattle.vtd_namespaces.proofs.repeats.first_repeat.Goals as goal

@@ -1,4 +1,4 @@
-use Rattle.std.proofs.Common.{◌∙◌, ap, sym, arith}
+use Rattle.std.proofs.Common.{◌∙◌, sym, arith}
 use Rattle.vtd_namespaces.proofs.RepeatLemmas.{none_passed, all_passed, next_name}
 use Rattle.vtd_namespaces.proofs.repeats.repeat_in.Goals as goal
 

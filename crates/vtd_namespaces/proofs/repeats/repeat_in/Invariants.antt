@@ -1,4 +1,4 @@
-use Rattle.std.proofs.Common.{◌≡◌, ℕ, ◌+◌, ◌-◌, ◌*◌, ◌<◌, ◌≤◌, ◌^◌, List, length}
+use Rattle.std.proofs.Common.{ℕ, ◌+◌, ◌-◌, ◌*◌, ◌<◌, ◌≤◌, ◌^◌, List, length}
 use Rattle.xml_model.specs.Items.{Attribute}
 use Rattle.xml_model.specs.Records.{Token}
 use Rattle.vtd_words.specs.Table.{Shows}

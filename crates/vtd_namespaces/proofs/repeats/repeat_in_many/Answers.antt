@@ -1,4 +1,4 @@
-use Rattle.std.proofs.Common.{◌≡◌, ◌∙◌, ap, sym, arith, true, false, bytes_eq, List}
+use Rattle.std.proofs.Common.{◌≡◌, ◌∙◌, sym, arith, false, bytes_eq, List}
 use Rattle.std.specs.List.{list_any}
 use Rattle.std.proofs.lemmas.Bool.{false≢true}
 use Rattle.xml_model.specs.Records.{Token}

@@ -1,0 +1,27 @@
+-- The offences of a tag's names, name by name.
+use Rattle.std.specs.Prelude.{◌≡◌, ℕ, Bool, true, not, ◌&&◌, List, [], ◌∷◌, encode_utf8_all}
+use Rattle.xml_model.specs.Chars.{size, prefix_of, is_name, is_qname}
+use Rattle.xml_model.specs.Items.{Attribute, Tag}
+use Rattle.xml_model.specs.Records.{declares}
+use Rattle.xml_model.specs.Names.{Expanded}
+use Rattle.xml_model.specs.Accepted.{expanded_of, seen_with, same_expanded, is_bound}
+
+-- whether an attribute under tags has the expanded name of another; a declaration has none: Namespaces in XML 1.0, section 6.3
+abbrev pub is_twin : List Tag → Attribute → Attribute → Bool
+is_twin tags a b = not (declares b.name) && same_expanded (expanded_of tags a) (expanded_of tags b)
+
+-- the expanded names seen after more attributes
+abbrev pub seen_after : List Tag → List Expanded → List Attribute → List Expanded
+seen_after tags seen [] = seen
+seen_after tags seen (a ∷ others) = seen_after tags (seen_with tags a seen) others
+
+-- a name that does not offend by itself: a qualified one whose prefix is bound
+pub record IsFine (tags : List Tag) (a : Attribute) : Type 0 where
+  pub qualified : is_qname a.name ≡ true
+  pub bound : not (declares a.name) ≡ true → is_bound (prefix_of a.name) tags ≡ true
+
+-- an attribute's name, by its bytes and the length of its prefix
+pub record IsWritten (name : List ℕ) (prefix : ℕ) (a : Attribute) : Type 0 where
+  pub bytes : name ≡ encode_utf8_all a.name
+  pub prefix_size : prefix ≡ size (prefix_of a.name)
+  pub named : is_name a.name ≡ true

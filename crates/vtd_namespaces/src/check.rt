@@ -1,0 +1,33 @@
+//! The check of a document's names (XML 1.0, section 3.1, and Namespaces in XML 1.0).
+
+ghost use Rattle.std.specs.Prelude.{◌≡◌, ◌≤◌, OnOk, IfErr};
+ghost use Rattle.xml_model.specs.Nest.{Forest};
+ghost use Rattle.xml_model.specs.Accepted.{layer, Accepted, IsRefusal};
+ghost use Rattle.vtd_words.specs.Table.{IsNestOf};
+
+use crate::repeats::first_repeat;
+use crate::walk::first_offence;
+use vtd_words::{Table, Words};
+use xml_model::DocFault;
+
+/// Whether the names of a document are accepted: no name of an attribute or a declaration repeats an earlier one of its tag, or
+/// else `Twice` at the first that does, and then no name offends Namespaces in XML 1.0, or else `Namespace` at the first that
+/// does, in the order of the records. A `Namespace` comes only where no name of the whole document repeats another. It takes
+/// no memory.
+///
+/// Each record is read a few times; in a tag with n names a name costs up to n steps where others share its slot in a filter,
+/// a name with a prefix up to the attributes of the tags that hold it and of its own, and, where others have its local part, as
+/// many again.
+pub fn check_names<W: Words>(table: &Table<'_, W>) -> Result<(), DocFault>
+    ensures accepted { OnOk result ((nest : Forest) → IsNestOf table.now.bytes (W.lists table.now.words) nest → Accepted 8 table.now.bytes nest) }
+    ensures layer { IfErr result (λ fault. 7 ≤ layer fault) }
+    ensures refused { IfErr result (IsRefusal table.now.bytes) }
+{
+    if let Some(at) = first_repeat(table.bytes(), table.words()) {
+        return Err(DocFault::Twice { at });
+    }
+    if let Some(at) = first_offence(table) {
+        return Err(DocFault::Namespace { at });
+    }
+    Ok(())
+}

@@ -1,0 +1,107 @@
+//! The declarations that reach a node, found by steps from each element to the one that holds it.
+
+ghost use Rattle.std.specs.Prelude.{◌≡◌, ℕ, ◌+◌, ◌<◌, ◌≤◌, ◌≢◌, List, ◌∷◌, length, encode_utf8_all, IfSome};
+ghost use Rattle.vtd_words.specs.Lists.{list_of};
+ghost use Rattle.xml_model.specs.Nest.{Forest};
+ghost use Rattle.xml_model.specs.Tree.{Entry, Holder, Stands};
+ghost use Rattle.xml_model.specs.Laws.{holder_place};
+ghost use Rattle.xml_model.specs.Names.{binding};
+ghost use Rattle.vtd_words.specs.Table.{IsNestOf, IsNodeOf, nodes_of};
+ghost use Rattle.vtd_text.specs.NameRecords.{IsDeclaration};
+ghost use Rattle.vtd_namespaces.specs.Scope.{tags_in, Chain, IsNearest};
+ghost use Rattle.vtd_namespaces.specs.Uris.{uri_value};
+ghost use Rattle.vtd_namespaces.specs.NodeNames.{reaching, HasExpandedName, IsElementAt};
+
+use crate::declarations::declaration_in;
+use crate::uri::Uri;
+use vtd_text::{Chars, equals_str};
+use vtd_words::{Part, Table, Words};
+use xml_model::{Kind, Node};
+
+/// The prefix that is always bound.
+const XML: &[u8] = b"xml";
+
+/// The record of the element that holds an element, by its record; 0 where none does.
+fn holder_of<W: Words>(table: &Table<'_, W>, tag: u32) -> u32
+    requires { IsElementAt table.now.bytes (W.lists table.now.words) tag }
+    ensures found { (nest : Forest) → IsNestOf table.now.bytes (W.lists table.now.words) nest → (x : Holder) (xs : List Holder) → Chain (nodes_of table.now.bytes nest) (x ∷ xs) → x.place ≡ tag → result ≡ holder_place xs }
+    ensures lower { result < tag }
+    ensures element { result ≢ 0 → IsElementAt table.now.bytes (W.lists table.now.words) result }
+{
+    let element = Node {
+        kind: Kind::Element,
+        at: tag,
+    };
+    match table.owner_of(element) {
+        Some(owner) => owner.at,
+        None => 0,
+    }
+}
+
+/// The index behind that of an element's record.
+fn first_attribute<W: Words>(table: &Table<'_, W>, tag: u32) -> u32
+    requires { IsElementAt table.now.bytes (W.lists table.now.words) tag }
+    ensures index { result ≡ tag + 1 }
+    ensures room { result ≤ length (list_of Part.Records (W.lists table.now.words)) }
+{
+    let records = table.words().len(Part::Records);
+    prove!(tag < records);
+    tag + 1
+}
+
+/// The record of the name of the nearest declaration of a prefix in an element and those that hold it, by the element's record,
+/// or `None` where they have none; 0 stands for no element.
+fn declaration_above<W: Words>(table: &Table<'_, W>, tag: u32, prefix: &[u8]) -> Option<u32>
+    requires { tag ≢ 0 → IsElementAt table.now.bytes (W.lists table.now.words) tag }
+    ensures found { (nest : Forest) → IsNestOf table.now.bytes (W.lists table.now.words) nest → (hs : List Holder) → Chain (nodes_of table.now.bytes nest) hs → holder_place hs ≡ tag →
+        (p : List ℕ) → prefix.now ≡ encode_utf8_all p → IsNearest (nodes_of table.now.bytes nest) hs p result }
+    ensures declares { IfSome result (IsDeclaration table.now.bytes (W.lists table.now.words)) }
+{
+    let mut at = tag;
+    while at != 0 {
+        let first = first_attribute(table, at);
+        let found = declaration_in(table.bytes(), table.words(), first, prefix);
+        if found.is_some() {
+            return found;
+        }
+        at = holder_of(table, at);
+    }
+    None
+}
+
+/// The URI to which a prefix is bound under an element, by the element's record, 0 standing for none; none where it is not bound.
+/// The empty prefix has the default namespace, and none where that is taken away (Namespaces in XML 1.0, section 6.2).
+pub fn uri_of_prefix<'a, W: Words>(table: &Table<'a, W>, tag: u32, prefix: &[u8]) -> Uri<'a, W>
+    requires { tag ≢ 0 → IsElementAt table.now.bytes (W.lists table.now.words) tag }
+    ensures { (nest : Forest) → IsNestOf table.now.bytes (W.lists table.now.words) nest → (hs : List Holder) → Chain (nodes_of table.now.bytes nest) hs → holder_place hs ≡ tag →
+        (p : List ℕ) → prefix.now ≡ encode_utf8_all p → uri_value result ≡ binding p (tags_in hs) }
+{
+    if prefix == XML {
+        return Uri::Xml;
+    }
+    match declaration_above(table, tag, prefix) {
+        None => Uri::None,
+        Some(at) => {
+            if prefix.is_empty() && equals_str(Chars::of_declaration(table, at), "") {
+                return Uri::None;
+            }
+            Uri::Declared(Chars::of_declaration(table, at))
+        }
+    }
+}
+
+/// The record of the nearest element whose declarations reach an element or an attribute: its own, or its element's.
+pub fn nearest_element<W: Words>(table: &Table<'_, W>, node: Node) -> u32
+    requires node { IsNodeOf table.now.bytes (W.lists table.now.words) node }
+    requires named { HasExpandedName node.kind }
+    ensures found { (nest : Forest) → IsNestOf table.now.bytes (W.lists table.now.words) nest → (e : Entry) → Stands node.kind node.at e (nodes_of table.now.bytes nest) → result ≡ holder_place (reaching e) }
+    ensures element { result ≢ 0 → IsElementAt table.now.bytes (W.lists table.now.words) result }
+{
+    match node.kind {
+        Kind::Element => node.at,
+        _ => match table.owner_of(node) {
+            Some(owner) => owner.at,
+            None => 0,
+        },
+    }
+}

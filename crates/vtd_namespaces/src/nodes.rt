@@ -1,0 +1,91 @@
+//! The names of nodes: prefixes, local parts, URIs and name tests (Namespaces in XML 1.0, sections 2.1 and 6, and XPath 1.0,
+//! sections 2.3 and 5).
+
+ghost use Rattle.std.specs.Prelude.{◌≡◌, encode_utf8_all};
+ghost use Rattle.xml_model.specs.Nest.{Forest};
+ghost use Rattle.xml_model.specs.Tree.{Entry, Stands};
+ghost use Rattle.xml_model.specs.Names.{expanded, name_passes};
+ghost use Rattle.vtd_words.specs.Table.{IsNestOf, IsNodeOf, nodes_of};
+ghost use Rattle.vtd_namespaces.specs.Uris.{uri_value};
+ghost use Rattle.vtd_namespaces.specs.NodeNames.{node_local, node_prefix, test_of, uri_in, HasExpandedName, HasName};
+
+use crate::compare::is_uri;
+use crate::holders::{nearest_element, uri_of_prefix};
+use crate::qnames;
+use crate::records::{parts_at, slice_of};
+use crate::uri::Uri;
+use vtd_words::{Table, Words};
+use xml_model::{Kind, NameTest, Node};
+
+/// The prefix in a node's name, in UTF-8; it is empty where the name has none, and for an instruction. The node is an element,
+/// an attribute or an instruction of the table.
+pub fn prefix_of<'a, W: Words>(table: &Table<'a, W>, node: Node) -> &'a [u8]
+    requires node { IsNodeOf table.now.bytes (W.lists table.now.words) node }
+    requires named { HasName node.kind }
+    ensures { (nest : Forest) → IsNestOf table.now.bytes (W.lists table.now.words) nest → (e : Entry) → Stands node.kind node.at e (nodes_of table.now.bytes nest) →
+        result.now ≡ encode_utf8_all (node_prefix e.what) }
+{
+    let parts = parts_at(table.words(), node.at);
+    if parts.token == 7 {
+        return &[];
+    }
+    qnames::prefix_of(slice_of(table.bytes(), parts), parts.prefix)
+}
+
+/// The local part of a node's name, in UTF-8: what follows the colon, or the whole; an instruction's is its target. The node
+/// is an element, an attribute or an instruction of the table.
+pub fn local_of<'a, W: Words>(table: &Table<'a, W>, node: Node) -> &'a [u8]
+    requires node { IsNodeOf table.now.bytes (W.lists table.now.words) node }
+    requires named { HasName node.kind }
+    ensures { (nest : Forest) → IsNestOf table.now.bytes (W.lists table.now.words) nest → (e : Entry) → Stands node.kind node.at e (nodes_of table.now.bytes nest) →
+        result.now ≡ encode_utf8_all (node_local e.what) }
+{
+    let parts = parts_at(table.words(), node.at);
+    let name = slice_of(table.bytes(), parts);
+    if parts.token == 7 {
+        return name;
+    }
+    qnames::local_of(name, parts.prefix)
+}
+
+/// The URI of a node's expanded name (Namespaces in XML 1.0, sections 2.1 and 6): that of the prefix, or of the default for an
+/// element without one; an attribute without a prefix and an instruction have none. The node is an element, an attribute or an
+/// instruction of the table. The search goes from each element to the one that holds it, by its records, up to the declaration.
+pub fn uri_of<'a, W: Words>(table: &Table<'a, W>, node: Node) -> Uri<'a, W>
+    requires node { IsNodeOf table.now.bytes (W.lists table.now.words) node }
+    requires named { HasName node.kind }
+    ensures { (nest : Forest) → IsNestOf table.now.bytes (W.lists table.now.words) nest → (e : Entry) → Stands node.kind node.at e (nodes_of table.now.bytes nest) →
+        uri_value result ≡ uri_in (expanded e) }
+{
+    let prefix = prefix_of(table, node);
+    match node.kind {
+        Kind::Element => uri_of_prefix(table, nearest_element(table, node), prefix),
+        Kind::Attribute => {
+            if prefix.is_empty() {
+                return Uri::None;
+            }
+            uri_of_prefix(table, nearest_element(table, node), prefix)
+        }
+        _ => Uri::None,
+    }
+}
+
+/// Whether a node passes a name test (XPath 1.0, section 2.3), by its expanded name; an empty URI is no namespace. The node is
+/// an element or an attribute of the table.
+pub fn matches<W: Words>(table: &Table<'_, W>, node: Node, test: &NameTest<'_>) -> bool
+    requires node { IsNodeOf table.now.bytes (W.lists table.now.words) node }
+    requires named { HasExpandedName node.kind }
+    ensures { (nest : Forest) → IsNestOf table.now.bytes (W.lists table.now.words) nest → (e : Entry) → Stands node.kind node.at e (nodes_of table.now.bytes nest) →
+        result ≡ name_passes (test_of test.now) (expanded e) }
+{
+    match *test {
+        NameTest::Any => true,
+        NameTest::AnyIn { uri } => is_uri(uri_of(table, node), uri),
+        NameTest::Named { uri, local } => {
+            if local_of(table, node) == local.as_bytes() {
+                return is_uri(uri_of(table, node), uri);
+            }
+            false
+        }
+    }
+}

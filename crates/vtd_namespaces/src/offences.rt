@@ -1,0 +1,207 @@
+//! Names that offend Namespaces in XML 1.0 (sections 3, 5, 6.3 and 7).
+
+ghost use Rattle.std.specs.Prelude.{◌≡◌, ℕ, ◌+◌, ◌*◌, ◌<◌, ◌≤◌, ◌^◌, true, false, List, [], ◌∷◌, ◌++◌, length, take, is_some, encode_utf8_all, bytes_eq, codes};
+ghost use Rattle.std.specs.List.{AllByRecursion, list_any};
+ghost use Rattle.xml_model.specs.Scan.{record_at};
+ghost use Rattle.vtd_words.specs.Packed.{token_of};
+ghost use Rattle.xml_model.specs.Items.{Attribute, first_place};
+ghost use Rattle.xml_model.specs.Nest.{Forest};
+ghost use Rattle.xml_model.specs.Content.{value_content};
+ghost use Rattle.xml_model.specs.Chars.{prefix_of as prefix_of_chars};
+ghost use Rattle.xml_model.specs.Records.{Token, attributes_place, records};
+ghost use Rattle.xml_model.specs.Tree.{Holder};
+ghost use Rattle.xml_model.specs.Names.{attribute_uri};
+ghost use Rattle.xml_model.specs.Accepted.{attribute_offends as offends_as_attribute, declaration_offends as offends_by_declaration, is_reserved as is_reserved_uri, offending_attributes, offending_tag, repeated, tag_offends};
+ghost use Rattle.vtd_words.specs.Lists.{list_of};
+ghost use Rattle.vtd_words.specs.Table.{IsNestOf, Shows};
+ghost use Rattle.vtd_text.specs.NameRecords.{IsDeclaration, IsNameOf};
+ghost use Rattle.vtd_namespaces.specs.Standing.{AttributesStand, IsAttributeRecord, TagStands};
+ghost use Rattle.vtd_namespaces.specs.Faults.{first_of};
+ghost use Rattle.vtd_namespaces.specs.Scope.{tags_in};
+ghost use Rattle.vtd_namespaces.specs.Uris.{IsScope};
+ghost use Rattle.vtd_namespaces.specs.Offences.{is_twin, seen_after, IsFine, IsWritten};
+
+use crate::qnames::{after_prefix, is_qname, prefix_of};
+use crate::records::{attribute_at, parts_at, slice_of};
+use crate::scope::Scope;
+use crate::uri::{XML_URI, XMLNS_URI};
+use vtd_text::{Chars, equals_str};
+use vtd_words::{Part, Parts, Table, Words};
+
+/// Whether the value of a declaration is one of the two URIs that are bound to `xml` and `xmlns` for ever.
+fn is_reserved<W: Words>(table: &Table<'_, W>, at: u32) -> bool
+    requires { IsDeclaration table.now.bytes (W.lists table.now.words) at }
+    ensures { (nest : Forest) → IsNestOf table.now.bytes (W.lists table.now.words) nest → (a : Attribute) → IsNameOf table.now.bytes nest at a → result ≡ is_reserved_uri (value_content a.value) }
+{
+    equals_str(Chars::of_declaration(table, at), XML_URI)
+        || equals_str(Chars::of_declaration(table, at), XMLNS_URI)
+}
+
+/// Whether a declaration offends, by its name and its value (Namespaces in XML 1.0, section 3, constraint 'Reserved Prefixes
+/// and Namespace Names', and section 5, constraint 'No Prefix Undeclaring').
+fn declaration_offends<W: Words>(table: &Table<'_, W>, at: u32, name: &[u8]) -> bool
+    requires { IsDeclaration table.now.bytes (W.lists table.now.words) at }
+    ensures { (nest : Forest) → IsNestOf table.now.bytes (W.lists table.now.words) nest → (a : Attribute) → IsNameOf table.now.bytes nest at a →
+        name.now ≡ encode_utf8_all a.name → result ≡ offends_by_declaration a.name (value_content a.value) }
+{
+    if name == DEFAULT {
+        return is_reserved(table, at);
+    }
+    if name == DECLARES_XML {
+        return !equals_str(Chars::of_declaration(table, at), XML_URI);
+    }
+    if name == DECLARES_XMLNS {
+        return true;
+    }
+    if equals_str(Chars::of_declaration(table, at), "") {
+        return true;
+    }
+    is_reserved(table, at)
+}
+
+/// The name that declares the default namespace.
+const DEFAULT: &[u8] = b"xmlns";
+
+/// The name that declares the prefix `xml`.
+const DECLARES_XML: &[u8] = b"xmlns:xml";
+
+/// The name that would declare the prefix `xmlns`.
+const DECLARES_XMLNS: &[u8] = b"xmlns:xmlns";
+
+/// Whether the attribute whose name is a record has the local part and the URI of another, whose prefix is not empty and is
+/// bound (Namespaces in XML 1.0, section 6.3, constraint 'Attributes Unique').
+fn is_twin_at<W: Words>(scope: &Scope<'_, '_, W>, at: u32, name: &[u8], prefix_len: u32) -> bool
+    requires room { at < length (list_of Part.Records (W.lists scope.now.table.now.words)) }
+    requires prefix { 0 < prefix_len }
+    ensures { (nest : Forest) (hs : List Holder) → IsScope scope.now.table.now.bytes (W.lists scope.now.table.now.words) scope.now.open_tags.now scope.now.count nest hs →
+        (a : Attribute) → IsWritten name.now prefix_len a → is_some (attribute_uri (prefix_of_chars a.name) (tags_in hs)) ≡ true →
+        (rs : List Token) → Shows (list_of Part.Records (W.lists scope.now.table.now.words)) rs → (place : ℕ) (b : Attribute) → IsAttributeRecord scope.now.table.now.bytes rs at place b →
+        result ≡ is_twin (tags_in hs) a b }
+{
+    let other = parts_at(scope.table.words(), at);
+    if other.token != 2 {
+        return false;
+    }
+    if other.prefix == 0 {
+        return false;
+    }
+    let other_name = slice_of(scope.table.bytes(), other);
+    if after_prefix(other_name, other.prefix) == after_prefix(name, prefix_len) {
+        return scope.bound_alike(
+            prefix_of(name, prefix_len),
+            prefix_of(other_name, other.prefix),
+        );
+    }
+    false
+}
+
+/// Whether one of so many attributes of the nearest tag has the local part and the URI of an attribute whose prefix is not
+/// empty and is bound; the record of the first of them has the index `first`.
+fn has_twin<W: Words>(
+    scope: &Scope<'_, '_, W>,
+    first: u32,
+    count: u32,
+    name: &[u8],
+    prefix_len: u32,
+) -> bool
+    requires room { first + 2 * count ≤ length (list_of Part.Records (W.lists scope.now.table.now.words)) }
+    requires bound { first + 2 * count < 2 ^ 32 }
+    requires prefix { 0 < prefix_len }
+    ensures { (nest : Forest) (x : Holder) (xs : List Holder) → IsScope scope.now.table.now.bytes (W.lists scope.now.table.now.words) scope.now.open_tags.now scope.now.count nest (x ∷ xs) →
+        first ≡ x.place + 1 → count ≤ length x.tag.attributes →
+        (a : Attribute) → IsWritten name.now prefix_len a → is_some (attribute_uri (prefix_of_chars a.name) (tags_in (x ∷ xs))) ≡ true →
+        result ≡ list_any (is_twin (tags_in (x ∷ xs)) a) (take count x.tag.attributes) }
+{
+    for number in 0..count {
+        if is_twin_at(scope, first + 2 * number, name, prefix_len) {
+            return true;
+        }
+    }
+    false
+}
+
+/// Whether an attribute or a declaration of the nearest tag offends, by the number of attributes before it, none of which
+/// offends; the record of the first of them has the index `first`. No two of them have one name.
+fn attribute_offends<W: Words>(
+    scope: &Scope<'_, '_, W>,
+    first: u32,
+    number: u32,
+    parts: Parts,
+) -> bool
+    requires room { first + 2 * number < length (list_of Part.Records (W.lists scope.now.table.now.words)) }
+    requires bound { first + 2 * number < 2 ^ 32 }
+    requires here { (rs : List Token) → Shows (list_of Part.Records (W.lists scope.now.table.now.words)) rs → token_of parts ≡ record_at (first + 2 * number) rs }
+    ensures { (nest : Forest) (x : Holder) (xs : List Holder) → IsScope scope.now.table.now.bytes (W.lists scope.now.table.now.words) scope.now.open_tags.now scope.now.count nest (x ∷ xs) →
+        first ≡ x.place + 1 → (done left : List Attribute) (a : Attribute) → x.tag.attributes ≡ done ++ (a ∷ left) → length done ≡ number →
+        AllByRecursion (IsFine (tags_in (x ∷ xs))) done → AllByRecursion (λ b. bytes_eq a.name b.name ≡ false) done →
+        result ≡ offends_as_attribute (tags_in (x ∷ xs)) (seen_after (tags_in (x ∷ xs)) [] done) a }
+{
+    let name = slice_of(scope.table.bytes(), parts);
+    if !is_qname(name, parts.prefix) {
+        return true;
+    }
+    if parts.token == 3 {
+        return declaration_offends(scope.table, first + 2 * number, name);
+    }
+    if parts.prefix == 0 {
+        return false;
+    }
+    if !scope.is_bound(prefix_of(name, parts.prefix)) {
+        return true;
+    }
+    has_twin(scope, first, number, name, parts.prefix)
+}
+
+/// Where the first name of an attribute or a declaration of the nearest tag begins that offends; no two of them have one
+/// name, and the record of the first of them has the index `first`.
+fn attributes_offence<W: Words>(scope: &Scope<'_, '_, W>, first: u32) -> Option<u32>
+    requires { first ≤ length (list_of Part.Records (W.lists scope.now.table.now.words)) }
+    ensures { (nest : Forest) (x : Holder) (xs : List Holder) → IsScope scope.now.table.now.bytes (W.lists scope.now.table.now.words) scope.now.open_tags.now scope.now.count nest (x ∷ xs) →
+        first ≡ x.place + 1 → (at : ℕ) → AttributesStand scope.now.table.now.bytes (records nest (first_place scope.now.table.now.bytes)) first at x.tag.attributes →
+        repeated at [] x.tag.attributes ≡ [] → result ≡ first_of (offending_attributes (tags_in (x ∷ xs)) at [] x.tag.attributes) }
+{
+    let mut number = 0;
+    while let Some(parts) = attribute_at(scope.table.words(), first + 2 * number) {
+        if attribute_offends(scope, first, number, parts) {
+            return Some(parts.offset);
+        }
+        number += 1;
+    }
+    None
+}
+
+/// The prefix that no tag may have.
+const XMLNS: &[u8] = b"xmlns";
+
+/// Whether the name of the nearest tag offends, by the parts of its record.
+fn tag_name_offends<W: Words>(scope: &Scope<'_, '_, W>, tag: u32, parts: Parts) -> bool
+    requires { (rs : List Token) → Shows (list_of Part.Records (W.lists scope.now.table.now.words)) rs → token_of parts ≡ record_at tag rs }
+    ensures { (nest : Forest) (x : Holder) (xs : List Holder) → IsScope scope.now.table.now.bytes (W.lists scope.now.table.now.words) scope.now.open_tags.now scope.now.count nest (x ∷ xs) →
+        (at : ℕ) → TagStands scope.now.table.now.bytes (records nest (first_place scope.now.table.now.bytes)) tag at x.tag →
+        result ≡ tag_offends (tags_in (x ∷ xs)) x.tag.name }
+{
+    let name = slice_of(scope.table.bytes(), parts);
+    if !is_qname(name, parts.prefix) {
+        return true;
+    }
+    let prefix = prefix_of(name, parts.prefix);
+    if prefix == XMLNS {
+        return true;
+    }
+    !scope.is_bound(prefix)
+}
+
+/// Where the first name of the nearest tag begins that offends, by the index of the tag's record; no two names of its
+/// attributes and declarations are one.
+pub fn tag_offence<W: Words>(scope: &Scope<'_, '_, W>, tag: u32) -> Option<u32>
+    requires { tag < length (list_of Part.Records (W.lists scope.now.table.now.words)) }
+    ensures { (nest : Forest) (x : Holder) (xs : List Holder) → IsScope scope.now.table.now.bytes (W.lists scope.now.table.now.words) scope.now.open_tags.now scope.now.count nest (x ∷ xs) →
+        tag ≡ x.place → (at : ℕ) → TagStands scope.now.table.now.bytes (records nest (first_place scope.now.table.now.bytes)) tag at x.tag →
+        repeated (attributes_place at x.tag) [] x.tag.attributes ≡ [] → result ≡ first_of (offending_tag at (tags_in xs) x.tag) }
+{
+    let parts = parts_at(scope.table.words(), tag);
+    if tag_name_offends(scope, tag, parts) {
+        return Some(parts.offset);
+    }
+    attributes_offence(scope, tag + 1)
+}
