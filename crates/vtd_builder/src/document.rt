@@ -95,8 +95,8 @@ fn check_recorded(bytes: &[u8], words: &WordVec) -> Result<(), DocFault>
     check_names(&Table::of(bytes, words))
 }
 
-/// The document of the bytes, with the words of its records; its levels are empty. All memory is taken at once, after the
-/// check, so `NoMemory` comes only where no check refuses the bytes.
+/// The document of the bytes, with the words of its records; its levels are empty. All memory is taken at once, behind
+/// `check`, so `NoMemory` comes only where that refuses nothing; the names are checked by the records.
 ///
 /// # Errors
 /// `Doc` exactly where a check refuses the bytes, with the refusal. The bytes come back with each fault.

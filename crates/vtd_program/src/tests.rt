@@ -54,6 +54,16 @@ fn run_over(
     Ok(Answer { status, out, err })
 }
 
+/// A purchase order, of 214 bytes.
+const ORDER: &str = "<?xml version=\"1.0\" encoding=\"UTF-8\"?>
+<!DOCTYPE po [<!ELEMENT po ANY>]>
+<po xmlns=\"urn:po\" xmlns:c=\"urn:c\">
+<!-- cents -->
+<c:item sku=\"A1\" cents=\"1250\">Pen &amp; ink</c:item>
+<c:item sku=\"B2\" cents=\"399\"/>
+</po>
+";
+
 const TWO: &str = "nodes 2\nelement 0 11\nelement 3 4\n";
 
 #[test]
@@ -82,6 +92,12 @@ fn runs(rt: HostRuntime) -> Result<(), Fail> {
             Status::Done,
         ),
         (
+            ORDER,
+            "elements",
+            "nodes 3\nelement 73 140\nelement 124 52\nelement 177 30\n",
+            Status::Done,
+        ),
+        (
             "<!DOCTYPE a [<!-- ] -->]><a/>",
             "elements",
             "nodes 1\nelement 25 4\n",
@@ -99,7 +115,7 @@ fn runs(rt: HostRuntime) -> Result<(), Fail> {
 
 #[test]
 fn refused_documents(rt: HostRuntime) -> Result<(), Fail> {
-    let rows: [(&[u8], &str); 12] = [
+    let rows: [(&[u8], &str); 15] = [
         (b"<a\xff", "utf8 2"),
         (b"<a>&lt</a>", "syntax 3"),
         (b"<a>]]></a>", "syntax 3"),
@@ -115,6 +131,12 @@ fn refused_documents(rt: HostRuntime) -> Result<(), Fail> {
         (b"<a/>x", "nesting 4"),
         (b"<a/><b/>", "nesting 4"),
         (b"\xef\xbb\xbf", "nesting 3"),
+        (b"<a b=\"1\" b=\"2\"/>", "twice 9"),
+        (b"<p:a/>", "namespace 1"),
+        (
+            b"<a xmlns:p=\"u\" xmlns:q=\"u\" p:x=\"1\" q:x=\"2\"/>",
+            "namespace 35",
+        ),
     ];
     for (doc, words) in rows {
         let got = run_over(rt.alloc(), &["doc"], doc, "elements", NO_FAULT)?;
