@@ -1,6 +1,7 @@
 -- How many attributes there are.
 use Rattle.std.proofs.Common.{◌≡◌, ℕ, suc, ◌+◌, true, false, List, [], length, take, Option, Some, None, refl, sym, ap, ◌∙◌, arith, add-zero}
-use Rattle.std.specs.Prelude.{option_map}
+use Rattle.std.specs.Prelude.{option_map, is_some}
+use Rattle.std.proofs.lemmas.Bool.{false≢true, true_from_ne_false}
 use Rattle.std.specs.List.{prefix_len}
 use Rattle.std.proofs.lemmas.Option.{same_Some}
 use Rattle.xml_model.specs.Chars.{is_space}
@@ -32,6 +33,11 @@ behind_space s space a e = sym (ap (λ (p : List ℕ × List ℕ). p.1) (same_So
 pub attribute_goes : (s space a : List ℕ) → read_space s ≡ Some (space, a) → begins_attribute s ≡ begins_name a
 unfolding begins_attribute
 attribute_goes s space a e = ap begins_name (sym (behind_space s space a e))
+
+-- where there are attributes, white space stands before each
+pub attributes_spaced : (s space a : List ℕ) → is_some (read_attributes s) ≡ true → read_space s ≡ Some (space, a) → begins_name a ≡ true → some_space space ≡ true
+unfolding read_attributes
+attributes_spaced s space a some e go = true_from_ne_false _ (λ f. false≢true (sym (ap is_some (many_none begins_attribute read_attribute s (attribute_goes s space a e ∙ go) (attribute_1 s space a e f))) ∙ some))
 
 counted_by : (o : Option (List Attribute × List ℕ)) → option_map (counted_from 0) o ≡ option_map counted o
 counted_by None = refl

@@ -7,7 +7,7 @@ ghost use Rattle.std.specs.Str.{chars};
 ghost use Rattle.xml_model.specs.Items.{quote_char};
 ghost use Rattle.xml_chars.specs.Readers.{Gives, skip, word};
 ghost use Rattle.xml_items.specs.Quotes.{quote_of};
-ghost use Rattle.xml_items.specs.Reading.{read_quote, read_bare, read_attribute, begins_attribute, read_attributes, read_close, read_tag, read_end_tag};
+ghost use Rattle.xml_items.specs.Reading.{read_quote, read_bare, read_attribute, read_attributes, read_close, read_tag, read_end_tag};
 ghost use Rattle.xml_items.specs.Shown.{item_shown, tag_kind};
 ghost use Rattle.xml_items.specs.Counted.{counted, counted_shown};
 ghost use Rattle.xml_items.specs.Suffixes.{suffixes, suffixes_seen};
@@ -57,7 +57,7 @@ pub struct AttributeText<'a> {
 
 /// The attribute at the front, without white space before it; None where none begins the text.
 #[inline(always)]
-fn bare_attribute_of(text: &str) -> Option<AttributeText<'_>>
+pub fn bare_attribute_of(text: &str) -> Option<AttributeText<'_>>
     ensures read { Gives suffixes_seen result (option_map suffixes (read_bare (chars text.now))) }
     ensures first { IfSome result (λ f. (length f.after_space.now ≡ length text.now) × (length f.after_name.now ≤ length f.after_space.now)) }
     ensures later { IfSome result (λ f. (length f.value.now < length f.after_name.now) × (length f.after_value.now ≤ length f.value.now) × (length f.rest.now < length f.after_value.now)) }
@@ -89,15 +89,6 @@ pub fn attribute_of(text: &str) -> Option<AttributeText<'_>>
         return None;
     }
     bare_attribute_of(after_space)
-}
-
-/// Whether white space, if any, and then a name stand at the front.
-#[tactic(auto, unfolding(crate::specs::Reading::begins_attribute, xml_chars::specs::Reading::read_space))]
-pub fn begins_attribute(text: &str) -> bool
-    ensures { result ≡ begins_attribute (chars text.now) }
-{
-    let (_, rest) = space_of(text);
-    begins_name(rest)
 }
 
 /// How many attributes stand at the front, and what follows them and the white space behind them; None where one of

@@ -9,9 +9,10 @@ ghost use Rattle.xml_items.specs.AttributeList.{attributes_left, attributes_show
 
 use crate::attributes::Attributes;
 use crate::spans::span_between;
-use crate::tags::{attribute_of, begins_attribute};
+use crate::tags::bare_attribute_of;
 use crate::{AttributeItem, Item};
-use xml_chars::text::text_at;
+use xml_chars::names::begins_name;
+use xml_chars::text::{space_of, text_at};
 
 impl<'a> Attributes<'a> {
     /// The attributes of an item that is a tag or an XML declaration and that `next_item` answers at the start of its
@@ -41,11 +42,12 @@ impl<'a> Iterator for Attributes<'a> {
     ghost remaining = { item_count attributes_left };
 
     fn next(&mut self) -> Option<AttributeItem> {
-        if !begins_attribute(self.rest) {
+        let text = self.rest;
+        let (_, bare) = space_of(text);
+        if !begins_name(bare) {
             return None;
         }
-        let text = self.rest;
-        let attribute = attribute_of(text)?;
+        let attribute = bare_attribute_of(bare)?;
         let item = AttributeItem {
             name: span_between(self.at, text, attribute.after_space, attribute.after_name),
             value: span_between(self.at, text, attribute.value, attribute.after_value),
