@@ -4,11 +4,11 @@ use Rattle.std.specs.Prelude.{◌&&◌, ◌==◌, nat_lt}
 use Rattle.std.specs.List.{AllByRecursion}
 use Rattle.std.specs.Str.{IsUtf8, IsCharBoundary}
 use Rattle.std.proofs.lemmas.Bool.{and_parts, false≢true, cases_Bool, ltb-true, eqb-true}
-use Rattle.std.proofs.lemmas.List.{length-append, length-drop}
-use Rattle.std.proofs.lemmas.Str.{IsUtf8-drop, IsCharBoundary-start, IsCharBoundary-past_char}
-use lib.Utf8.{encode}
-use Rattle.xml_model.specs.Chars.{begins}
-use Rattle.xml_model.specs.Items.{Leaf, Item, leaf, start_tag, empty_tag, end_tag, spelling, begins_at, byte_order_mark, first_place, walk, walk_from, walk_to_end, end_of_items}
+use Rattle.std.proofs.lemmas.List.{length-append, length-drop, drop-drop}
+use Rattle.std.proofs.lemmas.Str.{IsUtf8-drop, IsCharBoundary-start, IsCharBoundary-past_char, IsCharBoundary-from_drop, scalars-chars}
+use lib.Utf8.{encode, encodes, scalar, scalars}
+use Rattle.xml_model.specs.Chars.{begins, size}
+use Rattle.xml_model.specs.Items.{Leaf, Item, written, leaf, start_tag, empty_tag, end_tag, spelling, begins_at, byte_order_mark, first_place, walk, walk_from, walk_to_end, end_of_items}
 use Rattle.xml_model.specs.Nest.{Forest, flat}
 use Rattle.xml_model.specs.Records.{Token, document, records, tokens, word, attributes_place}
 use Rattle.xml_model.specs.Accepted.{Accepted, IsDocument}
@@ -16,7 +16,11 @@ use Rattle.vtd_words.specs.Lists.{Lists}
 use Rattle.vtd_words.specs.Packed.{fits}
 use Rattle.vtd_words.specs.Table.{parts_of_token}
 use Rattle.vtd_words.proofs.Fitting.{nest_shown}
-use Rattle.xml_chars.proofs.Readers.{begins_split}
+use Rattle.xml_chars.proofs.Readers.{begins_split, begins_append}
+use Rattle.xml_chars.proofs.StandLemmas.{front_stands}
+use Rattle.xml_items.proofs.SpanLemmas.{spelled}
+use Rattle.vtd_builder.proofs.Recorded.{item_placed}
+use Rattle.vtd_builder.proofs.Placed.{placed_end}
 use Rattle.xml_items.specs.declared.ItemKind.{ItemKind}
 use Rattle.xml_items.specs.declared.Item.{Item as ItemShown}
 use Rattle.xml_items.specs.Shown.{item_kind, item_shown, IsItemAt, HasNoItem}
@@ -72,15 +76,7 @@ can_all bytes nest small a =
 
 -- ---- one item
 
--- the item that was found is the head of what is left
-pub record Next (bytes : List ℕ) (at level : ℕ) (found : ItemShown) (rest : List Item) : Type 0 where
-  pub item : Item
-  pub others : List Item
-  pub shows : ShowsItem bytes found item
-  pub behind : GoesOn bytes found.span.end others
-  pub tokens : items_tokens level at rest ≡ item_tokens level found.span.start item ++ items_tokens (level_by found.kind level) found.span.end others
-
-level_is : (i : Item) (level : ℕ) → level_after i level ≡ level_by (item_kind i) level
+pub level_is : (i : Item) (level : ℕ) → level_after i level ≡ level_by (item_kind i) level
 level_is (leaf (Leaf.text x)) level = refl
 level_is (leaf (Leaf.cdata x)) level = refl
 level_is (leaf (Leaf.comment x)) level = refl
@@ -92,25 +88,8 @@ level_is (empty_tag t) level = refl
 level_is (end_tag name space) zero = refl
 level_is (end_tag name space) (suc n) = omega arith
 
-pub next_of : (rest : List Item) (bytes : List ℕ) (at level : ℕ) (found : ItemShown) → IsUtf8 bytes → IsCharBoundary bytes at → IsItemAt bytes at found → found.span.start ≡ at → (at ≡ length bytes → ⊥) → GoesOn bytes at rest → Next bytes at level found rest
-next_of [] bytes at level found u b is start more g = absurd (more g.ends)
-next_of (j ∷ others) bytes at level found u b is start more g =
-    let h = and_parts (begins_at bytes at j) (walk_from bytes (at + length (spelling j)) others) g.walked in
-    let same : is.item ≡ j = one_item bytes at is.item j (IsUtf8-drop bytes at u b) is.begins h.0 in
-    let shown : found ≡ item_shown at j = is.shown ∙ ap (item_shown at) same in
-    let end : at + length (spelling j) ≡ found.span.end = ap (λ (f : ItemShown). f.span.end) (sym shown) in
-    let kind : item_kind j ≡ found.kind = ap (λ (f : ItemShown). f.kind) (sym shown) in
-    record {
-      item = j;
-      others = others;
-      shows = record { begins = subst (λ (p : ℕ). begins_at bytes p j ≡ true) (sym start) h.0; shown = shown ∙ ap (λ (p : ℕ). item_shown p j) (sym start) };
-      behind = subst (λ (p : ℕ). GoesOn bytes p others) end (record { walked = h.1; ends = g.ends });
-      tokens = ap₂ (λ (x y : List Token). x ++ y) (ap (λ (p : ℕ). item_tokens level p j) (sym start))
-          (ap₂ (λ (l p : ℕ). items_tokens l p others) (level_is j level ∙ ap (λ (k : ItemKind). level_by k level) kind) end);
-    }
-
 -- a start tag's own record bounds the elements that stand open
-level_low : (i : Item) (level at count : ℕ) → CanOffer count (item_tokens level at i) → level ≤ 256 → level_by (item_kind i) level ≤ 256
+pub level_low : (i : Item) (level at count : ℕ) → CanOffer count (item_tokens level at i) → level ≤ 256 → level_after i level ≤ 256
 level_low (leaf (Leaf.text x)) level at count c l = l
 level_low (leaf (Leaf.cdata x)) level at count c l = l
 level_low (leaf (Leaf.comment x)) level at count c l = l
@@ -122,10 +101,8 @@ level_low (start_tag t) level at count c l =
     let low : level < 256 = grind (arith, f) in
     omega arith
 level_low (empty_tag t) level at count c l = l
-level_low (end_tag name space) level at count c l = omega arith
-
-pub level_stays : (bytes : List ℕ) (found : ItemShown) (i : Item) (level count : ℕ) → ShowsItem bytes found i → CanOffer count (item_tokens level found.span.start i) → level ≤ 256 → level_by found.kind level ≤ 256
-level_stays bytes found i level count s c l = subst (λ (k : ItemKind). level_by k level ≤ 256) (ap (λ (f : ItemShown). f.kind) (sym s.shown)) (level_low i level found.span.start count c l)
+level_low (end_tag name space) zero at count c l = l
+level_low (end_tag name space) (suc n) at count c l = omega arith
 
 -- ---- the end
 
@@ -134,12 +111,6 @@ ends_at [] bytes at e g = refl
 ends_at (j ∷ others) bytes at e g =
     let h = and_parts (begins_at bytes at j) (walk_from bytes (at + length (spelling j)) others) g.walked in
     absurd (omega (arith, (item_long j 0 at (begun_meets bytes at j h.0)).some, items_rise others (at + length (spelling j)), g.ends, e))
-
-pub ends_none : (rest : List Item) (bytes : List ℕ) (at : ℕ) → HasNoItem bytes at → GoesOn bytes at rest → rest ≡ []
-ends_none [] bytes at n g = refl
-ends_none (j ∷ others) bytes at n g =
-    let h = and_parts (begins_at bytes at j) (walk_from bytes (at + length (spelling j)) others) g.walked in
-    absurd (false≢true (sym (n j) ∙ h.0))
 
 -- ---- the pass
 
@@ -167,64 +138,76 @@ stopped_first bytes nest first before taken k small a e =
     let start : Offers first before 0 (records nest (first_place bytes)) first before 0 all = record { test = refl; can = can_all bytes nest small a; same = ap (λ (l : List Token). offer first before 0 (map word l)) (records_split bytes nest) } in
     offers_stopped first before 0 (records nest (first_place bytes)) first before 0 (document ∷ []) (items_tokens 0 (first_place bytes) (flat nest)) taken k start e
 
--- what an item that was found tells of each nest
-pub record Found (bytes : List ℕ) (nest : Forest) (first : Test) (before : List ℕ) (at level : ℕ) (found : ItemShown) (now : Test) (taken : List ℕ) (count : ℕ) : Type 0 where
+-- the head of what is left of a nest
+pub record Head (bytes : List ℕ) (nest : Forest) (first : Test) (before : List ℕ) (at level : ℕ) (now : Test) (taken : List ℕ) (count : ℕ) : Type 0 where
   pub item : Item
   pub others : List Item
-  pub shows : ShowsItem bytes found item
-  pub behind : GoesOn bytes found.span.end others
-  pub can : CanOffer count (item_tokens level found.span.start item)
-  pub offers : Offers first before 0 (records nest (first_place bytes)) now taken count (item_tokens level found.span.start item ++ items_tokens (level_by found.kind level) found.span.end others)
+  pub begins : begins_at bytes at item ≡ true
+  pub behind : GoesOn bytes (at + length (spelling item)) others
+  pub can : CanOffer count (item_tokens level at item)
+  pub offers : Offers first before 0 (records nest (first_place bytes)) now taken count (item_tokens level at item ++ items_tokens (level_after item level) (at + length (spelling item)) others)
+  pub longer : at < at + length (spelling item)
+  pub within : at + length (spelling item) ≤ length bytes
 
-pub found_in : (bytes : List ℕ) (nest : Forest) (first : Test) (before : List ℕ) (at level : ℕ) (found : ItemShown) (now : Test) (taken : List ℕ) (count : ℕ)
-    → Ahead bytes nest first before at level now taken count → IsUtf8 bytes → IsCharBoundary bytes at → IsItemAt bytes at found → found.span.start ≡ at → (at ≡ length bytes → ⊥) → Found bytes nest first before at level found now taken count
-found_in bytes nest first before at level found now taken count a u b is start more =
-    let n = next_of a.rest bytes at level found u b is start more a.goes in
-    let o = subst (λ (l : List Token). Offers first before 0 (records nest (first_place bytes)) now taken count l) n.tokens a.offers in
-    record {
-      item = n.item;
-      others = n.others;
-      shows = n.shows;
-      behind = n.behind;
-      can = can_first count (item_tokens level found.span.start n.item) (items_tokens (level_by found.kind level) found.span.end n.others) o.can;
-      offers = o;
-    }
+pub head_of : (bytes : List ℕ) (nest : Forest) (first : Test) (before : List ℕ) (at level : ℕ) (now : Test) (taken : List ℕ) (count : ℕ) → Ahead bytes nest first before at level now taken count → at < length bytes → Head bytes nest first before at level now taken count
+head_of bytes nest first before at level now taken count a lt = go a.rest a.goes a.offers
+  where
+    go : (rest : List Item) → GoesOn bytes at rest → Offers first before 0 (records nest (first_place bytes)) now taken count (items_tokens level at rest) → Head bytes nest first before at level now taken count
+    go [] g o = absurd (omega (arith, g.ends))
+    go (i ∷ others) g o =
+        let h = and_parts (begins_at bytes at i) (walk_from bytes (at + length (spelling i)) others) g.walked in
+        let long = item_long i level at (begun_meets bytes at i h.0) in
+        record {
+          item = i;
+          others = others;
+          begins = h.0;
+          behind = record { walked = h.1; ends = g.ends };
+          can = can_first count (item_tokens level at i) (items_tokens (level_after i level) (at + length (spelling i)) others) o.can;
+          offers = o;
+          longer = omega (arith, long.some);
+          within = omega (arith, items_rise others (at + length (spelling i)), g.ends);
+        }
 
 -- what offering the records of an item answers
-abbrev pub Answers : List ℕ → ℕ → ItemShown → Test → List ℕ → ℕ → Outcome → Type 0
-Answers bytes level found now taken count answer = (i : Item) → ShowsItem bytes found i → answer ≡ offer now taken count (map word (item_tokens level found.span.start i))
+abbrev pub Answers : List ℕ → ℕ → ℕ → Test → List ℕ → ℕ → Outcome → Type 0
+Answers bytes at level now taken count answer = (i : Item) → begins_at bytes at i ≡ true → CanOffer count (item_tokens level at i) → answer ≡ offer now taken count (map word (item_tokens level at i))
 
-pub ahead_more : (bytes : List ℕ) (nest : Forest) (first : Test) (before : List ℕ) (at level : ℕ) (found : ItemShown) (now later : Test) (taken taken1 : List ℕ) (count n : ℕ)
-    → Found bytes nest first before at level found now taken count → Answers bytes level found now taken count (outcome taken1 (Ok n)) → later ≡ now → Ahead bytes nest first before found.span.end (level_by found.kind level) later taken1 n
-ahead_more bytes nest first before at level found now later taken taken1 count n f e t = record {
+pub ahead_more : (bytes : List ℕ) (nest : Forest) (first : Test) (before : List ℕ) (at level : ℕ) (now later : Test) (taken taken1 : List ℕ) (count n : ℕ) (past after : ℕ)
+    → (f : Head bytes nest first before at level now taken count) → Answers bytes at level now taken count (outcome taken1 (Ok n)) → later ≡ now → past ≡ at + length (spelling f.item) → after ≡ level_after f.item level → Ahead bytes nest first before past after later taken1 n
+ahead_more bytes nest first before at level now later taken taken1 count n past after f e t p l = record {
   rest = f.others;
-  goes = f.behind;
-  offers = offers_more first before 0 (records nest (first_place bytes)) now taken count (item_tokens level found.span.start f.item) (items_tokens (level_by found.kind level) found.span.end f.others) later taken1 n f.offers (e f.item f.shows) t;
+  goes = subst (λ (m : ℕ). GoesOn bytes m f.others) (sym p) f.behind;
+  offers = subst (λ (o : List Token). Offers first before 0 (records nest (first_place bytes)) later taken1 n o) (ap₂ (λ (x y : ℕ). items_tokens x y f.others) (sym l) (sym p))
+      (offers_more first before 0 (records nest (first_place bytes)) now taken count (item_tokens level at f.item) (items_tokens (level_after f.item level) (at + length (spelling f.item)) f.others) later taken1 n f.offers (e f.item f.begins f.can) t);
 }
 
-pub stopped_more : (bytes : List ℕ) (nest : Forest) (first : Test) (before : List ℕ) (at level : ℕ) (found : ItemShown) (now : Test) (taken taken1 : List ℕ) (count k : ℕ)
-    → Found bytes nest first before at level found now taken count → Answers bytes level found now taken count (outcome taken1 (Err k)) → outcome taken1 (Err k) ≡ offer first before 0 (record_words bytes nest)
-stopped_more bytes nest first before at level found now taken taken1 count k f e =
-    offers_stopped first before 0 (records nest (first_place bytes)) now taken count (item_tokens level found.span.start f.item) (items_tokens (level_by found.kind level) found.span.end f.others) taken1 k f.offers (e f.item f.shows)
+pub stopped_more : (bytes : List ℕ) (nest : Forest) (first : Test) (before : List ℕ) (at level : ℕ) (now : Test) (taken taken1 : List ℕ) (count k : ℕ)
+    → Head bytes nest first before at level now taken count → Answers bytes at level now taken count (outcome taken1 (Err k)) → outcome taken1 (Err k) ≡ offer first before 0 (record_words bytes nest)
+stopped_more bytes nest first before at level now taken taken1 count k f e =
+    offers_stopped first before 0 (records nest (first_place bytes)) now taken count (item_tokens level at f.item) (items_tokens (level_after f.item level) (at + length (spelling f.item)) f.others) taken1 k f.offers (e f.item f.begins f.can)
 
 -- nothing is left
-pub ahead_end : (bytes : List ℕ) (nest : Forest) (first : Test) (before : List ℕ) (at level : ℕ) (now : Test) (taken : List ℕ) (count : ℕ) → Ahead bytes nest first before at level now taken count → (at ≡ length bytes) ⊎ HasNoItem bytes at
+pub ahead_end : (bytes : List ℕ) (nest : Forest) (first : Test) (before : List ℕ) (at level : ℕ) (now : Test) (taken : List ℕ) (count : ℕ) → Ahead bytes nest first before at level now taken count → at ≡ length bytes
     → outcome taken (Ok count) ≡ offer first before 0 (record_words bytes nest)
-ahead_end bytes nest first before at level now taken count a (inl e) =
+ahead_end bytes nest first before at level now taken count a e =
     offers_all first before 0 (records nest (first_place bytes)) now taken count (items_tokens level at a.rest) a.offers (ap (items_tokens level at) (ends_at a.rest bytes at e a.goes))
-ahead_end bytes nest first before at level now taken count a (inr n) =
-    offers_all first before 0 (records nest (first_place bytes)) now taken count (items_tokens level at a.rest) a.offers (ap (items_tokens level at) (ends_none a.rest bytes at n a.goes))
+
+-- where an item ends, a character may begin
+pub past_boundary : (bytes : List ℕ) (at : ℕ) (i : Item) → IsUtf8 bytes → IsCharBoundary bytes at → begins_at bytes at i ≡ true → IsCharBoundary bytes (at + length (spelling i))
+past_boundary bytes at i u b h =
+    let k = item_placed bytes at i b.0 h in
+    let f = front_stands (drop at bytes) (written i) (IsUtf8-drop bytes at u b) (ap (begins (encodes (written i))) k.here ∙ begins_append (encodes (written i)) k.more) in
+    let back : drop (at + size (written i)) bytes ≡ encodes f.0 = sym (drop-drop (size (written i)) at bytes) ∙ sym f.2 in
+    let s : scalars f.0 ≡ true = scalar_back (written i) f.0 (ap scalars (sym f.1) ∙ scalars-chars (drop at bytes) (IsUtf8-drop bytes at u b)) in
+    let v : IsUtf8 (drop (at + size (written i)) bytes) = (f.0, (s, sym back)) in
+    subst (λ (m : ℕ). IsCharBoundary bytes (at + m)) (sym (spelled i)) (IsCharBoundary-from_drop bytes (at + size (written i)) (placed_end bytes at (written i) k) v)
+  where
+    scalar_back : (v w : List ℕ) → scalars (v ++ w) ≡ true → scalars w ≡ true
+    scalar_back [] w h = h
+    scalar_back (c ∷ v) w h = scalar_back v w (and_parts (scalar c) (scalars (v ++ w)) h).1
 
 -- how far the pass has come, whichever nest the bytes have
 pub record Passing (bytes : List ℕ) (first : Test) (before : List ℕ) (at level : ℕ) (now : Test) (taken : List ℕ) (count : ℕ) : Type 0 where
   pub boundary : IsCharBoundary bytes at
   pub low : level ≤ 256
   pub each : (nest : Forest) → Accepted 6 bytes nest → Ahead bytes nest first before at level now taken count
-
--- the pass moves on, within the bytes
-pub further : (bytes : List ℕ) (nest : Forest) (first : Test) (before : List ℕ) (at level : ℕ) (found : ItemShown) (now : Test) (taken : List ℕ) (count : ℕ)
-    → Found bytes nest first before at level found now taken count → found.span.start ≡ at → (at < found.span.end) × (found.span.end ≤ length bytes)
-further bytes nest first before at level found now taken count f start =
-    let long = item_long f.item level found.span.start (begun_meets bytes found.span.start f.item f.shows.begins) in
-    let end : found.span.end ≡ found.span.start + length (spelling f.item) = ap (λ (x : ItemShown). x.span.end) f.shows.shown in
-    (omega (arith, long.some, end, start), omega (arith, items_rise f.others found.span.end, f.behind.ends))

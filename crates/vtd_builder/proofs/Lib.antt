@@ -1,7 +1,11 @@
 pub mod Colons
 pub mod InParts
 pub mod Placed
+pub mod Cutting
 pub mod Recorded
+pub mod Tagging
 pub mod Counted
 pub mod Going
 pub mod Refused
+pub mod TagFacts
+pub mod TagMarks

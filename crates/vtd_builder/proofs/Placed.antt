@@ -7,12 +7,7 @@ use Rattle.xml_model.specs.declared.Span.{Span}
 use Rattle.xml_model.specs.Chars.{size}
 use Rattle.xml_chars.specs.Places.{span_from}
 use Rattle.vtd_builder.specs.Found.{bytes_of, IsWithin}
-
--- the characters stand at the place, and more bytes follow
-pub record Placed (bytes : List ℕ) (at : ℕ) (cs : List ℕ) : Type 0 where
-  pub more : List ℕ
-  pub here : drop at bytes ≡ encodes cs ++ more
-  pub within : at ≤ length bytes
+use Rattle.vtd_builder.specs.Cuts.{Placed}
 
 placed_both : (bytes : List ℕ) (at : ℕ) (v w : List ℕ) → (p : Placed bytes at (v ++ w)) → drop at bytes ≡ encodes v ++ (encodes w ++ p.more)
 placed_both bytes at v w p = p.here ∙ ap (λ (l : List ℕ). l ++ p.more) (encodes-append v w) ∙ append_assoc (encodes v) (encodes w) p.more

@@ -22,7 +22,8 @@ use Rattle.xml_items.proofs.SpanLemmas.{size_1}
 use Rattle.xml_acceptance.specs.Machine.{item_tokens}
 use Rattle.vtd_builder.specs.Found.{bytes_of, IsWithin, plain_span, named_span, attribute_found, attributes_found, part_found, parts_found, found_by, ShowsItem, AreOrdered, HasPlaces}
 use Rattle.vtd_builder.proofs.Colons.{prefix_bytes, declares_bytes}
-use Rattle.vtd_builder.proofs.Placed.{Placed, placed_front, placed_back, placed_as, placed_bytes, placed_span}
+use Rattle.vtd_builder.specs.Cuts.{Placed, past_name, is_tag}
+use Rattle.vtd_builder.proofs.Placed.{placed_front, placed_back, placed_as, placed_bytes, placed_span}
 
 -- ---- one record
 
@@ -41,10 +42,6 @@ pub kind_is : (bytes : List ℕ) (at : ℕ) (cs : List ℕ) → Placed bytes at 
 kind_is bytes at cs p = sym (ap name_token (placed_bytes bytes at cs p) ∙ ap (λ (b : Bool). cond b 3 2) (declares_bytes cs))
 
 -- ---- attributes
-
--- what follows the name of an attribute
-abbrev past_name : Attribute → List ℕ
-past_name a = a.left ++ (codes "=" ++ (a.right ++ (quote_char a.quote ∷ (written_pieces a.value ++ quote_char a.quote ∷ []))))
 
 attribute_split : (a : Attribute) (others : List Attribute) → written_attributes (a ∷ others) ≡ a.space ++ (a.name ++ (past_name a ++ written_attributes others))
 attribute_split a others = simp append_assoc
@@ -121,11 +118,6 @@ start_found bytes level at t within h =
 pub empty_found : (bytes : List ℕ) (level at : ℕ) (t : Tag) → at ≤ length bytes → begins_at bytes at (empty_tag t) ≡ true → TagFound bytes level at t
 empty_found bytes level at t within h =
     tag_is bytes level at t (t.space ++ codes "/>") (placed_as bytes at (written (empty_tag t)) _ (empty_split t.name (written_attributes t.attributes) t.space) (item_placed bytes at (empty_tag t) within h))
-
-abbrev pub is_tag : ItemKind → Bool
-is_tag kinds.StartTag = true
-is_tag kinds.EmptyTag = true
-is_tag _ = false
 
 -- all that is known of an item that was found
 pub record ItemFound (bytes : List ℕ) (level : ℕ) (found : ItemShown) (i : Item) : Type 0 where

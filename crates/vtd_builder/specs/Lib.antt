@@ -1,3 +1,4 @@
 pub mod Offered
 pub mod Found
 pub mod Documents
+pub mod Cuts

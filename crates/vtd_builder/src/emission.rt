@@ -5,12 +5,10 @@ ghost use Rattle.xml_model.specs.Items.{first_place};
 ghost use Rattle.xml_model.specs.Nest.{Forest};
 ghost use Rattle.xml_model.specs.Accepted.{Accepted};
 ghost use Rattle.vtd_builder.specs.Offered.{IsFirstRefused, offer, outcome, record_words};
-ghost use Rattle.vtd_builder.specs.Found.{level_by};
 
 use crate::offers::{offer, offer_item};
 use crate::sink::RecordSink;
 use vtd_words::Parts;
-use xml_items::{ItemKind, next_item};
 
 /// The record of the document, which comes first.
 const DOCUMENT: Parts = Parts {
@@ -32,18 +30,6 @@ fn first_place(bytes: &[u8]) -> u32
     }
 }
 
-/// How many elements stand open behind an item.
-fn level_after(kind: ItemKind, level: u32) -> u32
-    requires { level ≤ 256 }
-    ensures { result ≡ level_by kind level }
-{
-    match kind {
-        ItemKind::StartTag => level + 1,
-        ItemKind::EndTag => level.saturating_sub(1),
-        _ => level,
-    }
-}
-
 /// Offers all records, and answers how many there are, or the number of the record that the sink refused.
 fn offer_records<R: RecordSink>(bytes: &[u8], into: &mut R) -> Result<u32, u32>
     requires size { length bytes.now < 2 ^ 30 }
@@ -56,10 +42,11 @@ fn offer_records<R: RecordSink>(bytes: &[u8], into: &mut R) -> Result<u32, u32>
     let mut count = offer(DOCUMENT, 0, into)?;
     let mut level = 0;
     let mut at = first_place(bytes);
-    while let Ok(Some(item)) = next_item(bytes, at) {
-        count = offer_item(bytes, item, level, count, into)?;
-        level = level_after(item.kind, level);
-        at = item.span.end;
+    while (at as usize) < bytes.len() {
+        let passed = offer_item(bytes, at, level, count, into)?;
+        count = passed.count;
+        level = passed.level;
+        at = passed.at;
     }
     Ok(count)
 }

@@ -8,6 +8,7 @@ mod filling;
 mod names;
 mod offers;
 mod sink;
+mod tags;
 
 pub use document::{BuildFault, Doc, build};
 pub use emission::emit;

@@ -1,21 +1,26 @@
 //! The records of one item, offered to a sink in order. Each function is told how many records came before and answers
 //! how many there are then, or as an error the number of the record that the sink refused.
 
-ghost use Rattle.std.specs.Prelude.{◌≡◌, ℕ, ◌+◌, ◌-◌, ◌<◌, ◌≤◌, ◌^◌, [], ◌∷◌, length, map, true};
+ghost use Rattle.std.specs.Prelude.{◌≡◌, ℕ, List, IfOk, ◌+◌, ◌-◌, ◌<◌, ◌≤◌, ◌^◌, [], ◌∷◌, length, map, true, false};
 ghost use Rattle.std.specs.List.{AllByRecursion};
-ghost use Rattle.std.specs.Str.{IsUtf8};
-ghost use Rattle.xml_model.specs.Items.{Item as ModelItem};
+ghost use Rattle.std.specs.Str.{IsUtf8, IsCharBoundary};
+ghost use Rattle.xml_model.specs.Items.{Item as ModelItem, begins_at};
 ghost use Rattle.xml_model.specs.Records.{word, depth_at};
 ghost use Rattle.vtd_words.specs.Packed.{fits, token_of};
 ghost use Rattle.xml_items.specs.AttributeList.{attributes_left};
 ghost use Rattle.xml_acceptance.specs.Machine.{item_tokens};
 ghost use Rattle.vtd_builder.specs.Offered.{offer, outcome, CanOffer};
+ghost use Rattle.xml_model.specs.Chars.{size};
+ghost use Rattle.xml_model.specs.Items.{Attribute, written_attributes};
+ghost use Rattle.xml_model.specs.Records.{attributes_tokens};
+ghost use Rattle.vtd_builder.specs.Cuts.{AttributesAt, closes_tag, counted, is_mark, is_tag, tag_by, is_tag_item, IsPast, passed_count};
 ghost use Rattle.vtd_builder.specs.Found.{bytes_of, IsWithin, plain_span, named_span, attribute_found, attributes_found, part_found, parts_found, level_by, ShowsItem, AreOrdered, HasPlaces};
 
 use crate::names::{name_token, prefix_len};
 use crate::sink::RecordSink;
+use crate::tags::{attribute_cut, past_name, past_space};
 use vtd_words::{Parts, pack};
-use xml_items::{AttributeItem, Attributes, Item, ItemKind};
+use xml_items::{AttributeItem, Attributes, Item, ItemKind, next_item};
 use xml_model::Span;
 
 /// The record of what is no name.
@@ -92,25 +97,53 @@ fn offer_attribute<R: RecordSink>(
     offer(plain_parts(4, depth, attribute.value), count, into)
 }
 
-/// Offers the records of the attributes that are left, in order.
+/// How many records there were, and a place.
+#[derive(Clone, Copy, Debug, PartialEq, Eq)]
+pub struct Reached {
+    pub count: u32,
+    pub at: u32,
+}
+
+/// What was passed: how many records there were then, the place behind it, and how many elements stand open there.
+#[derive(Clone, Copy, Debug, PartialEq, Eq)]
+pub struct Passed {
+    pub count: u32,
+    pub at: u32,
+    pub level: u32,
+}
+
+/// Whether the byte begins what closes a tag: `>` or `/>`.
+fn closes_tag(byte: u8) -> bool
+    ensures { result ≡ closes_tag byte }
+{
+    byte == b'>' || byte == b'/'
+}
+
+/// Offers the records of the attributes of a tag, which begin at a place with the white space before them. The place
+/// reached is that of the `>` or `/>` behind them.
 fn offer_attributes<R: RecordSink>(
     bytes: &[u8],
-    attributes: Attributes<'_>,
+    at: u32,
     depth: u8,
     count: u32,
     into: &mut R,
-) -> Result<u32, u32>
-    requires places { AllByRecursion (HasPlaces bytes.now) (attributes_left attributes) }
-    requires room { CanOffer count (attributes_found bytes.now depth (attributes_left attributes)) }
-    ensures outcome { outcome (R.taken into.new) result ≡ offer (R.refuses into.old) (R.taken into.old) count (map word (attributes_found bytes.now depth (attributes_left attributes.entry))) }
+) -> Result<Reached, u32>
+    requires size { length bytes.now < 2 ^ 30 }
+    requires attributes { (xs : List Attribute) × (space : List ℕ) × (close : List ℕ) × AttributesAt bytes.now at xs space close × CanOffer count (attributes_tokens depth at xs) }
+    ensures outcome { (xs : List Attribute) (space close : List ℕ) → AttributesAt bytes.now at xs space close → CanOffer count (attributes_tokens depth at xs) →
+        outcome (R.taken into.new) (counted result) ≡ offer (R.refuses into.old) (R.taken into.old) count (map word (attributes_tokens depth at xs)) }
+    ensures reached { (xs : List Attribute) (space close : List ℕ) → AttributesAt bytes.now at xs space close → CanOffer count (attributes_tokens depth at xs) → IfOk result (λ r. r.at ≡ at + size (written_attributes xs) + size space) }
     ensures rest { R.rest into.new ≡ R.rest into.old }
     ensures test { R.refuses into.new ≡ R.refuses into.old }
 {
     let mut count = count;
-    for attribute in attributes {
-        count = offer_attribute(bytes, depth, attribute, count, into)?;
+    let mut name = past_space(bytes, at);
+    while !closes_tag(bytes[name as usize]) {
+        let cut = attribute_cut(bytes, name);
+        count = offer_attribute(bytes, depth, cut.item, count, into)?;
+        name = past_space(bytes, cut.end);
     }
-    Ok(count)
+    Ok(Reached { count, at: name })
 }
 
 /// Offers the two records of a part of the XML declaration: its name and its value.
@@ -151,26 +184,6 @@ fn offer_parts<R: RecordSink>(
     Ok(count)
 }
 
-/// Offers the record of a tag's name and those of its attributes.
-fn offer_tag<R: RecordSink>(
-    bytes: &[u8],
-    name: Span,
-    attributes: Attributes<'_>,
-    depth: u8,
-    count: u32,
-    into: &mut R,
-) -> Result<u32, u32>
-    requires name { IsWithin bytes.now name }
-    requires places { AllByRecursion (HasPlaces bytes.now) (attributes_left attributes) }
-    requires room { CanOffer count (named_span bytes.now 0 depth name ∷ attributes_found bytes.now depth (attributes_left attributes)) }
-    ensures outcome { outcome (R.taken into.new) result ≡ offer (R.refuses into.old) (R.taken into.old) count (map word (named_span bytes.now 0 depth name ∷ attributes_found bytes.now depth (attributes_left attributes.entry))) }
-    ensures rest { R.rest into.new ≡ R.rest into.old }
-    ensures test { R.refuses into.new ≡ R.refuses into.old }
-{
-    let count = offer(name_parts(bytes, 0, depth, name), count, into)?;
-    offer_attributes(bytes, attributes, depth, count, into)
-}
-
 /// Offers the two records of an instruction: its target and its data.
 fn offer_instruction<R: RecordSink>(
     item: Item,
@@ -197,8 +210,46 @@ fn depth_of(level: u32) -> u8
     if level == 0 { 255 } else { (level - 1) as u8 }
 }
 
-/// Offers the records of an item that `next_item` answers, with so many elements open round it.
-pub fn offer_item<R: RecordSink>(
+/// Offers the records of the tag that begins at a place, with so many elements open round it.
+pub fn offer_tag<R: RecordSink>(
+    bytes: &[u8],
+    at: u32,
+    level: u32,
+    count: u32,
+    into: &mut R,
+) -> Result<Passed, u32>
+    requires size { length bytes.now < 2 ^ 30 }
+    requires place { at ≤ length bytes.now }
+    requires tag { (i : ModelItem) × (begins_at bytes.now at i ≡ true) × (is_tag_item i ≡ true) × CanOffer count (item_tokens level at i) }
+    ensures outcome { (i : ModelItem) → begins_at bytes.now at i ≡ true → is_tag_item i ≡ true → CanOffer count (item_tokens level at i) →
+        outcome (R.taken into.new) (passed_count result) ≡ offer (R.refuses into.old) (R.taken into.old) count (map word (item_tokens level at i)) }
+    ensures passed { (i : ModelItem) → begins_at bytes.now at i ≡ true → is_tag_item i ≡ true → CanOffer count (item_tokens level at i) → IfOk result (IsPast at level i) }
+    ensures rest { R.rest into.new ≡ R.rest into.old }
+    ensures test { R.refuses into.new ≡ R.refuses into.old }
+{
+    let depth = level as u8;
+    let name = Span {
+        start: at + 1,
+        end: past_name(bytes, at + 1),
+    };
+    let count = offer(name_parts(bytes, 0, depth, name), count, into)?;
+    let reached = offer_attributes(bytes, name.end, depth, count, into)?;
+    if bytes[reached.at as usize] == b'>' {
+        return Ok(Passed {
+            count: reached.count,
+            at: reached.at + 1,
+            level: level + 1,
+        });
+    }
+    Ok(Passed {
+        count: reached.count,
+        at: reached.at + 2,
+        level,
+    })
+}
+
+/// Offers the records of an item that `next_item` answers and that is no tag, with so many elements open round it.
+fn offer_other<R: RecordSink>(
     bytes: &[u8],
     item: Item,
     level: u32,
@@ -209,6 +260,7 @@ pub fn offer_item<R: RecordSink>(
     requires size { length bytes.now < 2 ^ 30 }
     requires start { item.span.start ≤ length bytes.now }
     requires level { level ≤ 256 }
+    requires kind { is_tag item.kind ≡ false }
     requires item { (i : ModelItem) × ShowsItem bytes.now item i × CanOffer count (item_tokens level item.span.start i) }
     ensures outcome { (i : ModelItem) → ShowsItem bytes.now item i →
         outcome (R.taken into.new) result ≡ offer (R.refuses into.old) (R.taken into.old) count (map word (item_tokens level item.span.start i)) }
@@ -217,10 +269,7 @@ pub fn offer_item<R: RecordSink>(
 {
     let depth = depth_of(level);
     match item.kind {
-        ItemKind::StartTag | ItemKind::EmptyTag => {
-            let attributes = Attributes::of(bytes, item);
-            offer_tag(bytes, item.name, attributes, level as u8, count, into)
-        }
+        ItemKind::StartTag | ItemKind::EmptyTag => unreachable!(),
         ItemKind::EndTag => Ok(count),
         ItemKind::Text => {
             if level == 0 {
@@ -234,4 +283,82 @@ pub fn offer_item<R: RecordSink>(
         ItemKind::Instruction => offer_instruction(item, depth, count, into),
         ItemKind::Declaration => offer_parts(Attributes::of(bytes, item), depth, count, into),
     }
+}
+
+/// How many elements stand open behind an item.
+fn level_after(kind: ItemKind, level: u32) -> u32
+    requires { level ≤ 256 }
+    ensures { result ≡ level_by kind level }
+{
+    match kind {
+        ItemKind::StartTag => level + 1,
+        ItemKind::EndTag => level.saturating_sub(1),
+        _ => level,
+    }
+}
+
+/// Whether the byte behind a `<` tells that no start tag and no empty tag begins there.
+fn is_mark(byte: u8) -> bool
+    ensures { result ≡ is_mark byte }
+{
+    byte == b'/' || byte == b'!' || byte == b'?'
+}
+
+/// Whether a `<` stands at the place, and no mark behind it.
+fn opens_tag(bytes: &[u8], at: u32) -> bool
+    requires size { length bytes.now < 2 ^ 30 }
+    requires place { at < length bytes.now }
+    ensures { result ≡ tag_by bytes.now at }
+{
+    let at = at as usize;
+    if bytes[at] != b'<' {
+        return false;
+    }
+    if at + 1 >= bytes.len() {
+        return false;
+    }
+    !is_mark(bytes[at + 1])
+}
+
+/// Whether the item at a place is a start tag or an empty tag, by its first two bytes.
+fn begins_tag(bytes: &[u8], at: u32) -> bool
+    requires size { length bytes.now < 2 ^ 30 }
+    requires place { at < length bytes.now }
+    ensures { (i : ModelItem) → begins_at bytes.now at i ≡ true → result ≡ is_tag_item i }
+{
+    opens_tag(bytes, at)
+}
+
+/// Offers the records of the item at a place, with so many elements open round it.
+pub fn offer_item<R: RecordSink>(
+    bytes: &[u8],
+    at: u32,
+    level: u32,
+    count: u32,
+    into: &mut R,
+) -> Result<Passed, u32>
+    requires utf8 { IsUtf8 bytes.now }
+    requires size { length bytes.now < 2 ^ 30 }
+    requires place { IsCharBoundary bytes.now at }
+    requires inside { at < length bytes.now }
+    requires level { level ≤ 256 }
+    requires item { (i : ModelItem) × (begins_at bytes.now at i ≡ true) × CanOffer count (item_tokens level at i) }
+    ensures outcome { (i : ModelItem) → begins_at bytes.now at i ≡ true → CanOffer count (item_tokens level at i) →
+        outcome (R.taken into.new) (passed_count result) ≡ offer (R.refuses into.old) (R.taken into.old) count (map word (item_tokens level at i)) }
+    ensures passed { (i : ModelItem) → begins_at bytes.now at i ≡ true → CanOffer count (item_tokens level at i) → IfOk result (IsPast at level i) }
+    ensures rest { R.rest into.new ≡ R.rest into.old }
+    ensures test { R.refuses into.new ≡ R.refuses into.old }
+{
+    if begins_tag(bytes, at) {
+        return offer_tag(bytes, at, level, count, into);
+    }
+    let Ok(Some(item)) = next_item(bytes, at) else {
+        unreachable!()
+    };
+    let count = offer_other(bytes, item, level, count, into)?;
+    Ok(Passed {
+        count,
+        at: item.span.end,
+        level: level_after(item.kind, level),
+    })
 }

@@ -1,43 +1,42 @@
-use Rattle.std.proofs.Common.{◌≡◌, ℕ, List, map, ◌∷◌, sym, ap, subst, ◌∙◌}
-use Rattle.std.specs.List.{AllByRecursion}
-use Rattle.xml_model.specs.Items.{Item}
-use Rattle.xml_model.specs.Records.{Token, word}
-use Rattle.xml_items.specs.declared.AttributeItem.{AttributeItem}
-use Rattle.xml_items.specs.AttributeList.{attributes_left, attributes_shown, item_attributes}
-use Rattle.vtd_builder.specs.Offered.{offer, CanOffer}
-use Rattle.vtd_builder.specs.Found.{ShowsItem, HasPlaces}
-use Rattle.vtd_builder.proofs.Recorded.{ItemFound, item_found, tag_by, tokens_of_tag, tokens_of_parts}
+use Rattle.std.proofs.Common.{◌≡◌, ℕ, true, map, sym, ap, subst, ◌∙◌}
+use Rattle.std.proofs.lemmas.Result.{err_from_is_err_and}
+use Rattle.xml_model.specs.Items.{Item, begins_at}
+use Rattle.xml_model.specs.Records.{word}
+use Rattle.xml_acceptance.specs.Machine.{item_tokens}
+use Rattle.vtd_builder.specs.Offered.{CanOffer, offer}
+use Rattle.vtd_builder.specs.Found.{ShowsItem}
+use Rattle.vtd_builder.proofs.TagMarks.{shown_here, past_shown}
+use Rattle.vtd_builder.proofs.offers.offer_item.Given as given
 use Rattle.vtd_builder.proofs.offers.offer_item.Goals as goal
+use Rattle.vtd_builder.proofs.offers.offer_item.Goals.{In-Ok-Some}
 
-pub offer_tag-requires-clause-name : goal.offer_tag-requires-clause-name
-offer_tag-requires-clause-name g c =
-    let i = c.requires.item.0 in
-    let s = c.requires.item.1 in
-    (item_found c.args.bytes.now c.args.level c.args.item i c.requires.start s).tag_name (tag_by c.args.item c.in-StartTag.is)
+start : (g : given.Over) (c : In-Ok-Some g) → c.in-Ok-Some.item.span.start ≡ c.args.at
+start g c = let e = rw c.in-Ok-Some.field-0-is at c.in-Ok-Some.ensures in e.start
 
-pub offer_tag-requires-clause-places : goal.offer_tag-requires-clause-places
-offer_tag-requires-clause-places g c =
-    let i = c.requires.item.0 in
-    let s = c.requires.item.1 in
-    let f = item_found c.args.bytes.now c.args.level c.args.item i c.requires.start s in
-    subst (AllByRecursion (HasPlaces c.args.bytes.now)) (sym (c.of-attributes.ensures i s.begins s.shown)) (f.places (tag_by c.args.item c.in-StartTag.is))
+shown : (g : given.Over) (c : In-Ok-Some g) (i : Item) → begins_at c.args.bytes.now c.args.at i ≡ true → ShowsItem c.args.bytes.now c.in-Ok-Some.item i
+shown g c i h =
+    let e = rw c.in-Ok-Some.field-0-is at c.in-Ok-Some.ensures in
+    shown_here c.args.bytes.now c.args.at c.in-Ok-Some.item i c.requires.utf8 c.requires.place e.item e.start h
 
-pub offer_tag-requires-clause-room : goal.offer_tag-requires-clause-room
-offer_tag-requires-clause-room g c =
-    let i = c.requires.item.0 in
-    let s = c.requires.item.1 in
-    let f = item_found c.args.bytes.now c.args.level c.args.item i c.requires.start s in
-    subst (CanOffer c.args.count) (tokens_of_tag c.args.bytes.now c.args.level c.args.item i (attributes_left c.of-attributes.result) c.in-StartTag.is f (c.of-attributes.ensures i s.begins s.shown)) c.requires.item.2
+pub offer_other-requires-clause-item : goal.offer_other-requires-clause-item
+offer_other-requires-clause-item g c =
+    let t = c.requires.item in
+    let here = (goal.at.offer_other-requires-clause-item g c).In-Ok-Some in
+    (t.0, shown g here t.0 t.1, subst (λ (p : ℕ). CanOffer c.args.count (item_tokens c.args.level p t.0)) (sym (start g here)) t.2)
 
-pub offer_parts-requires-clause-room : goal.offer_parts-requires-clause-room
-offer_parts-requires-clause-room g c =
-    let i = c.requires.item.0 in
-    let s = c.requires.item.1 in
-    let f = item_found c.args.bytes.now c.args.level c.args.item i c.requires.start s in
-    subst (CanOffer c.args.count) (tokens_of_parts c.args.bytes.now c.args.level c.depth_of-depth.result c.args.item i (attributes_left c.of.result) c.in-Declaration.is f (c.of.ensures i s.begins s.shown) c.depth_of-depth.ensures) c.requires.item.2
+pub returns-in_err-count-clause-outcome : goal.returns-in_err-count-clause-outcome
+returns-in_err-count-clause-outcome g c = λ i h can.
+    let p = err_from_is_err_and c.from_residual.result c.from_residual.ensures.1 in
+    let here = (goal.at.returns-in_err-count-clause-outcome g c).In-Ok-Some in
+    rw (p.1, p.2)
+    (c.in_err-count.ensures.outcome i (shown g here i h) ∙ ap (λ (p : ℕ). offer (g.R.RecordSink.refuses c.args.into.now) (g.R.RecordSink.taken c.args.into.now) c.args.count (map word (item_tokens c.args.level p i))) (start g here))
 
-pub returns-in-StartTag-clause-outcome : goal.returns-in-StartTag-clause-outcome
-returns-in-StartTag-clause-outcome g c = λ i s.
-    let f = item_found c.args.bytes.now c.args.level c.args.item i c.requires.start s in
-    let e = tokens_of_tag c.args.bytes.now c.args.level c.args.item i (attributes_left c.of-attributes.result) c.in-StartTag.is f (c.of-attributes.ensures i s.begins s.shown) in
-    c.offer_tag.ensures.outcome ∙ ap (λ (l : List Token). offer (g.R.RecordSink.refuses c.args.into.now) (g.R.RecordSink.taken c.args.into.now) c.args.count (map word l)) (sym e)
+pub returns-clause-outcome : goal.returns-clause-outcome
+returns-clause-outcome g c = λ i h can.
+    let here = (goal.at.returns-clause-outcome g c).In-Ok-Some in
+    c.in_ok-count.ensures.outcome i (shown g here i h) ∙ ap (λ (p : ℕ). offer (g.R.RecordSink.refuses c.args.into.now) (g.R.RecordSink.taken c.args.into.now) c.args.count (map word (item_tokens c.args.level p i))) (start g here)
+
+pub returns-clause-passed : goal.returns-clause-passed
+returns-clause-passed g c = λ i h can.
+    let here = (goal.at.returns-clause-passed g c).In-Ok-Some in
+    past_shown c.args.bytes.now c.args.at c.args.level c.level_after.result c.in_ok-count.count c.in-Ok-Some.item i (shown g here i h) (start g here) c.level_after.ensures
