@@ -2,6 +2,7 @@
 use Rattle.std.proofs.Common.{◌≡◌, ℕ, List, [], ◌∷◌, ◌++◌, map, refl, ap, subst, ◌∙◌}
 use Rattle.std.proofs.lemmas.List.{map-append}
 use Rattle.std.specs.List.{Contains, AllByRecursion as Each}
+use Rattle.xml_model.specs.declared.Node.{Node}
 use Rattle.xml_model.specs.Items.{first_place}
 use Rattle.xml_model.specs.Nest.{Forest}
 use Rattle.xml_model.specs.Tree.{all, root_entry}
@@ -19,6 +20,10 @@ root_there nest first = contains_here (root_entry nest first) _
 pub root_stands : (bytes : List ℕ) (lists : Lists) → IsNav bytes lists → IsNodeOf bytes lists root_node
 root_stands bytes lists n =
     record { nest = n.nest; shown = nest_of_table bytes lists n.nest n.shown; entry = root_entry n.nest (first_place bytes); stands = (root_there n.nest (first_place bytes), refl, refl) }
+
+-- beside any node of a document stands its root
+pub root_beside : (bytes : List ℕ) (lists : Lists) (node : Node) → IsNodeOf bytes lists node → IsNodeOf bytes lists root_node
+root_beside bytes lists node n = record { nest = n.nest; shown = n.shown; entry = root_entry n.nest (first_place bytes); stands = (root_there n.nest (first_place bytes), refl, refl) }
 
 each_left : {X : Type 0} (P : X → Type 0) (xs ys : List X) → Each P (xs ++ ys) → Each P xs
 each_left P [] ys h = tt

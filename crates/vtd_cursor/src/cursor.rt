@@ -16,7 +16,7 @@ use smallvec::SmallVec;
 use std::alloc::Global;
 use std::marker::Model;
 use vtd_location::Nav;
-use vtd_words::Words;
+use vtd_words::{Table, Words};
 use xml_model::{Kind, NoMemory, Node};
 
 /// The root.
@@ -40,7 +40,7 @@ impl Default for Place {
 /// A node of a document that one can move from, with nodes that were saved to come back to.
 #[derive(Drop)]
 pub struct Cursor<'n, 'a, W: Words> {
-    nav: &'n Nav<'a, W>,
+    table: &'n Table<'a, W>,
     node: Node,
     saved: SmallVec<Place, 16>,
 }
@@ -51,9 +51,9 @@ impl<'n, 'a, W: Words> Model for Cursor<'n, 'a, W> {
 
     ghost Value = { CursorOf W };
 
-    ghost view = { λ c. record { bytes = c.nav.now.bytes; words = c.nav.now.words; node = c.node; saved = map (λ p. p.node) c.saved.items } };
+    ghost view = { λ c. record { bytes = c.table.now.bytes; words = c.table.now.words; node = c.node; saved = map (λ p. p.node) c.saved.items } };
 
-    ghost invariant = { λ c. IsCursor c.nav.now.bytes (W.lists c.nav.now.words) c.node (map (λ p. p.node) c.saved.items) c.saved.capacity };
+    ghost invariant = { λ c. IsCursor c.table.now.bytes (W.lists c.table.now.words) c.node (map (λ p. p.node) c.saved.items) c.saved.capacity };
 }
 
 impl<'n, 'a, W: Words> Cursor<'n, 'a, W> {
@@ -61,9 +61,8 @@ impl<'n, 'a, W: Words> Cursor<'n, 'a, W> {
     pub fn new(alloc: Global, nav: &'n Nav<'a, W>) -> Cursor<'n, 'a, W>
         ensures { result ≡ record { bytes = nav.entry.now.bytes; words = nav.entry.now.words; node = root_node; saved = [] } }
     {
-        let _table = nav.table();
         Cursor {
-            nav,
+            table: nav.table(),
             node: ROOT,
             saved: SmallVec::new(alloc),
         }
@@ -81,7 +80,6 @@ impl<'n, 'a, W: Words> Cursor<'n, 'a, W> {
     pub fn to_root(&mut self)
         ensures { self.new ≡ record self.old { node = root_node } }
     {
-        let _table = self.nav.table();
         self.node = ROOT;
     }
 
@@ -90,7 +88,7 @@ impl<'n, 'a, W: Words> Cursor<'n, 'a, W> {
         ensures { (nest : Forest) → IsNestOf self.old.bytes (W.lists self.old.words) nest → (e : Entry) → Stands self.old.node.kind self.old.node.at e (nodes_of self.old.bytes nest) →
             Goes (first_of (axis_list axes.Parent e.path (nodes_of self.old.bytes nest))) self.old result self.new }
     {
-        let target = parent_of(self.nav.table(), self.node);
+        let target = parent_of(self.table, self.node);
         self.go(target)
     }
 
@@ -99,7 +97,7 @@ impl<'n, 'a, W: Words> Cursor<'n, 'a, W> {
         ensures { (nest : Forest) → IsNestOf self.old.bytes (W.lists self.old.words) nest → (e : Entry) → Stands self.old.node.kind self.old.node.at e (nodes_of self.old.bytes nest) →
             Goes (first_of (axis_list axes.Child e.path (nodes_of self.old.bytes nest))) self.old result self.new }
     {
-        let target = first_child_of(self.nav.table(), self.node);
+        let target = first_child_of(self.table, self.node);
         self.go(target)
     }
 
@@ -108,7 +106,7 @@ impl<'n, 'a, W: Words> Cursor<'n, 'a, W> {
         ensures { (nest : Forest) → IsNestOf self.old.bytes (W.lists self.old.words) nest → (e : Entry) → Stands self.old.node.kind self.old.node.at e (nodes_of self.old.bytes nest) →
             Goes (last_of (axis_list axes.Child e.path (nodes_of self.old.bytes nest))) self.old result self.new }
     {
-        let target = last_child_of(self.nav.table(), self.node);
+        let target = last_child_of(self.table, self.node);
         self.go(target)
     }
 
@@ -117,7 +115,7 @@ impl<'n, 'a, W: Words> Cursor<'n, 'a, W> {
         ensures { (nest : Forest) → IsNestOf self.old.bytes (W.lists self.old.words) nest → (e : Entry) → Stands self.old.node.kind self.old.node.at e (nodes_of self.old.bytes nest) →
             Goes (first_of (axis_list axes.FollowingSibling e.path (nodes_of self.old.bytes nest))) self.old result self.new }
     {
-        let target = next_of(self.nav.table(), self.node);
+        let target = next_of(self.table, self.node);
         self.go(target)
     }
 
@@ -127,7 +125,7 @@ impl<'n, 'a, W: Words> Cursor<'n, 'a, W> {
         ensures { (nest : Forest) → IsNestOf self.old.bytes (W.lists self.old.words) nest → (e : Entry) → Stands self.old.node.kind self.old.node.at e (nodes_of self.old.bytes nest) →
             Goes (first_of (axis_list axes.PrecedingSibling e.path (nodes_of self.old.bytes nest))) self.old result self.new }
     {
-        let target = previous_of(self.nav.table(), self.node);
+        let target = previous_of(self.table, self.node);
         self.go(target)
     }
 
@@ -136,7 +134,7 @@ impl<'n, 'a, W: Words> Cursor<'n, 'a, W> {
         ensures { (nest : Forest) → IsNestOf self.old.bytes (W.lists self.old.words) nest → (e : Entry) → Stands self.old.node.kind self.old.node.at e (nodes_of self.old.bytes nest) →
             Goes (first_of (axis_list axes.Attribute e.path (nodes_of self.old.bytes nest))) self.old result self.new }
     {
-        let target = first_attribute_of(self.nav.table(), self.node);
+        let target = first_attribute_of(self.table, self.node);
         self.go(target)
     }
 
@@ -148,7 +146,7 @@ impl<'n, 'a, W: Words> Cursor<'n, 'a, W> {
             Goes (first_of (filter (λ y. before e.path y.path) (axis_list axes.Attribute z.path (nodes_of self.old.bytes nest)))) self.old result self.new }
         ensures other { (self.old.node.kind ≡ Kind.Attribute → ⊥) → Goes None self.old result self.new }
     {
-        let target = next_attribute_of(self.nav.table(), self.node);
+        let target = next_attribute_of(self.table, self.node);
         self.go(target)
     }
 

@@ -120,9 +120,9 @@ pub fn after_end_tags(bytes: &[u8], from: u32, count: u32) -> u32
 
 /// Where a piece ends, and how many elements are open there.
 #[derive(Clone, Copy)]
-pub struct LastPiece {
-    pub end: u32,
-    pub opened: u32,
+struct LastPiece {
+    end: u32,
+    opened: u32,
 }
 
 /// The piece whose last record has an index.

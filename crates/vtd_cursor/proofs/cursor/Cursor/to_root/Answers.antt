@@ -1,5 +1,5 @@
-use Rattle.vtd_cursor.proofs.CursorLemmas.{root_stands}
+use Rattle.vtd_cursor.proofs.CursorLemmas.{root_beside}
 use Rattle.vtd_cursor.proofs.cursor.Cursor.to_root.Goals as goal
 
 pub invariant_of-self : goal.invariant_of-self
-invariant_of-self g c = record { stands = root_stands _ _ c.table-table.ensures.nav; kept = c.self.invariant.kept; inline = c.self.invariant.inline }
+invariant_of-self g c = record { stands = root_beside _ _ c.self.inside.node c.self.invariant.stands; kept = c.self.invariant.kept; inline = c.self.invariant.inline }
