@@ -19,3 +19,6 @@ mod walk;
 pub use check::check_names;
 pub use nodes::{local_of, matches, prefix_of, uri_of};
 pub use uri::Uri;
+
+#[cfg(test)]
+mod tests;
