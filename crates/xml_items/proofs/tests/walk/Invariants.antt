@@ -1,5 +1,4 @@
 use Rattle.std.specs.Str.{IsUtf8, IsCharBoundary}
-use Rattle.std.proofs.Common.{◌≡◌}
 use Rattle.xml_items.proofs.tests.walk.Given as goal
 
 abbrev pub invariant-loop-count : goal.invariant-loop-count
