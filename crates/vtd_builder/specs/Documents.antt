@@ -3,7 +3,6 @@ use Rattle.std.specs.Prelude.{◌≡◌, ℕ, ◌+◌, ◌<◌, ◌^◌, Bool, L
 use Rattle.xml_model.specs.Nest.{Forest}
 use Rattle.xml_model.specs.Accepted.{Accepted}
 use Rattle.vtd_words.specs.Lists.{Lists, Growing}
-use Rattle.vtd_location.specs.Nav.{layers}
 use Rattle.vtd_builder.specs.Offered.{record_words}
 
 -- the words of a document: those of the records of a nest of its bytes; the levels are empty
@@ -19,7 +18,7 @@ pub record Document : Type 0 where
 pub record IsDoc (bytes : List ℕ) (words : Lists) : Type 0 where
   pub few : length bytes < 2 ^ 30
   pub nest : Forest
-  pub accepted : Accepted layers bytes nest
+  pub accepted : Accepted 8 bytes nest
   pub recorded : words ≡ words_of bytes nest
 
 -- the lengths of the levels, and the room that each has for further words

@@ -3,8 +3,7 @@
 ghost use Rattle.std.specs.Prelude.{◌≡◌, ◌+◌, ◌^◌, ◌<◌, ◌≤◌, length, vec_len, IfErr, IfOk, OnOk};
 ghost use Rattle.xml_model.specs.declared.DocFault.{DocFault};
 ghost use Rattle.xml_model.specs.Nest.{Forest};
-ghost use Rattle.xml_model.specs.Accepted.{Accepted, IsRefusal, layer};
-ghost use Rattle.vtd_location.specs.Nav.{layers};
+ghost use Rattle.xml_model.specs.Accepted.{Accepted, IsRefusal};
 ghost use Rattle.vtd_words.specs.Lists.{none};
 ghost use Rattle.vtd_builder.specs.Documents.{IsDoc, words_of};
 
@@ -89,8 +88,8 @@ fn check_recorded(bytes: &[u8], words: &WordVec) -> Result<(), DocFault>
     requires size { length bytes.now < 2 ^ 30 }
     requires accepted { (nest : Forest) × Accepted 6 bytes.now nest }
     requires recorded { (nest : Forest) → Accepted 6 bytes.now nest → words.now.lists ≡ words_of bytes.now nest }
-    ensures accepted { OnOk result ((nest : Forest) → Accepted 6 bytes.now nest → Accepted layers bytes.now nest) }
-    ensures refused { IfErr result (λ fault. IsRefusal bytes.now fault × (layer fault ≤ layers)) }
+    ensures accepted { OnOk result ((nest : Forest) → Accepted 6 bytes.now nest → Accepted 8 bytes.now nest) }
+    ensures refused { IfErr result (IsRefusal bytes.now) }
 {
     check_names(&Table::of(bytes, words))
 }
@@ -103,10 +102,10 @@ fn check_recorded(bytes: &[u8], words: &WordVec) -> Result<(), DocFault>
 pub fn build(alloc: Global, bytes: Vec<u8>) -> Result<Doc, (Vec<u8>, BuildFault)>
     requires { vec_len bytes < 2 ^ 30 }
     ensures kept { IfOk result (λ doc. doc.bytes ≡ bytes.items) }
-    ensures accepted { IfOk result (λ doc. (nest : Forest) × Accepted layers bytes.items nest) }
-    ensures words { IfOk result (λ doc. (nest : Forest) → Accepted layers bytes.items nest → doc.words ≡ words_of bytes.items nest) }
+    ensures accepted { IfOk result (λ doc. (nest : Forest) × Accepted 8 bytes.items nest) }
+    ensures words { IfOk result (λ doc. (nest : Forest) → Accepted 8 bytes.items nest → doc.words ≡ words_of bytes.items nest) }
     ensures given_back { IfErr result (λ e. e.0 ≡ bytes) }
-    ensures refused { IfErr result (λ e. (fault : DocFault) → e.1 ≡ BuildFault.Doc fault → IsRefusal bytes.items fault × (layer fault ≤ layers)) }
+    ensures refused { IfErr result (λ e. (fault : DocFault) → e.1 ≡ BuildFault.Doc fault → IsRefusal bytes.items fault) }
     ensures no_memory { IfErr result (λ e. e.1 ≡ BuildFault.NoMemory → (nest : Forest) × Accepted 6 bytes.items nest) }
 {
     let counts = match check(&bytes) {

@@ -4,7 +4,7 @@ use Rattle.xml_model.specs.Nest.{Forest}
 use Rattle.xml_model.specs.Accepted.{Accepted}
 use Rattle.vtd_words.specs.Lists.{Lists}
 use Rattle.vtd_words.specs.Table.{IsNestOf, IsTable}
-use Rattle.vtd_location.specs.Nav.{IsNav, IsNavOf, layers}
+use Rattle.vtd_location.specs.Nav.{IsNav, IsNavOf}
 
 fewer_layers : (k : ℕ) (bytes : List ℕ) (nest : Forest) → Accepted k bytes nest → Accepted 6 bytes nest
 fewer_layers k bytes nest a = record {
@@ -18,7 +18,7 @@ fewer_layers k bytes nest a = record {
 }
 
 pub nest_of_table : (bytes : List ℕ) (lists : Lists) (nest : Forest) → IsNavOf bytes lists nest → IsNestOf bytes lists nest
-nest_of_table bytes lists nest n = record { accepted = fewer_layers layers bytes nest n.accepted; recorded = n.recorded }
+nest_of_table bytes lists nest n = record { accepted = fewer_layers 8 bytes nest n.accepted; recorded = n.recorded }
 
 pub is_table : (bytes : List ℕ) (lists : Lists) → IsNav bytes lists → IsTable bytes lists
 is_table bytes lists n = record { few = n.few; nest = n.nest; shown = nest_of_table bytes lists n.nest n.shown }

@@ -6,13 +6,9 @@ use Rattle.xml_model.specs.Records.{records, word}
 use Rattle.xml_model.specs.Accepted.{Accepted}
 use Rattle.vtd_words.specs.Lists.{Lists}
 
--- how many layers of checks a document has passed
-abbrev pub layers : ℕ
-layers = 8
-
 -- the nest of a document that is accepted, whose records the words are
 pub record IsNavOf (bytes : List ℕ) (lists : Lists) (nest : Forest) : Type 0 where
-  pub accepted : Accepted layers bytes nest
+  pub accepted : Accepted 8 bytes nest
   pub recorded : lists.records ≡ map word (records nest (first_place bytes))
 
 -- an accepted document of fewer than 2 to the power 30 bytes beside words that are its records

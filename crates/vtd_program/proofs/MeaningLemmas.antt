@@ -11,16 +11,17 @@ use Rattle.vtd_outside.specs.declared.GatherFault.{GatherFault}
 use Rattle.vtd_outside.specs.declared.GatherFault.TheVariants as gather
 use Rattle.xml_model.specs.declared.DocFault.{DocFault}
 use Rattle.xml_model.specs.Nest.{Forest}
-use Rattle.xml_model.specs.Accepted.{Accepted}
-use Rattle.vtd_location.specs.Nav.{IsNavOf, layers}
+use Rattle.xml_model.specs.Accepted.{Accepted, IsRefusal}
+use Rattle.vtd_location.specs.Nav.{IsNavOf}
 use Rattle.vtd_builder.specs.Documents.{Document}
-use Rattle.vtd_program.proofs.Acceptance.{one_accepted, one_refused, not_both, some_answer}
+use Rattle.xml_acceptance.proofs.OneAnswer.{one_refusal}
+use Rattle.vtd_program.proofs.Acceptance.{one_accepted, not_both, some_answer}
 use Rattle.vtd_program.specs.declared.commands.Command.{Command}
 use Rattle.vtd_program.specs.declared.commands.Command.TheVariants.{Skip, Elements, Unknown}
 use Rattle.vtd_program.specs.declared.running.Status.{Status}
 use Rattle.vtd_program.specs.declared.running.Status.TheVariants as statuses
 use Rattle.vtd_program.specs.Lines.{lines, command}
-use Rattle.vtd_program.specs.Meaning.{Outcome, Means, MeansName, MeansFile, MeansDocument, too_long, unfit, accepted, document_name, document_limit, script_limit, listed_in, fault_words, IsRefused, scripted, carried_out, step, refused, refused_line, usage_line, SendsAll, SendsFront, SendsAs, EndsUnfit, EndsAs, Ran, RanScript, Carries, CarriesTo, IsBuilt, ReadsDocument, IsFront, IsEnd, IsMeant, RanExactly, DocumentCause}
+use Rattle.vtd_program.specs.Meaning.{Outcome, Means, MeansName, MeansFile, MeansDocument, too_long, unfit, accepted, document_name, document_limit, script_limit, listed_in, fault_words, scripted, carried_out, step, refused, refused_line, usage_line, SendsAll, SendsFront, SendsAs, EndsUnfit, EndsAs, Ran, RanScript, Carries, CarriesTo, IsBuilt, ReadsDocument, IsFront, IsEnd, IsMeant, RanExactly, DocumentCause}
 use Rattle.vtd_program.specs.declared.running.NoDocument.{NoDocument}
 use Rattle.vtd_program.specs.declared.running.NoDocument.TheVariants as no
 
@@ -207,12 +208,12 @@ means_long bytes script m l (too_long b s h) = refl
 means_long bytes script m l (unfit b s h fault r) = absurd (omega arith)
 means_long bytes script m l (accepted b s h nest p) = absurd (omega arith)
 
-means_unfit : (bytes script : List ℕ) (m : Outcome) → length bytes ≤ document_limit → (fault : DocFault) → IsRefused bytes fault → MeansDocument bytes script m → m ≡ refused (fault_words fault) false script
+means_unfit : (bytes script : List ℕ) (m : Outcome) → length bytes ≤ document_limit → (fault : DocFault) → IsRefusal bytes fault → MeansDocument bytes script m → m ≡ refused (fault_words fault) false script
 means_unfit bytes script m l fault r (too_long b s h) = absurd (omega arith)
-means_unfit bytes script m l fault r (unfit b s h other q) = ap (λ (f : DocFault). refused (fault_words f) false script) (one_refused bytes other fault q r)
+means_unfit bytes script m l fault r (unfit b s h other q) = ap (λ (f : DocFault). refused (fault_words f) false script) (one_refusal bytes other fault q r)
 means_unfit bytes script m l fault r (accepted b s h nest p) = absurd (not_both bytes nest fault p r)
 
-means_accepted : (bytes script : List ℕ) (m : Outcome) → length bytes ≤ document_limit → (nest : Forest) → Accepted layers bytes nest → MeansDocument bytes script m → (other : Forest) × Accepted layers bytes other × (m ≡ scripted bytes other script)
+means_accepted : (bytes script : List ℕ) (m : Outcome) → length bytes ≤ document_limit → (nest : Forest) → Accepted 8 bytes nest → MeansDocument bytes script m → (other : Forest) × Accepted 8 bytes other × (m ≡ scripted bytes other script)
 means_accepted bytes script m l nest p (too_long b s h) = absurd (omega arith)
 means_accepted bytes script m l nest p (unfit b s h fault r) = absurd (not_both bytes nest fault p r)
 means_accepted bytes script m l nest p (accepted b s h other q) = (other, q, refl)
@@ -237,7 +238,7 @@ pub ran_long : (words : List (List ℕ)) (name bytes : List ℕ) (files : NameMa
     → (m : Outcome) → Means words files script m → m ≡ refused (codes "file-long") false script
 ran_long words name bytes files script d f l m h = means_long bytes script m l (means_document words name bytes files script m d f h)
 
-pub ran_unfit : (words : List (List ℕ)) (name bytes : List ℕ) (files : NameMap) (script : List ℕ) → document_name words ≡ Some name → files name ≡ Some bytes → length bytes ≤ document_limit → (fault : DocFault) → IsRefused bytes fault
+pub ran_unfit : (words : List (List ℕ)) (name bytes : List ℕ) (files : NameMap) (script : List ℕ) → document_name words ≡ Some name → files name ≡ Some bytes → length bytes ≤ document_limit → (fault : DocFault) → IsRefusal bytes fault
     → (m : Outcome) → Means words files script m → m ≡ refused (fault_words fault) false script
 ran_unfit words name bytes files script d f l fault r m h = means_unfit bytes script m l fault r (means_document words name bytes files script m d f h)
 
@@ -245,7 +246,7 @@ pub made_long : (words : List (List ℕ)) (name bytes : List ℕ) (files : NameM
     → Means words files script (refused (codes "file-long") false script)
 made_long words name bytes files script d f l = made_of words name bytes files script _ d f (too_long bytes script l)
 
-pub made_unfit : (words : List (List ℕ)) (name bytes : List ℕ) (files : NameMap) (script : List ℕ) → document_name words ≡ Some name → files name ≡ Some bytes → length bytes ≤ document_limit → (fault : DocFault) → IsRefused bytes fault
+pub made_unfit : (words : List (List ℕ)) (name bytes : List ℕ) (files : NameMap) (script : List ℕ) → document_name words ≡ Some name → files name ≡ Some bytes → length bytes ≤ document_limit → (fault : DocFault) → IsRefusal bytes fault
     → Means words files script (refused (fault_words fault) false script)
 made_unfit words name bytes files script d f l fault r = made_of words name bytes files script _ d f (unfit bytes script l fault r)
 
@@ -321,7 +322,7 @@ ran_script words name files doc script out err ln on en status d f l b ee ran =
       ends = λ m h. ends r m (means_accepted doc.bytes script m l b.nest b.accepted (means_document words name doc.bytes files script m d f h));
     }
   where
-    ends : (r : RanScript doc.bytes b.nest script out ln on status) (m : Outcome) → ((other : Forest) × Accepted layers doc.bytes other × (m ≡ scripted doc.bytes other script)) → EndsAs m script r.out [] r.left status
+    ends : (r : RanScript doc.bytes b.nest script out ln on status) (m : Outcome) → ((other : Forest) × Accepted 8 doc.bytes other × (m ≡ scripted doc.bytes other script)) → EndsAs m script r.out [] r.left status
     ends r m o =
         let q = ran o.0 (b.words o.0 o.1) in
         let same_out : q.out ≡ r.out = append_cancel_left out q.out r.out (same_Some (out ++ q.out) (out ++ r.out) (sym q.taken ∙ r.taken)) in
@@ -343,7 +344,7 @@ reads_long o files name fault e f h =
     subst P e (subst Q f h)
 
 pub reads_unfit : (o : Option NameMap) (files : NameMap) (name : List ℕ) (fault : NoDocument) (why : DocFault) → o ≡ Some files → fault ≡ no.Unfit why → ReadsDocument o name (Err fault)
-    → (bytes : List ℕ) × (files name ≡ Some bytes) × (length bytes ≤ document_limit) × IsRefused bytes why
+    → (bytes : List ℕ) × (files name ≡ Some bytes) × (length bytes ≤ document_limit) × IsRefusal bytes why
 reads_unfit o files name fault why e f h =
     let P : Option NameMap → Type 0 = λ x. ReadsDocument x name (Err (no.Unfit why)) in
     let Q : NoDocument → Type 0 = λ x. ReadsDocument o name (Err x) in

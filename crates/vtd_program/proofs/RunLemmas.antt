@@ -1,14 +1,18 @@
 -- What a run does, joined to what it means.
-use Rattle.std.proofs.Common.{◌≡◌, ℕ, inl, inr, List, take, drop, codes, Option, Some, None, Ok, Err, refl, sym, subst}
+use Rattle.std.proofs.Common.{◌≡◌, ℕ, ◌≤◌, length, inl, inr, List, take, drop, codes, Option, Some, None, Ok, Err, refl, sym, subst}
 use Rattle.std.proofs.lemmas.List.{take-append-drop}
 use Rattle.vtd_outside.specs.Causes.{Rose}
-use Rattle.vtd_outside.specs.Gathered.{Sends}
+use Rattle.vtd_outside.specs.Gathered.{Sends, GathersFile}
+use Rattle.vtd_outside.specs.Told.{NameMap, OpenFile}
+use Rattle.xml_model.specs.declared.DocFault.{DocFault}
+use Rattle.xml_model.specs.Accepted.{IsRefusal}
+use Rattle.vtd_program.specs.declared.running.NoDocument.TheVariants as no
 use Rattle.vtd_outside.specs.declared.Failed.{Failed}
 use Rattle.vtd_program.specs.declared.commands.Command.{Command}
 use Rattle.vtd_program.specs.declared.commands.Command.TheVariants.{Skip, Elements, Unknown}
 use Rattle.vtd_program.specs.declared.running.Status.{Status}
 use Rattle.vtd_program.specs.declared.running.Status.TheVariants as statuses
-use Rattle.vtd_program.specs.Meaning.{SendsAll, SendsFront, SendsAs, CarriesLine, refused_line}
+use Rattle.vtd_program.specs.Meaning.{ReadsDocument, document_limit, SendsAll, SendsFront, SendsAs, CarriesLine, refused_line}
 
 pub sends_all : (before after : Option (List ℕ)) (piece : List ℕ) (x : Unit {0}) → Sends {T = Unit {0}} {E = Failed} before after piece (Ok x) → SendsAll before after piece
 sends_all None None piece x h = tt
@@ -50,3 +54,8 @@ carries_refusal cmd before after faults_before faults listing line status e l s 
     let P : Command → Type 0 = λ y. CarriesLine before after faults_before faults listing y (Err status) in
     let Q : List ℕ → Type 0 = λ y. SendsAs before after y faults_before faults statuses.Refused status in
     subst P (sym e) (subst Q l s)
+
+-- a file that was read whole is refused
+pub reads_refused : (files : Option NameMap) (name : List ℕ) (opened : Option OpenFile) (bytes : List ℕ) (fault : DocFault) → GathersFile files name opened bytes → length bytes ≤ document_limit → IsRefusal bytes fault → ReadsDocument files name (Err (no.Unfit fault))
+reads_refused None name opened bytes fault g l r = tt
+reads_refused (Some contents) name opened bytes fault g l r = (bytes, g.0, l, r)

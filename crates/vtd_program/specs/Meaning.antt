@@ -11,8 +11,8 @@ use Rattle.xml_model.specs.declared.Field.{Field}
 use Rattle.xml_model.specs.declared.Field.TheVariants as fields
 use Rattle.xml_model.specs.Items.{first_place}
 use Rattle.xml_model.specs.Nest.{Forest}
-use Rattle.xml_model.specs.Accepted.{Accepted, IsRefusal, layer}
-use Rattle.vtd_location.specs.Nav.{IsNavOf, layers}
+use Rattle.xml_model.specs.Accepted.{Accepted, IsRefusal}
+use Rattle.vtd_location.specs.Nav.{IsNavOf}
 use Rattle.vtd_builder.specs.Documents.{Document}
 use Rattle.vtd_program.specs.declared.running.NoDocument.{NoDocument}
 use Rattle.vtd_program.specs.declared.running.NoDocument.TheVariants as no
@@ -114,16 +114,11 @@ fault_place (faults.Namespace at) = at
 unfoldable pub fault_words : DocFault → List ℕ
 fault_words fault = fault_word fault ++ decimal (fault_place fault)
 
--- the refusal of a document by a layer that is checked
-pub record IsRefused (bytes : List ℕ) (fault : DocFault) : Type 0 where
-  pub refusal : IsRefusal bytes fault
-  pub checked : layer fault ≤ layers
-
 -- a document of these bytes, and a script, which is read only where the document is accepted
 pub data MeansDocument : List ℕ → List ℕ → Outcome → Type 0 where
   too_long : (bytes script : List ℕ) → document_limit < length bytes → MeansDocument bytes script (refused (codes "file-long") false script)
-  unfit : (bytes script : List ℕ) → length bytes ≤ document_limit → (fault : DocFault) → IsRefused bytes fault → MeansDocument bytes script (refused (fault_words fault) false script)
-  accepted : (bytes script : List ℕ) → length bytes ≤ document_limit → (nest : Forest) → Accepted layers bytes nest → MeansDocument bytes script (scripted bytes nest script)
+  unfit : (bytes script : List ℕ) → length bytes ≤ document_limit → (fault : DocFault) → IsRefusal bytes fault → MeansDocument bytes script (refused (fault_words fault) false script)
+  accepted : (bytes script : List ℕ) → length bytes ≤ document_limit → (nest : Forest) → Accepted 8 bytes nest → MeansDocument bytes script (scripted bytes nest script)
 
 -- a file that may not be there
 abbrev pub MeansFile : Option (List ℕ) → List ℕ → Outcome → Type 0
@@ -191,8 +186,8 @@ pub record RanExactly (words : List (List ℕ)) (files : NameMap) (script out_be
 -- a document that is accepted, whose words are those of each nest of its bytes
 pub record IsBuilt (doc : Document) : Type 0 where
   pub nest : Forest
-  pub accepted : Accepted layers doc.bytes nest
-  pub words : (other : Forest) → Accepted layers doc.bytes other → IsNavOf doc.bytes doc.words other
+  pub accepted : Accepted 8 doc.bytes nest
+  pub words : (other : Forest) → Accepted 8 doc.bytes other → IsNavOf doc.bytes doc.words other
 
 -- Why no document was read, by the answer, where the files are told: the name is not there, the file is too long, or it is
 -- refused. Otherwise a document was read whose bytes are the file's, within the limit.
@@ -202,7 +197,7 @@ ReadsDocument (Some files) name (Ok doc) = (files name ≡ Some doc.bytes) × (l
 ReadsDocument (Some files) name (Err no.Failed) = Unit {0}
 ReadsDocument (Some files) name (Err no.NoMemory) = Unit {0}
 ReadsDocument (Some files) name (Err no.Long) = (bytes : List ℕ) × (files name ≡ Some bytes) × (document_limit < length bytes)
-ReadsDocument (Some files) name (Err (no.Unfit fault)) = (bytes : List ℕ) × (files name ≡ Some bytes) × (length bytes ≤ document_limit) × IsRefused bytes fault
+ReadsDocument (Some files) name (Err (no.Unfit fault)) = (bytes : List ℕ) × (files name ≡ Some bytes) × (length bytes ≤ document_limit) × IsRefusal bytes fault
 
 -- no document was read: a fault of the files came alone, by the name or proper; else no count rose
 abbrev pub DocumentCause : Bool → ℕ → ℕ → ℕ → ℕ → Result Document NoDocument → Type 0
