@@ -6,10 +6,8 @@ ghost use Rattle.std.specs.Prelude.{◌<◌, ◌^◌, length};
 ghost use Rattle.std.specs.Str.{IsUtf8};
 
 use memchr::memchr_iter;
-use std::env;
-use std::fs;
-use std::io;
 use std::time::Instant;
+use std::{env, fs, io};
 use xml_items::next_item;
 
 /// The number of items from the start to the end, or to the first place where none begins.
