@@ -1,7 +1,7 @@
 -- The bytes of a name tell its prefix, and whether it declares a namespace.
-use Rattle.std.proofs.Common.{◌≡◌, ℕ, suc, ◌+◌, ◌<◌, ◌≤◌, Bool, true, false, inl, inr, cond, List, [], ◌∷◌, ◌++◌, length, take, drop, Option, Some, None, refl, sym, ap, ap₂, subst, ◌∙◌, arith}
+use Rattle.std.proofs.Common.{◌≡◌, ℕ, suc, ◌<◌, ◌≤◌, Bool, true, false, inl, inr, cond, List, [], ◌∷◌, ◌++◌, length, take, drop, Some, None, refl, sym, ap, ap₂, ◌∙◌, arith}
 use Rattle.std.specs.Prelude.{codes, ◌==◌, ◌||◌, not, bytes_eq, unwrap_or, nat_lt}
-use Rattle.std.specs.List.{list_any, prefix_len, position}
+use Rattle.std.specs.List.{prefix_len, position}
 use lib.Utf8.{encode, encodes}
 use Rattle.std.proofs.Math.Numerals.{one-add}
 use Rattle.std.proofs.lemmas.Bool.{cases_Bool, not-false, eqb-true, lt-ltb}
@@ -10,10 +10,10 @@ use Rattle.std.proofs.lemmas.Slice.Eq.{bytes_eq-Decides}
 use Rattle.std.proofs.lemmas.Str.{encodes_same}
 use Rattle.std.proofs.lemmas.List.{length-append, length-drop}
 use Rattle.std.proofs.lemmas.List.Sums.{prefix_len-le-length}
-use Rattle.xml_model.specs.Chars.{has_colon, before_colon, prefix_of, begins, size}
-use Rattle.xml_model.specs.Records.{declares, name_token}
-use Rattle.xml_chars.proofs.Points.{StopRun, stop_run, encode_pos}
-use Rattle.xml_chars.proofs.TextLemmas.{Word, word_run}
+use Rattle.xml_model.specs.Chars.{has_colon, before_colon, prefix_of, size}
+use Rattle.xml_model.specs.Records.{declares}
+use Rattle.xml_chars.proofs.Points.{stop_run, encode_pos}
+use Rattle.xml_chars.proofs.TextLemmas.{word_run}
 
 abbrev pub no_colon : ℕ → Bool
 no_colon c = not (c == 58)

@@ -1,16 +1,16 @@
 -- An item is at least as long as it has records, and never empty.
-use Rattle.std.proofs.Common.{◌≡◌, ℕ, zero, suc, ◌+◌, ◌<◌, ◌≤◌, Bool, true, false, List, [], ◌∷◌, ◌++◌, length, drop, Option, Some, None, refl, sym, ap, ◌∙◌, arith}
+use Rattle.std.proofs.Common.{◌≡◌, ℕ, zero, suc, ◌+◌, ◌<◌, ◌≤◌, true, false, List, [], ◌∷◌, ◌++◌, length, drop, Option, Some, None, refl, arith}
 use Rattle.std.specs.Prelude.{codes, ◌&&◌, not}
 use Rattle.std.specs.List.{list_all}
 use Rattle.std.proofs.lemmas.Bool.{and_parts, false≢true}
 use Rattle.std.proofs.lemmas.List.{length-append}
 use lib.Utf8.{encode, encodes}
 use Rattle.xml_model.specs.Chars.{begins, size, lacks}
-use Rattle.xml_model.specs.Items.{Piece, Attribute, Tag, Declaration, Leaf, text, cdata, declaration, doctype, Item, leaf, start_tag, empty_tag, end_tag, quote_char, written, written_pieces, written_attribute, written_attributes, written_option, written_tag, written_units, before_value, spelling, meets, meets_piece, meets_leaf, ends_well, may_stand, first_place, begins_at, is_nil, walk_from, end_of_items}
+use Rattle.xml_model.specs.Items.{Attribute, Tag, Leaf, text, cdata, declaration, doctype, Item, leaf, start_tag, empty_tag, end_tag, quote_char, written, written_pieces, written_attribute, written_attributes, written_option, written_tag, written_units, before_value, spelling, meets, meets_piece, meets_leaf, ends_well, may_stand, first_place, begins_at, is_nil, walk_from, end_of_items}
 use Rattle.xml_model.specs.Records.{Token, attributes_tokens, declaration_part_tokens, declaration_attributes, attributes_place, depth_at, plain, text_tokens}
 use Rattle.xml_chars.proofs.Points.{encode_pos}
 use Rattle.xml_chars.proofs.StandLemmas.{size-append}
-use Rattle.xml_items.proofs.SpanLemmas.{spelled, size_1, size_slash, size_comment, size_cdata, size_question, size_xml, size_doctype}
+use Rattle.xml_items.proofs.SpanLemmas.{spelled, size_1, size_comment, size_cdata, size_xml}
 use Rattle.xml_acceptance.specs.Machine.{item_tokens, level_after, items_tokens}
 
 one_pos : (c : ℕ) (cs : List ℕ) → 1 ≤ size (c ∷ cs)

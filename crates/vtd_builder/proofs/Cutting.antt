@@ -1,9 +1,9 @@
 -- The bytes that end the parts of a tag tell where they lie.
-use Rattle.std.proofs.Common.{◌≡◌, ℕ, suc, ◌+◌, ◌-◌, ◌<◌, ◌≤◌, Bool, true, false, inl, inr, List, [], ◌∷◌, ◌++◌, length, take, drop, get_or, refl, sym, ap, ap₂, subst, ◌∙◌, arith, append_assoc, append-nil, add-zero}
-use Rattle.std.specs.Prelude.{codes, ◌&&◌, ◌==◌, not, nat_lt, nat_le, slice_index}
+use Rattle.std.proofs.Common.{◌≡◌, ℕ, ◌+◌, ◌<◌, ◌≤◌, Bool, true, false, inl, inr, List, [], ◌∷◌, ◌++◌, length, take, drop, get_or, refl, sym, ap, ap₂, subst, ◌∙◌, arith, append_assoc, add-zero}
+use Rattle.std.specs.Prelude.{codes, ◌&&◌, ◌==◌, not, nat_lt, nat_le}
 use Rattle.std.specs.List.{list_all, prefix_len}
 use Rattle.std.proofs.Math.Numerals.{one-add}
-use Rattle.std.proofs.lemmas.Bool.{cases_Bool, and_parts, and_from, false≢true, eqb-true, eq-eqb, not-false, false_from_ne_true, true_from_ne_false, or_cases, ltb-true, leb-true}
+use Rattle.std.proofs.lemmas.Bool.{cases_Bool, and_parts, and_from, false≢true, eqb-true, not-false, false_from_ne_true, true_from_ne_false, or_cases, ltb-true, leb-true}
 use Rattle.std.proofs.lemmas.List.{length-append, get_or-drop}
 use Rattle.std.proofs.lemmas.Str.{encodes-append, encode_ascii, char_from_byte}
 use lib.Utf8.{encode, encodes}
@@ -14,7 +14,7 @@ use Rattle.xml_chars.proofs.StandLemmas.{size-append}
 use Rattle.vtd_builder.specs.declared.tags.AttributeCut.{AttributeCut}
 use Rattle.std.specs.Char.{is_digit}
 use Rattle.vtd_builder.specs.Cuts.{in_name, is_low, in_value, Placed, past_name, AttributeAt, cut_of}
-use Rattle.vtd_builder.proofs.Placed.{placed_front, placed_back, placed_as, placed_end}
+use Rattle.vtd_builder.proofs.Placed.{placed_back, placed_end}
 
 -- ---- runs of bytes
 

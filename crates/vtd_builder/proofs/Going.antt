@@ -1,16 +1,16 @@
 -- A pass over the items of a document, one after another.
-use Rattle.std.proofs.Common.{◌≡◌, ℕ, zero, suc, ◌+◌, ◌-◌, ◌*◌, ◌^◌, Ok, Err, ◌<◌, ◌≤◌, Bool, true, false, inl, inr, ◌⊎◌, cond, List, [], ◌∷◌, ◌++◌, length, take, drop, map, refl, sym, ap, ap₂, subst, ◌∙◌, arith}
-use Rattle.std.specs.Prelude.{◌&&◌, ◌==◌, nat_lt}
+use Rattle.std.proofs.Common.{◌≡◌, ℕ, zero, suc, ◌+◌, ◌^◌, Ok, Err, ◌<◌, ◌≤◌, true, inl, inr, List, [], ◌∷◌, ◌++◌, length, drop, map, refl, sym, ap, ap₂, subst, ◌∙◌, arith}
+use Rattle.std.specs.Prelude.{◌==◌}
 use Rattle.std.specs.List.{AllByRecursion}
 use Rattle.std.specs.Str.{IsUtf8, IsCharBoundary}
-use Rattle.std.proofs.lemmas.Bool.{and_parts, false≢true, cases_Bool, ltb-true, eqb-true}
-use Rattle.std.proofs.lemmas.List.{length-append, length-drop, drop-drop}
+use Rattle.std.proofs.lemmas.Bool.{and_parts, cases_Bool, eqb-true}
+use Rattle.std.proofs.lemmas.List.{drop-drop}
 use Rattle.std.proofs.lemmas.Str.{IsUtf8-drop, IsCharBoundary-start, IsCharBoundary-past_char, IsCharBoundary-from_drop, scalars-chars}
 use lib.Utf8.{encode, encodes, scalar, scalars}
 use Rattle.xml_model.specs.Chars.{begins, size}
 use Rattle.xml_model.specs.Items.{Leaf, Item, written, leaf, start_tag, empty_tag, end_tag, spelling, begins_at, byte_order_mark, first_place, walk, walk_from, walk_to_end, end_of_items}
 use Rattle.xml_model.specs.Nest.{Forest, flat}
-use Rattle.xml_model.specs.Records.{Token, document, records, tokens, word, attributes_place}
+use Rattle.xml_model.specs.Records.{Token, document, records, word}
 use Rattle.xml_model.specs.Accepted.{Accepted, IsDocument}
 use Rattle.vtd_words.specs.Lists.{Lists}
 use Rattle.vtd_words.specs.Packed.{fits}
@@ -21,14 +21,11 @@ use Rattle.xml_chars.proofs.StandLemmas.{front_stands}
 use Rattle.xml_items.proofs.SpanLemmas.{spelled}
 use Rattle.vtd_builder.proofs.Recorded.{item_placed}
 use Rattle.vtd_builder.proofs.Placed.{placed_end}
-use Rattle.xml_items.specs.declared.ItemKind.{ItemKind}
-use Rattle.xml_items.specs.declared.Item.{Item as ItemShown}
-use Rattle.xml_items.specs.Shown.{item_kind, item_shown, IsItemAt, HasNoItem}
-use Rattle.xml_items.proofs.WalkLemmas.{one_item}
+use Rattle.xml_items.specs.Shown.{item_kind}
 use Rattle.xml_acceptance.specs.Machine.{item_tokens, level_after, items_tokens}
 use Rattle.xml_acceptance.proofs.Tokens.{tokens_whole}
 use Rattle.vtd_builder.specs.Offered.{CanOffer, record_words, Outcome, outcome, offer}
-use Rattle.vtd_builder.specs.Found.{level_by, ShowsItem}
+use Rattle.vtd_builder.specs.Found.{level_by}
 use Rattle.vtd_builder.proofs.InParts.{Test, Offers, can_first, offers_more, offers_stopped, offers_all}
 use Rattle.vtd_builder.proofs.Counted.{begun_meets, item_long, items_few, items_rise}
 

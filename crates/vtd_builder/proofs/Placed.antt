@@ -1,9 +1,8 @@
 -- What stands at a place of the bytes, in parts.
-use Rattle.std.proofs.Common.{◌≡◌, ℕ, ◌+◌, ◌-◌, ◌<◌, ◌≤◌, List, [], ◌∷◌, ◌++◌, length, take, drop, refl, sym, ap, ◌∙◌, arith, append_assoc}
+use Rattle.std.proofs.Common.{◌≡◌, ℕ, ◌+◌, ◌-◌, ◌≤◌, List, ◌++◌, length, take, drop, refl, sym, ap, ◌∙◌, arith, append_assoc}
 use lib.Utf8.{encodes}
 use Rattle.std.proofs.lemmas.List.{take_at, drop_at, length-append, length-drop, drop-drop}
 use Rattle.std.proofs.lemmas.Str.{encodes-append}
-use Rattle.xml_model.specs.declared.Span.{Span}
 use Rattle.xml_model.specs.Chars.{size}
 use Rattle.xml_chars.specs.Places.{span_from}
 use Rattle.vtd_builder.specs.Found.{bytes_of, IsWithin}

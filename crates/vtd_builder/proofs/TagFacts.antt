@@ -1,14 +1,13 @@
 -- What stands at a tag of an accepted document.
-use Rattle.std.proofs.Common.{◌≡◌, ℕ, suc, ◌+◌, ◌-◌, ◌<◌, ◌≤◌, Bool, true, false, inl, inr, ◌⊎◌, List, [], ◌∷◌, ◌++◌, length, drop, get_or, map, Result, Ok, Err, refl, sym, ap, ap₂, subst, ◌∙◌, arith, append_assoc}
+use Rattle.std.proofs.Common.{◌≡◌, ℕ, ◌+◌, ◌<◌, ◌≤◌, true, inl, inr, ◌⊎◌, List, [], ◌∷◌, ◌++◌, length, drop, get_or, map, Result, Ok, Err, refl, sym, ap, subst, ◌∙◌, arith, append_assoc}
 use Rattle.std.specs.Prelude.{codes, ◌&&◌, ◌==◌}
 use Rattle.std.specs.List.{list_all, prefix_len}
 use Rattle.std.proofs.lemmas.Bool.{and_parts, false≢true, eqb-true, eq-eqb}
-use Rattle.std.proofs.lemmas.List.{length-append}
 use Rattle.xml_model.specs.Chars.{size, is_space, is_white, is_name, is_blank}
-use Rattle.xml_model.specs.Items.{Attribute, Tag, Leaf, Item, leaf, start_tag, empty_tag, end_tag, written, written_tag, written_attribute, written_attributes, meets, meets_tag, meets_attribute, spelling, begins_at}
-use Rattle.xml_model.specs.Records.{Token, word, attributes_tokens, attributes_place}
+use Rattle.xml_model.specs.Items.{Attribute, Tag, Item, leaf, start_tag, empty_tag, end_tag, written, written_tag, written_attribute, written_attributes, meets, meets_tag, meets_attribute, spelling, begins_at}
+use Rattle.xml_model.specs.Records.{Token, word, attributes_tokens}
 use Rattle.xml_model.specs.declared.Span.{Span}
-use Rattle.vtd_builder.specs.Offered.{Outcome, outcome, offer, CanOffer}
+use Rattle.vtd_builder.specs.Offered.{outcome, offer, CanOffer}
 use Rattle.vtd_builder.proofs.InParts.{Test, offer_ok, offer_err, offer_count, can_rest}
 use lib.Utf8.{encode}
 use Rattle.xml_chars.specs.Places.{span_from}
@@ -17,7 +16,7 @@ use Rattle.xml_items.proofs.SpanLemmas.{spelled, size_1}
 use Rattle.xml_acceptance.specs.Machine.{item_tokens, level_after}
 use Rattle.vtd_builder.specs.Found.{IsWithin, named_span}
 use Rattle.vtd_builder.specs.Cuts.{in_name, is_close, Placed, past_name, AttributesAt, is_tag_item, IsPast}
-use Rattle.vtd_builder.proofs.Placed.{placed_front, placed_back, placed_as, placed_end, placed_span}
+use Rattle.vtd_builder.proofs.Placed.{placed_front, placed_back, placed_as, placed_span}
 use Rattle.vtd_builder.proofs.Recorded.{named_is, item_placed}
 use Rattle.vtd_builder.proofs.Counted.{begun_meets}
 use Rattle.vtd_builder.proofs.Cutting.{Stops, stops_at, space_low, space_ends_name, space_stops, name_run, parted, first_byte}

@@ -1,10 +1,10 @@
 -- The first two bytes of an item tell whether it is a start tag or an empty tag.
-use Rattle.std.proofs.Common.{◌≡◌, ℕ, ◌+◌, ◌<◌, ◌≤◌, Bool, true, false, inl, inr, List, [], ◌∷◌, ◌++◌, length, drop, get_or, refl, sym, ap, subst, ◌∙◌, arith, append_assoc}
+use Rattle.std.proofs.Common.{◌≡◌, ℕ, ◌+◌, ◌<◌, ◌≤◌, true, false, inl, inr, List, [], ◌∷◌, ◌++◌, length, get_or, refl, sym, ap, subst, ◌∙◌, arith, append_assoc}
 use Rattle.std.specs.Prelude.{codes, ◌&&◌, ◌||◌, ◌==◌, not, nat_lt}
 use Rattle.std.specs.List.{list_all}
-use Rattle.std.proofs.lemmas.Bool.{and_parts, false≢true, eqb-true, eq-eqb, ne_eqb, not-true, false_from_ne_true, or_cases, and_from, lt-ltb}
-use Rattle.xml_model.specs.Chars.{size, lacks, in_ranges, is_char, is_blank, is_name, is_name_start, is_name_char}
-use Rattle.xml_model.specs.Items.{Piece, literal, entity, decimal, hexadecimal, Tag, Leaf, text, cdata, declaration, doctype, Item, leaf, start_tag, empty_tag, end_tag, written, written_leaf, written_piece, written_pieces, meets, meets_leaf, meets_piece, meets_tag, is_nil, begins_at, spelling, written_attributes, meets_attribute}
+use Rattle.std.proofs.lemmas.Bool.{and_parts, false≢true, eqb-true, eq-eqb, not-true, false_from_ne_true, or_cases, and_from, lt-ltb}
+use Rattle.xml_model.specs.Chars.{lacks, in_ranges, is_char, is_blank, is_name, is_name_start, is_name_char}
+use Rattle.xml_model.specs.Items.{Piece, literal, entity, decimal, hexadecimal, Tag, Leaf, text, cdata, declaration, doctype, Item, leaf, start_tag, empty_tag, end_tag, written, written_leaf, written_pieces, meets, meets_leaf, meets_piece, meets_tag, is_nil, begins_at, spelling, written_attributes, meets_attribute}
 use Rattle.std.specs.Str.{IsUtf8, IsCharBoundary}
 use Rattle.std.proofs.lemmas.Str.{IsUtf8-drop}
 use Rattle.xml_items.specs.declared.Item.{Item as ItemShown}
@@ -13,7 +13,7 @@ use Rattle.xml_items.proofs.WalkLemmas.{one_item}
 use Rattle.vtd_builder.specs.Found.{level_by, ShowsItem}
 use Rattle.vtd_builder.proofs.Going.{level_is}
 use Rattle.vtd_builder.specs.Cuts.{Placed, is_mark, is_tag, tag_by, is_tag_item, IsPast}
-use Rattle.vtd_builder.proofs.Placed.{placed_front, placed_back, placed_as}
+use Rattle.vtd_builder.proofs.Placed.{placed_back, placed_as}
 use Rattle.vtd_builder.proofs.Recorded.{item_placed}
 use Rattle.vtd_builder.proofs.Counted.{begun_meets}
 use Rattle.vtd_builder.proofs.Cutting.{byte_is, first_byte, one_byte, name_chars, no_47}

@@ -1,26 +1,26 @@
 -- The attributes of a tag, one after another.
-use Rattle.std.proofs.Common.{◌≡◌, ℕ, suc, ◌+◌, ◌-◌, ◌<◌, ◌≤◌, Bool, true, false, inl, inr, ◌⊎◌, List, [], ◌∷◌, ◌++◌, length, take, drop, get_or, map, Ok, Err, add-zero, refl, sym, ap, ap₂, subst, ◌∙◌, arith, append_assoc}
-use Rattle.std.specs.Prelude.{codes, ◌&&◌, ◌||◌, ◌==◌, bytes_eq}
+use Rattle.std.proofs.Common.{◌≡◌, ℕ, ◌+◌, ◌<◌, ◌≤◌, true, false, inl, inr, ◌⊎◌, List, [], ◌∷◌, ◌++◌, length, drop, get_or, map, Ok, Err, add-zero, refl, sym, ap, ap₂, subst, ◌∙◌, arith, append_assoc}
+use Rattle.std.specs.Prelude.{codes, ◌==◌, bytes_eq}
 use Rattle.std.specs.List.{list_all, prefix_len}
 use Rattle.std.proofs.lemmas.Bool.{and_parts, false≢true, eqb-true, or_cases, false_from_ne_true}
 use Rattle.std.proofs.lemmas.List.{length-append, length-drop, get_or-drop}
 use Rattle.std.proofs.lemmas.Slice.Eq.{bytes_eq-Decides}
 use lib.Utf8.{encode, encodes}
-use Rattle.xml_model.specs.Chars.{size, is_space, is_white, is_name_char, is_name_start, is_name}
-use Rattle.xml_model.specs.Items.{Attribute, Tag, quote_char, before_value, written_pieces, written_attribute, written_attributes, meets_attribute}
+use Rattle.xml_model.specs.Chars.{size, is_space, is_white, is_name_char, is_name}
+use Rattle.xml_model.specs.Items.{Attribute, quote_char, before_value, written_pieces, written_attribute, written_attributes, meets_attribute}
 use Rattle.xml_model.specs.Records.{Token, named, name_token, attribute_tokens, attributes_tokens}
 use Rattle.xml_chars.specs.Places.{span_from}
 use Rattle.xml_chars.proofs.Points.{encode_pos}
 use Rattle.xml_chars.proofs.StandLemmas.{size-append}
 use Rattle.xml_model.specs.Records.{word}
 use Rattle.vtd_builder.specs.declared.tags.AttributeCut.{AttributeCut}
-use Rattle.vtd_builder.specs.Offered.{Outcome, outcome, offer, CanOffer}
+use Rattle.vtd_builder.specs.Offered.{outcome, offer, CanOffer}
 use Rattle.vtd_builder.proofs.InParts.{Test, Offers, offers_none, offers_more, offers_stopped, offers_all}
 use Rattle.vtd_builder.specs.Found.{bytes_of, attribute_found, HasPlaces}
-use Rattle.vtd_builder.specs.Cuts.{in_name, is_low, closes_tag, is_close, Placed, past_name, AttributeAt, AttributesAt, cut_of}
+use Rattle.vtd_builder.specs.Cuts.{is_low, closes_tag, is_close, Placed, past_name, AttributeAt, AttributesAt, cut_of}
 use Rattle.vtd_builder.proofs.Placed.{placed_front, placed_back, placed_as, placed_end, placed_span}
 use Rattle.vtd_builder.proofs.Recorded.{plain_is, named_is, kind_is}
-use Rattle.vtd_builder.proofs.Cutting.{Stops, stops_at, stops_char, byte_is, space_run, Parted, parted, one_byte, first_byte, name_chars, name_high, quote_ascii, no_47, no_62}
+use Rattle.vtd_builder.proofs.Cutting.{Stops, stops_at, stops_char, byte_is, space_run, parted, one_byte, first_byte, name_chars, name_high, quote_ascii, no_47, no_62}
 
 low_ascii : (b : ℕ) → is_low b ≡ true → b < 128
 low_ascii b h = grind (arith, h)

@@ -2,7 +2,7 @@
 use Rattle.std.specs.Prelude.{◌≡◌, ℕ, ◌+◌, ◌≤◌, Bool, true, false, ◌&&◌, ◌||◌, ◌==◌, not, nat_le, nat_lt, slice_index, bytes_eq, Result, Ok, Err, List, [], ◌∷◌, ◌++◌, length, drop, codes, encode_utf8_all}
 use Rattle.std.specs.List.{list_all}
 use Rattle.xml_model.specs.Chars.{size, is_space}
-use Rattle.xml_model.specs.Items.{Item, start_tag, empty_tag, spelling, Attribute, Tag, quote_char, before_value, written_pieces, written_attributes, meets_attribute, meets_tag}
+use Rattle.xml_model.specs.Items.{Item, start_tag, empty_tag, spelling, Attribute, quote_char, before_value, written_pieces, written_attributes, meets_attribute}
 use Rattle.xml_chars.specs.Places.{span_from}
 use Rattle.xml_items.specs.declared.ItemKind.{ItemKind}
 use Rattle.xml_items.specs.declared.ItemKind.TheVariants as kinds

@@ -1,5 +1,5 @@
 -- Documents with their records (this project's own).
-use Rattle.std.specs.Prelude.{◌≡◌, ℕ, ◌+◌, ◌<◌, ◌^◌, Bool, List, [], ◌∷◌, length, nat_le}
+use Rattle.std.specs.Prelude.{◌≡◌, ℕ, ◌<◌, ◌^◌, List, [], ◌∷◌, length}
 use Rattle.xml_model.specs.Nest.{Forest}
 use Rattle.xml_model.specs.Accepted.{Accepted}
 use Rattle.vtd_words.specs.Lists.{Lists, Growing}

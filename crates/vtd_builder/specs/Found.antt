@@ -1,9 +1,9 @@
 -- The records of an item by the places that are found (this project's own).
-use Rattle.std.specs.Prelude.{◌≡◌, ℕ, zero, suc, ◌+◌, ◌-◌, ◌≤◌, true, List, [], ◌∷◌, ◌++◌, length, take, drop}
+use Rattle.std.specs.Prelude.{◌≡◌, ℕ, ◌+◌, ◌-◌, ◌≤◌, true, List, [], ◌∷◌, ◌++◌, length, take, drop}
 use Rattle.xml_model.specs.declared.Span.{Span}
 use Rattle.xml_model.specs.Chars.{prefix_of}
 use Rattle.xml_model.specs.Items.{Item, begins_at}
-use Rattle.xml_model.specs.Records.{Token, name_token, depth_at, text_tokens}
+use Rattle.xml_model.specs.Records.{Token, name_token}
 use Rattle.xml_items.specs.declared.ItemKind.{ItemKind}
 use Rattle.xml_items.specs.declared.ItemKind.TheVariants as kinds
 use Rattle.xml_items.specs.declared.Item.{Item as ItemShown}
@@ -30,10 +30,6 @@ named_span bytes token depth span = record { token = token; depth = depth; prefi
 abbrev pub attribute_found : List ℕ → ℕ → AttributeItem → List Token
 attribute_found bytes depth a = named_span bytes (name_token (bytes_of bytes a.name)) depth a.name ∷ plain_span 4 depth a.value ∷ []
 
-abbrev pub attributes_found : List ℕ → ℕ → List AttributeItem → List Token
-attributes_found bytes depth [] = []
-attributes_found bytes depth (a ∷ others) = attribute_found bytes depth a ++ attributes_found bytes depth others
-
 -- the parts of the XML declaration
 abbrev pub part_found : ℕ → AttributeItem → List Token
 part_found depth a = plain_span 9 depth a.name ∷ plain_span 10 depth a.value ∷ []
@@ -41,18 +37,6 @@ part_found depth a = plain_span 9 depth a.name ∷ plain_span 10 depth a.value �
 abbrev pub parts_found : ℕ → List AttributeItem → List Token
 parts_found depth [] = []
 parts_found depth (a ∷ others) = part_found depth a ++ parts_found depth others
-
--- the records of an item of a kind, with so many elements open round it
-abbrev pub found_by : ItemKind → List ℕ → ℕ → ItemShown → List AttributeItem → List Token
-found_by kinds.Text bytes level found attributes = text_tokens level (plain_span 5 (depth_at level) found.content)
-found_by kinds.StartTag bytes level found attributes = named_span bytes 0 level found.name ∷ attributes_found bytes level attributes
-found_by kinds.EmptyTag bytes level found attributes = named_span bytes 0 level found.name ∷ attributes_found bytes level attributes
-found_by kinds.EndTag bytes level found attributes = []
-found_by kinds.Comment bytes level found attributes = plain_span 6 (depth_at level) found.content ∷ []
-found_by kinds.Instruction bytes level found attributes = plain_span 7 (depth_at level) found.name ∷ plain_span 8 (depth_at level) found.content ∷ []
-found_by kinds.Cdata bytes level found attributes = plain_span 11 (depth_at level) found.content ∷ []
-found_by kinds.Declaration bytes level found attributes = parts_found (depth_at level) attributes
-found_by kinds.Doctype bytes level found attributes = plain_span 12 (depth_at level) found.content ∷ []
 
 -- how many elements stand open behind an item of a kind
 abbrev pub level_by : ItemKind → ℕ → ℕ

@@ -14,7 +14,7 @@ ghost use Rattle.xml_model.specs.Chars.{size};
 ghost use Rattle.xml_model.specs.Items.{Attribute, written_attributes};
 ghost use Rattle.xml_model.specs.Records.{attributes_tokens};
 ghost use Rattle.vtd_builder.specs.Cuts.{AttributesAt, closes_tag, counted, is_mark, is_tag, tag_by, is_tag_item, IsPast, passed_count};
-ghost use Rattle.vtd_builder.specs.Found.{bytes_of, IsWithin, plain_span, named_span, attribute_found, attributes_found, part_found, parts_found, level_by, ShowsItem, AreOrdered, HasPlaces};
+ghost use Rattle.vtd_builder.specs.Found.{bytes_of, IsWithin, plain_span, named_span, attribute_found, part_found, parts_found, level_by, ShowsItem, AreOrdered, HasPlaces};
 
 use crate::names::{name_token, prefix_len};
 use crate::sink::RecordSink;

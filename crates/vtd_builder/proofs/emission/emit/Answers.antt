@@ -1,4 +1,3 @@
-use Rattle.std.proofs.Common.{◌≡◌, sym, ap}
 use Rattle.std.proofs.lemmas.Result.{err_from_is_err_and}
 use Rattle.vtd_builder.specs.Offered.{record_words}
 use Rattle.vtd_builder.proofs.Refused.{stopped_iff, stopped_taken, passed, passed_iff}

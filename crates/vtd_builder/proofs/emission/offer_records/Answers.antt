@@ -1,11 +1,9 @@
-use Rattle.std.proofs.Common.{◌≡◌, ℕ, List, length, ◌<◌, ◌≤◌, Ok, Result, sym, ap, subst, ◌∙◌, arith}
+use Rattle.std.proofs.Common.{ℕ, ◌≤◌, sym, subst, ◌∙◌, arith}
 use Rattle.std.proofs.lemmas.Result.{err_from_is_err_and}
 use Rattle.std.specs.Str.{IsCharBoundary}
 use Rattle.xml_model.specs.Nest.{Forest}
 use Rattle.xml_model.specs.Accepted.{Accepted}
-use Rattle.xml_model.specs.Items.{spelling}
-use Rattle.vtd_builder.specs.Offered.{record_words}
-use Rattle.vtd_builder.proofs.Going.{Passing, first_boundary, ahead_first, stopped_first, Head, head_of, ahead_more, stopped_more, ahead_end, level_low, past_boundary}
+use Rattle.vtd_builder.proofs.Going.{first_boundary, ahead_first, stopped_first, Head, head_of, ahead_more, stopped_more, ahead_end, level_low, past_boundary}
 use Rattle.vtd_builder.proofs.emission.offer_records.Given as given
 use Rattle.vtd_builder.proofs.emission.offer_records.Goals as goal
 use Rattle.vtd_builder.proofs.emission.offer_records.Goals.{In-loop-at}

@@ -1,4 +1,4 @@
-use Rattle.std.proofs.Common.{sym, ◌∙◌, ◌≡◌, ap, arith}
+use Rattle.std.proofs.Common.{sym, ◌∙◌, ap, arith}
 use Rattle.std.specs.Prelude.{unwrap_or}
 use Rattle.vtd_builder.proofs.Colons.{prefix_by_position, prefix_le}
 use Rattle.vtd_builder.proofs.names.prefix_len.Goals as goal

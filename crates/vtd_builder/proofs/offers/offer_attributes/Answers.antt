@@ -1,4 +1,4 @@
-use Rattle.std.proofs.Common.{◌≡◌, ◌+◌, ◌<◌, ◌≤◌, List, ℕ, Ok, Result, length, sym, ap, subst, refl, ◌∙◌, arith}
+use Rattle.std.proofs.Common.{◌≤◌, List, ℕ, length, sym, ap, subst, refl, ◌∙◌, arith}
 use Rattle.std.proofs.lemmas.Result.{err_from_is_err_and}
 use Rattle.xml_model.specs.Items.{Attribute}
 use Rattle.xml_model.specs.Records.{attributes_tokens}
@@ -7,7 +7,7 @@ use Rattle.vtd_builder.specs.Offered.{CanOffer}
 use Rattle.vtd_builder.specs.Found.{HasPlaces, attribute_found}
 use Rattle.vtd_builder.specs.Cuts.{AttributesAt}
 use Rattle.vtd_builder.proofs.InParts.{can_first}
-use Rattle.vtd_builder.proofs.Tagging.{Attributing, LeftAt, left_first, left_within, Turn, turn_of, left_more, left_stopped, left_end}
+use Rattle.vtd_builder.proofs.Tagging.{left_first, left_within, Turn, turn_of, left_more, left_stopped, left_end}
 use Rattle.vtd_builder.proofs.offers.offer_attributes.Given as given
 use Rattle.vtd_builder.proofs.offers.offer_attributes.Goals as goal
 use Rattle.vtd_builder.proofs.offers.offer_attributes.Goals.{In-loop-cut}

@@ -1,4 +1,4 @@
-use Rattle.std.proofs.Common.{◌≡◌, ◌-◌, ◌≤◌, length}
+use Rattle.std.proofs.Common.{◌≡◌, ◌-◌, length}
 use Rattle.vtd_builder.proofs.Tagging.{Attributing}
 use Rattle.vtd_builder.proofs.offers.offer_attributes.Given as goal
 

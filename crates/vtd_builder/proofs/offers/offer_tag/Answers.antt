@@ -1,5 +1,4 @@
-use Rattle.std.proofs.Common.{◌≡◌, ℕ, ◌+◌, ◌<◌, ◌∷◌, List, true, false, Bool, length, get_or, map, sym, ap, subst, refl, ◌∙◌, arith, Ok, Err, Result}
-use Rattle.std.specs.Prelude.{◌==◌}
+use Rattle.std.proofs.Common.{◌≡◌, List, true, map, sym, ap, subst, ◌∙◌, arith, Ok}
 use Rattle.std.proofs.lemmas.Result.{err_from_is_err_and}
 use Rattle.xml_model.specs.Items.{Item, begins_at}
 use Rattle.xml_model.specs.Records.{Token, attributes_tokens, word}
@@ -7,8 +6,7 @@ use Rattle.xml_acceptance.specs.Machine.{item_tokens}
 use Rattle.vtd_words.specs.Packed.{fits, token_of}
 use Rattle.vtd_words.specs.Table.{parts_of_token}
 use Rattle.vtd_builder.specs.Offered.{CanOffer, outcome, offer}
-use Rattle.vtd_builder.specs.Found.{named_span}
-use Rattle.vtd_builder.specs.Cuts.{is_tag_item, AttributesAt, counted}
+use Rattle.vtd_builder.specs.Cuts.{is_tag_item}
 use Rattle.vtd_builder.proofs.TagFacts.{tag_facts, Named, named_of, tag_passed, tag_stopped, tag_room, opened_at, closed_at}
 use Rattle.vtd_builder.proofs.offers.offer_tag.Given as given
 use Rattle.vtd_builder.proofs.offers.offer_tag.Goals as goal

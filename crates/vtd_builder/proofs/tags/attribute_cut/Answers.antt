@@ -1,5 +1,5 @@
-use Rattle.std.proofs.Common.{◌≡◌, ℕ, ◌+◌, get_or, refl, sym, ap, ◌∙◌, arith}
-use Rattle.vtd_builder.proofs.Cutting.{CutFacts, cut_facts, cut_equals, cut_quote, cut_value, cut_same}
+use Rattle.std.proofs.Common.{get_or, refl, arith}
+use Rattle.vtd_builder.proofs.Cutting.{cut_facts, cut_equals, cut_quote, cut_value, cut_same}
 use Rattle.vtd_builder.proofs.tags.attribute_cut.Goals as goal
 
 pub past_space-quote-requires-clause-place : goal.past_space-quote-requires-clause-place
