@@ -1,12 +1,14 @@
 //! Documents with one name that is refused, each beside one that is accepted.
 
+ghost use Rattle.std.specs.Prelude.{[], ◌<◌, ◌^◌, length};
+ghost use Rattle.vtd_words.specs.Table.{IsNodeOf, IsTable};
+ghost use Rattle.vtd_namespaces.specs.NodeNames.{HasName};
+
 use super::*;
+use crate::compare::is_uri;
 use std::test::Fail;
 use vtd_words::{Part, Table, Words};
-use xml_model::DocFault;
-
-ghost use Rattle.std.specs.Prelude.{[], ◌<◌, ◌^◌, length};
-ghost use Rattle.vtd_words.specs.Table.{IsTable};
+use xml_model::{DocFault, Kind, NameTest, Node};
 
 /// The words of the records of a document.
 #[derive(Drop)]
@@ -46,42 +48,90 @@ fn checked(document: &[u8], words: &[u64]) -> Result<(), DocFault>
 fn repeats_and_prefixes(rt: HostRuntime) -> Result<(), Fail> {
     let twins = checked(
         b"<a xmlns:p=\"u\" xmlns:q=\"u\" p:x=\"1\" q:x=\"2\"/>",
-        &[0xdff0_0000_0000_0000, 0x0000_0001_0000_0001, 0x3000_2807_0000_0003, 0x4000_0001_0000_000c, 0x3000_2807_0000_000f, 0x4000_0001_0000_0018, 0x2000_0803_0000_001b, 0x4000_0001_0000_0020, 0x2000_0803_0000_0023, 0x4000_0001_0000_0028],
+        &[
+            0xdff0_0000_0000_0000,
+            0x0000_0001_0000_0001,
+            0x3000_2807_0000_0003,
+            0x4000_0001_0000_000c,
+            0x3000_2807_0000_000f,
+            0x4000_0001_0000_0018,
+            0x2000_0803_0000_001b,
+            0x4000_0001_0000_0020,
+            0x2000_0803_0000_0023,
+            0x4000_0001_0000_0028,
+        ],
     );
     assert_eq!(rt; twins, Err(DocFault::Namespace { at: 35 }));
     let apart = checked(
         b"<a xmlns:p=\"u\" xmlns:q=\"v\" p:x=\"1\" q:x=\"2\"/>",
-        &[0xdff0_0000_0000_0000, 0x0000_0001_0000_0001, 0x3000_2807_0000_0003, 0x4000_0001_0000_000c, 0x3000_2807_0000_000f, 0x4000_0001_0000_0018, 0x2000_0803_0000_001b, 0x4000_0001_0000_0020, 0x2000_0803_0000_0023, 0x4000_0001_0000_0028],
+        &[
+            0xdff0_0000_0000_0000,
+            0x0000_0001_0000_0001,
+            0x3000_2807_0000_0003,
+            0x4000_0001_0000_000c,
+            0x3000_2807_0000_000f,
+            0x4000_0001_0000_0018,
+            0x2000_0803_0000_001b,
+            0x4000_0001_0000_0020,
+            0x2000_0803_0000_0023,
+            0x4000_0001_0000_0028,
+        ],
     );
     assert_eq!(rt; apart, Ok(()));
-    let unbound = checked(
-        b"<p:a/>",
-        &[0xdff0_0000_0000_0000, 0x0000_0803_0000_0001],
-    );
+    let unbound = checked(b"<p:a/>", &[0xdff0_0000_0000_0000, 0x0000_0803_0000_0001]);
     assert_eq!(rt; unbound, Err(DocFault::Namespace { at: 1 }));
     let bound = checked(
         b"<p:a xmlns:p=\"u\"/>",
-        &[0xdff0_0000_0000_0000, 0x0000_0803_0000_0001, 0x3000_2807_0000_0005, 0x4000_0001_0000_000e],
+        &[
+            0xdff0_0000_0000_0000,
+            0x0000_0803_0000_0001,
+            0x3000_2807_0000_0005,
+            0x4000_0001_0000_000e,
+        ],
     );
     assert_eq!(rt; bound, Ok(()));
     let twice = checked(
         b"<a b=\"1\" b=\"2\"/>",
-        &[0xdff0_0000_0000_0000, 0x0000_0001_0000_0001, 0x2000_0001_0000_0003, 0x4000_0001_0000_0006, 0x2000_0001_0000_0009, 0x4000_0001_0000_000c],
+        &[
+            0xdff0_0000_0000_0000,
+            0x0000_0001_0000_0001,
+            0x2000_0001_0000_0003,
+            0x4000_0001_0000_0006,
+            0x2000_0001_0000_0009,
+            0x4000_0001_0000_000c,
+        ],
     );
     assert_eq!(rt; twice, Err(DocFault::Twice { at: 9 }));
     let once = checked(
         b"<a b=\"1\" c=\"2\"/>",
-        &[0xdff0_0000_0000_0000, 0x0000_0001_0000_0001, 0x2000_0001_0000_0003, 0x4000_0001_0000_0006, 0x2000_0001_0000_0009, 0x4000_0001_0000_000c],
+        &[
+            0xdff0_0000_0000_0000,
+            0x0000_0001_0000_0001,
+            0x2000_0001_0000_0003,
+            0x4000_0001_0000_0006,
+            0x2000_0001_0000_0009,
+            0x4000_0001_0000_000c,
+        ],
     );
     assert_eq!(rt; once, Ok(()));
     let two_colons = checked(
         b"<a:b:c xmlns:a=\"u\"/>",
-        &[0xdff0_0000_0000_0000, 0x0000_0805_0000_0001, 0x3000_2807_0000_0007, 0x4000_0001_0000_0010],
+        &[
+            0xdff0_0000_0000_0000,
+            0x0000_0805_0000_0001,
+            0x3000_2807_0000_0007,
+            0x4000_0001_0000_0010,
+        ],
     );
     assert_eq!(rt; two_colons, Err(DocFault::Namespace { at: 1 }));
     let colon_target = checked(
         b"<?a:b?><a/>",
-        &[0xdff0_0000_0000_0000, 0x7ff0_0003_0000_0002, 0x8ff0_0000_0000_0005, 0x0000_0001_0000_0008],
+        &[
+            0xdff0_0000_0000_0000,
+            0x7ff0_0003_0000_0002,
+            0x8ff0_0000_0000_0005,
+            0x0000_0001_0000_0008,
+        ],
     );
     assert_eq!(rt; colon_target, Err(DocFault::Namespace { at: 2 }));
     Ok(())
@@ -91,7 +141,12 @@ fn repeats_and_prefixes(rt: HostRuntime) -> Result<(), Fail> {
 fn targets_and_declarations(rt: HostRuntime) -> Result<(), Fail> {
     let plain_target = checked(
         b"<?ab?><a/>",
-        &[0xdff0_0000_0000_0000, 0x7ff0_0002_0000_0002, 0x8ff0_0000_0000_0004, 0x0000_0001_0000_0007],
+        &[
+            0xdff0_0000_0000_0000,
+            0x7ff0_0002_0000_0002,
+            0x8ff0_0000_0000_0004,
+            0x0000_0001_0000_0007,
+        ],
     );
     assert_eq!(rt; plain_target, Ok(()));
     let xmlns_tag = checked(
@@ -101,27 +156,52 @@ fn targets_and_declarations(rt: HostRuntime) -> Result<(), Fail> {
     assert_eq!(rt; xmlns_tag, Err(DocFault::Namespace { at: 1 }));
     let xmlns_bound = checked(
         b"<a xmlns:xmlns=\"u\"/>",
-        &[0xdff0_0000_0000_0000, 0x0000_0001_0000_0001, 0x3000_280b_0000_0003, 0x4000_0001_0000_0010],
+        &[
+            0xdff0_0000_0000_0000,
+            0x0000_0001_0000_0001,
+            0x3000_280b_0000_0003,
+            0x4000_0001_0000_0010,
+        ],
     );
     assert_eq!(rt; xmlns_bound, Err(DocFault::Namespace { at: 3 }));
     let xml_rebound = checked(
         b"<a xmlns:xml=\"u\"/>",
-        &[0xdff0_0000_0000_0000, 0x0000_0001_0000_0001, 0x3000_2809_0000_0003, 0x4000_0001_0000_000e],
+        &[
+            0xdff0_0000_0000_0000,
+            0x0000_0001_0000_0001,
+            0x3000_2809_0000_0003,
+            0x4000_0001_0000_000e,
+        ],
     );
     assert_eq!(rt; xml_rebound, Err(DocFault::Namespace { at: 3 }));
     let xml_bound = checked(
         b"<a xmlns:xml=\"http://www.w3.org/XML/1998/namespace\"/>",
-        &[0xdff0_0000_0000_0000, 0x0000_0001_0000_0001, 0x3000_2809_0000_0003, 0x4000_0024_0000_000e],
+        &[
+            0xdff0_0000_0000_0000,
+            0x0000_0001_0000_0001,
+            0x3000_2809_0000_0003,
+            0x4000_0024_0000_000e,
+        ],
     );
     assert_eq!(rt; xml_bound, Ok(()));
     let xml_uri = checked(
         b"<a xmlns:p=\"http://www.w3.org/XML/1998/namespace\"/>",
-        &[0xdff0_0000_0000_0000, 0x0000_0001_0000_0001, 0x3000_2807_0000_0003, 0x4000_0024_0000_000c],
+        &[
+            0xdff0_0000_0000_0000,
+            0x0000_0001_0000_0001,
+            0x3000_2807_0000_0003,
+            0x4000_0024_0000_000c,
+        ],
     );
     assert_eq!(rt; xml_uri, Err(DocFault::Namespace { at: 3 }));
     let xmlns_uri = checked(
         b"<a xmlns=\"http://www.w3.org/2000/xmlns/\"/>",
-        &[0xdff0_0000_0000_0000, 0x0000_0001_0000_0001, 0x3000_0005_0000_0003, 0x4000_001d_0000_000a],
+        &[
+            0xdff0_0000_0000_0000,
+            0x0000_0001_0000_0001,
+            0x3000_0005_0000_0003,
+            0x4000_001d_0000_000a,
+        ],
     );
     assert_eq!(rt; xmlns_uri, Err(DocFault::Namespace { at: 3 }));
     Ok(())
@@ -131,28 +211,184 @@ fn targets_and_declarations(rt: HostRuntime) -> Result<(), Fail> {
 fn defaults_and_layers(rt: HostRuntime) -> Result<(), Fail> {
     let no_uri = checked(
         b"<a xmlns:p=\"\"/>",
-        &[0xdff0_0000_0000_0000, 0x0000_0001_0000_0001, 0x3000_2807_0000_0003, 0x4000_0000_0000_000c],
+        &[
+            0xdff0_0000_0000_0000,
+            0x0000_0001_0000_0001,
+            0x3000_2807_0000_0003,
+            0x4000_0000_0000_000c,
+        ],
     );
     assert_eq!(rt; no_uri, Err(DocFault::Namespace { at: 3 }));
     let no_default = checked(
         b"<a xmlns=\"\"/>",
-        &[0xdff0_0000_0000_0000, 0x0000_0001_0000_0001, 0x3000_0005_0000_0003, 0x4000_0000_0000_000a],
+        &[
+            0xdff0_0000_0000_0000,
+            0x0000_0001_0000_0001,
+            0x3000_0005_0000_0003,
+            0x4000_0000_0000_000a,
+        ],
     );
     assert_eq!(rt; no_default, Ok(()));
     let default = checked(
         b"<a xmlns=\"u\" xmlns:p=\"u\" b=\"1\" p:b=\"2\"/>",
-        &[0xdff0_0000_0000_0000, 0x0000_0001_0000_0001, 0x3000_0005_0000_0003, 0x4000_0001_0000_000a, 0x3000_2807_0000_000d, 0x4000_0001_0000_0016, 0x2000_0001_0000_0019, 0x4000_0001_0000_001c, 0x2000_0803_0000_001f, 0x4000_0001_0000_0024],
+        &[
+            0xdff0_0000_0000_0000,
+            0x0000_0001_0000_0001,
+            0x3000_0005_0000_0003,
+            0x4000_0001_0000_000a,
+            0x3000_2807_0000_000d,
+            0x4000_0001_0000_0016,
+            0x2000_0001_0000_0019,
+            0x4000_0001_0000_001c,
+            0x2000_0803_0000_001f,
+            0x4000_0001_0000_0024,
+        ],
     );
     assert_eq!(rt; default, Ok(()));
     let layers = checked(
         b"<p:a><b c=\"1\" c=\"2\"/></p:a>",
-        &[0xdff0_0000_0000_0000, 0x0000_0803_0000_0001, 0x0010_0001_0000_0006, 0x2010_0001_0000_0008, 0x4010_0001_0000_000b, 0x2010_0001_0000_000e, 0x4010_0001_0000_0011],
+        &[
+            0xdff0_0000_0000_0000,
+            0x0000_0803_0000_0001,
+            0x0010_0001_0000_0006,
+            0x2010_0001_0000_0008,
+            0x4010_0001_0000_000b,
+            0x2010_0001_0000_000e,
+            0x4010_0001_0000_0011,
+        ],
     );
     assert_eq!(rt; layers, Err(DocFault::Twice { at: 14 }));
     let sibling = checked(
         b"<a><b xmlns:p=\"u\"/><p:c/></a>",
-        &[0xdff0_0000_0000_0000, 0x0000_0001_0000_0001, 0x0010_0001_0000_0004, 0x3010_2807_0000_0006, 0x4010_0001_0000_000f, 0x0010_0803_0000_0014],
+        &[
+            0xdff0_0000_0000_0000,
+            0x0000_0001_0000_0001,
+            0x0010_0001_0000_0004,
+            0x3010_2807_0000_0006,
+            0x4010_0001_0000_000f,
+            0x0010_0803_0000_0014,
+        ],
     );
     assert_eq!(rt; sibling, Err(DocFault::Namespace { at: 20 }));
     Ok(())
+}
+
+/// Whether a node has a prefix, a local part and a URI, which is empty for none.
+fn is_called<W: Words>(table: &Table<'_, W>, node: Node, name: (&str, &str, &str)) -> bool
+    requires node { IsNodeOf table.now.bytes (W.lists table.now.words) node }
+    requires named { HasName node.kind }
+{
+    let (prefix, local, uri) = name;
+    if prefix_of(table, node) != prefix.as_bytes() {
+        return false;
+    }
+    if local_of(table, node) != local.as_bytes() {
+        return false;
+    }
+    is_uri(uri_of(table, node), uri)
+}
+
+/// Whether there is a node at a record that has a prefix, a local part and a URI.
+fn has_name<W: Words>(table: &Table<'_, W>, at: u32, name: (&str, &str, &str)) -> bool {
+    let Some(node) = table.node_at(at) else {
+        return false;
+    };
+    match node.kind {
+        Kind::Element => is_called(table, node, name),
+        Kind::Attribute => is_called(table, node, name),
+        Kind::Instruction => is_called(table, node, name),
+        _ => false,
+    }
+}
+
+/// Whether there is an element or an attribute at a record that passes a name test.
+fn passes<W: Words>(table: &Table<'_, W>, at: u32, test: &NameTest<'_>) -> bool {
+    let Some(node) = table.node_at(at) else {
+        return false;
+    };
+    match node.kind {
+        Kind::Element => matches(table, node, test),
+        Kind::Attribute => matches(table, node, test),
+        _ => false,
+    }
+}
+
+#[test]
+fn names_of_nodes(rt: HostRuntime) {
+    let words = [
+        0xdff0_0000_0000_0000,
+        0x0000_0803_0000_0001,
+        0x3000_2807_0000_0005,
+        0x4000_0001_0000_000e,
+        0x3000_0005_0000_0011,
+        0x4000_0001_0000_0018,
+        0x2000_0001_0000_001b,
+        0x4000_0001_0000_001e,
+        0x2000_0803_0000_0021,
+        0x4000_0001_0000_0026,
+        0x0010_0001_0000_002a,
+        0x3010_0005_0000_002c,
+        0x4010_0000_0000_0033,
+        0x0010_0001_0000_0037,
+        0x7000_0001_0000_003c,
+        0x8000_0000_0000_003d,
+    ];
+    let fixed = Fixed { words: &words };
+    let table = Table::of(
+        b"<p:a xmlns:p=\"u\" xmlns=\"v\" b=\"1\" p:c=\"2\"><d xmlns=\"\"/><e/><?f?></p:a>",
+        &fixed,
+    );
+    let names = [
+        (1, ("p", "a", "u")),
+        (6, ("", "b", "")),
+        (8, ("p", "c", "u")),
+        (10, ("", "d", "")),
+        (13, ("", "e", "v")),
+        (14, ("", "f", "")),
+    ];
+    for (at, name) in names {
+        assert!(rt; has_name(&table, at, name), "{at}");
+    }
+    let passing = [
+        (1, NameTest::Any, true),
+        (
+            8,
+            NameTest::Named {
+                uri: "u",
+                local: "c",
+            },
+            true,
+        ),
+        (
+            8,
+            NameTest::Named {
+                uri: "u",
+                local: "a",
+            },
+            false,
+        ),
+        (6, NameTest::AnyIn { uri: "v" }, false),
+        (6, NameTest::AnyIn { uri: "" }, true),
+        (10, NameTest::AnyIn { uri: "" }, true),
+        (10, NameTest::AnyIn { uri: "v" }, false),
+        (
+            13,
+            NameTest::Named {
+                uri: "v",
+                local: "e",
+            },
+            true,
+        ),
+        (
+            13,
+            NameTest::Named {
+                uri: "",
+                local: "e",
+            },
+            false,
+        ),
+    ];
+    for (at, test, answer) in passing {
+        assert_eq!(rt; passes(&table, at, &test), answer, "{at}");
+    }
 }
