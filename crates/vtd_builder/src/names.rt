@@ -6,6 +6,7 @@ ghost use Rattle.xml_model.specs.Chars.{prefix_of};
 ghost use Rattle.xml_model.specs.Records.{declares, name_token};
 
 /// The place of the first colon.
+#[inline(always)]
 fn first_colon(name: &[u8]) -> Option<usize>
     ensures { result ≡ position (λ b. b == 58) name.now }
 {
@@ -13,6 +14,7 @@ fn first_colon(name: &[u8]) -> Option<usize>
 }
 
 /// How many bytes stand before the first colon; 0 where there is no colon.
+#[inline(always)]
 pub fn prefix_len(name: &[u8]) -> usize
     ensures value { result ≡ length (prefix_of name.now) }
     ensures within { result ≤ length name.now }
@@ -21,6 +23,7 @@ pub fn prefix_len(name: &[u8]) -> usize
 }
 
 /// Whether the name declares a namespace: it is `xmlns` or begins with `xmlns:`.
+#[inline(always)]
 fn declares(name: &[u8]) -> bool
     ensures { result ≡ declares name.now }
 {
@@ -28,6 +31,7 @@ fn declares(name: &[u8]) -> bool
 }
 
 /// The type of the record of an attribute's name: 3 where it declares a namespace, else 2.
+#[inline(always)]
 pub fn name_token(name: &[u8]) -> u8
     ensures { result ≡ name_token name.now }
 {

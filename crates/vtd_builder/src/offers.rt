@@ -24,6 +24,7 @@ use xml_items::{AttributeItem, Attributes, Item, ItemKind, next_item};
 use xml_model::Span;
 
 /// The record of what is no name.
+#[inline(always)]
 fn plain_parts(token: u8, depth: u8, span: Span) -> Parts
     requires { span.start ≤ span.end }
     ensures { token_of result ≡ plain_span token depth span }
@@ -38,6 +39,7 @@ fn plain_parts(token: u8, depth: u8, span: Span) -> Parts
 }
 
 /// The bytes of a span.
+#[inline(always)]
 fn bytes_of(bytes: &[u8], span: Span) -> &[u8]
     requires { IsWithin bytes.now span }
     ensures { result.now ≡ bytes_of bytes.now span }
@@ -46,6 +48,7 @@ fn bytes_of(bytes: &[u8], span: Span) -> &[u8]
 }
 
 /// The record of a name.
+#[inline(always)]
 fn name_parts(bytes: &[u8], token: u8, depth: u8, name: Span) -> Parts
     requires { IsWithin bytes.now name }
     ensures { token_of result ≡ named_span bytes.now token depth name }
@@ -60,6 +63,7 @@ fn name_parts(bytes: &[u8], token: u8, depth: u8, name: Span) -> Parts
 }
 
 /// Offers one record.
+#[inline(always)]
 pub fn offer<R: RecordSink>(parts: Parts, count: u32, into: &mut R) -> Result<u32, u32>
     requires fits { fits parts ≡ true }
     requires counted { count + 1 < 2 ^ 32 }
@@ -78,6 +82,7 @@ pub fn offer<R: RecordSink>(parts: Parts, count: u32, into: &mut R) -> Result<u3
 }
 
 /// Offers the two records of an attribute: its name and its value.
+#[inline(always)]
 fn offer_attribute<R: RecordSink>(
     bytes: &[u8],
     depth: u8,
@@ -113,6 +118,7 @@ pub struct Passed {
 }
 
 /// Whether the byte begins what closes a tag: `>` or `/>`.
+#[inline(always)]
 fn closes_tag(byte: u8) -> bool
     ensures { result ≡ closes_tag byte }
 {
@@ -203,6 +209,7 @@ fn offer_instruction<R: RecordSink>(
 }
 
 /// The depth in the record of what is no tag, with so many elements open round it: 255 outside of all elements.
+#[inline(always)]
 fn depth_of(level: u32) -> u8
     requires { level ≤ 256 }
     ensures { result ≡ depth_at level }
@@ -286,6 +293,7 @@ fn offer_other<R: RecordSink>(
 }
 
 /// How many elements stand open behind an item.
+#[inline(always)]
 fn level_after(kind: ItemKind, level: u32) -> u32
     requires { level ≤ 256 }
     ensures { result ≡ level_by kind level }
@@ -298,6 +306,7 @@ fn level_after(kind: ItemKind, level: u32) -> u32
 }
 
 /// Whether the byte behind a `<` tells that no start tag and no empty tag begins there.
+#[inline(always)]
 fn is_mark(byte: u8) -> bool
     ensures { result ≡ is_mark byte }
 {
@@ -305,6 +314,7 @@ fn is_mark(byte: u8) -> bool
 }
 
 /// Whether a `<` stands at the place, and no mark behind it.
+#[inline(always)]
 fn opens_tag(bytes: &[u8], at: u32) -> bool
     requires size { length bytes.now < 2 ^ 30 }
     requires place { at < length bytes.now }
@@ -321,6 +331,7 @@ fn opens_tag(bytes: &[u8], at: u32) -> bool
 }
 
 /// Whether the item at a place is a start tag or an empty tag, by its first two bytes.
+#[inline(always)]
 fn begins_tag(bytes: &[u8], at: u32) -> bool
     requires size { length bytes.now < 2 ^ 30 }
     requires place { at < length bytes.now }

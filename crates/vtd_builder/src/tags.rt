@@ -18,6 +18,7 @@ pub struct AttributeCut {
 }
 
 /// Whether the byte may stand in a name: it is no white space, and none of `/`, `=`, `>`.
+#[inline(always)]
 fn in_name(byte: u8) -> bool
     ensures { result ≡ in_name byte }
 {
@@ -25,6 +26,7 @@ fn in_name(byte: u8) -> bool
 }
 
 /// The place where the name at a place ends.
+#[inline(always)]
 pub fn past_name(bytes: &[u8], at: u32) -> u32
     requires place { at ≤ length bytes.now }
     requires size { length bytes.now < 2 ^ 30 }
@@ -39,6 +41,7 @@ pub fn past_name(bytes: &[u8], at: u32) -> u32
 }
 
 /// The place where the white space at a place ends.
+#[inline(always)]
 pub fn past_space(bytes: &[u8], at: u32) -> u32
     requires place { at ≤ length bytes.now }
     requires size { length bytes.now < 2 ^ 30 }
@@ -53,6 +56,7 @@ pub fn past_space(bytes: &[u8], at: u32) -> u32
 }
 
 /// The place of the next such quote.
+#[inline(always)]
 fn past_value(bytes: &[u8], at: u32, quote: u8) -> u32
     requires place { at ≤ length bytes.now }
     requires size { length bytes.now < 2 ^ 30 }
@@ -67,6 +71,7 @@ fn past_value(bytes: &[u8], at: u32, quote: u8) -> u32
 }
 
 /// Where the attribute lies whose name begins at a place.
+#[inline(always)]
 pub fn attribute_cut(bytes: &[u8], at: u32) -> AttributeCut
     requires size { length bytes.now < 2 ^ 30 }
     requires attribute { (a : Attribute) × AttributeAt bytes.now at a }

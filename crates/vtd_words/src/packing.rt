@@ -17,12 +17,14 @@ pub struct Parts {
 }
 
 /// The types of record whose length is that of a name.
+#[inline(always)]
 fn is_name(token: u8) -> bool
     ensures { result ≡ is_name_token token }
 {
     matches!(token, 0 | 2 | 3 | 7 | 9)
 }
 
+#[inline(always)]
 fn has_room(parts: Parts) -> bool
     ensures { result ≡ fits parts }
 {
@@ -35,6 +37,7 @@ fn has_room(parts: Parts) -> bool
 }
 
 /// The word of the parts, or `None` exactly where a part is wider than its field.
+#[inline(always)]
 pub fn pack(parts: Parts) -> Option<u64>
     ensures word { IfSome result (λ w. w ≡ word (token_of parts)) }
     ensures none { IsNone result ↔ (fits parts ≡ false) }
