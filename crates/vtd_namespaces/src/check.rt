@@ -16,8 +16,9 @@ use xml_model::DocFault;
 /// no memory.
 ///
 /// Each record is read a few times; in a tag with n names a name costs up to n steps where others share its slot in a filter,
-/// a name with a prefix up to the attributes of the tags that hold it and of its own, and, where others have its local part, as
-/// many again.
+/// and a name with a prefix up to the attributes of the tags that hold it and of its own. Past the first 16 of a tag, an
+/// attribute with a prefix is compared with earlier ones only where its expanded name shares its slot in a filter; each of
+/// those that has its local part costs as many steps again.
 pub fn check_names<W: Words>(table: &Table<'_, W>) -> Result<(), DocFault>
     ensures accepted { OnOk result ((nest : Forest) → IsNestOf table.now.bytes (W.lists table.now.words) nest → Accepted 8 table.now.bytes nest) }
     ensures layer { IfErr result (λ fault. 7 ≤ layer fault) }

@@ -21,9 +21,11 @@ ghost use Rattle.vtd_namespaces.specs.Scope.{tags_in};
 ghost use Rattle.vtd_namespaces.specs.Uris.{IsScope};
 ghost use Rattle.vtd_namespaces.specs.Offences.{is_twin, seen_after, IsFine, IsWritten};
 
+use crate::filter::Filter;
 use crate::qnames::{after_prefix, is_qname, prefix_of};
 use crate::records::{attribute_at, parts_at, slice_of};
 use crate::scope::Scope;
+use crate::sieve::note_attribute;
 use crate::uri::{XML_URI, XMLNS_URI};
 use vtd_text::{Chars, equals_str};
 use vtd_words::{Part, Parts, Table, Words};
@@ -121,12 +123,14 @@ fn has_twin<W: Words>(
 }
 
 /// Whether an attribute or a declaration of the nearest tag offends, by the number of attributes before it, none of which
-/// offends; the record of the first of them has the index `first`. No two of them have one name.
+/// offends; the record of the first of them has the index `first`. No two of them have one name. Where it is known to be new,
+/// none of them has its expanded name.
 fn attribute_offends<W: Words>(
     scope: &Scope<'_, '_, W>,
     first: u32,
     number: u32,
     parts: Parts,
+    is_new: bool,
 ) -> bool
     requires room { first + 2 * number < length (list_of Part.Records (W.lists scope.now.table.now.words)) }
     requires bound { first + 2 * number < 2 ^ 32 }
@@ -134,6 +138,7 @@ fn attribute_offends<W: Words>(
     ensures { (nest : Forest) (x : Holder) (xs : List Holder) → IsScope scope.now.table.now.bytes (W.lists scope.now.table.now.words) scope.now.open_tags.now scope.now.count nest (x ∷ xs) →
         first ≡ x.place + 1 → (done left : List Attribute) (a : Attribute) → x.tag.attributes ≡ done ++ (a ∷ left) → length done ≡ number →
         AllByRecursion (IsFine (tags_in (x ∷ xs))) done → AllByRecursion (λ b. bytes_eq a.name b.name ≡ false) done →
+        (is_new ≡ true → is_some (attribute_uri (prefix_of_chars a.name) (tags_in (x ∷ xs))) ≡ true → list_any (is_twin (tags_in (x ∷ xs)) a) done ≡ false) →
         result ≡ offends_as_attribute (tags_in (x ∷ xs)) (seen_after (tags_in (x ∷ xs)) [] done) a }
 {
     let name = slice_of(scope.table.bytes(), parts);
@@ -149,11 +154,37 @@ fn attribute_offends<W: Words>(
     if !scope.is_bound(prefix_of(name, parts.prefix)) {
         return true;
     }
+    if is_new {
+        return false;
+    }
     has_twin(scope, first, number, name, parts.prefix)
 }
 
+/// The number of attributes from which on a filter is worth its making.
+const MANY: u32 = 16;
+
 /// Where the first name of an attribute or a declaration of the nearest tag begins that offends; no two of them have one
-/// name, and the record of the first of them has the index `first`.
+/// name, and the record of the first of them has the index `first`. Each is compared with those before it whose slot in a
+/// filter is its own.
+fn attributes_offence_in_many<W: Words>(scope: &Scope<'_, '_, W>, first: u32) -> Option<u32>
+    requires { first ≤ length (list_of Part.Records (W.lists scope.now.table.now.words)) }
+    ensures { (nest : Forest) (x : Holder) (xs : List Holder) → IsScope scope.now.table.now.bytes (W.lists scope.now.table.now.words) scope.now.open_tags.now scope.now.count nest (x ∷ xs) →
+        first ≡ x.place + 1 → (at : ℕ) → AttributesStand scope.now.table.now.bytes (records nest (first_place scope.now.table.now.bytes)) first at x.tag.attributes →
+        repeated at [] x.tag.attributes ≡ [] → result ≡ first_of (offending_attributes (tags_in (x ∷ xs)) at [] x.tag.attributes) }
+{
+    let mut filter = Filter::new();
+    let mut number = 0;
+    while let Some(parts) = attribute_at(scope.table.words(), first + 2 * number) {
+        let is_new = note_attribute(scope, &mut filter, parts);
+        if attribute_offends(scope, first, number, parts, is_new) {
+            return Some(parts.offset);
+        }
+        number += 1;
+    }
+    None
+}
+
+/// The same. Each is compared with those before it, where those with a prefix are among the first few.
 fn attributes_offence<W: Words>(scope: &Scope<'_, '_, W>, first: u32) -> Option<u32>
     requires { first ≤ length (list_of Part.Records (W.lists scope.now.table.now.words)) }
     ensures { (nest : Forest) (x : Holder) (xs : List Holder) → IsScope scope.now.table.now.bytes (W.lists scope.now.table.now.words) scope.now.open_tags.now scope.now.count nest (x ∷ xs) →
@@ -162,7 +193,10 @@ fn attributes_offence<W: Words>(scope: &Scope<'_, '_, W>, first: u32) -> Option<
 {
     let mut number = 0;
     while let Some(parts) = attribute_at(scope.table.words(), first + 2 * number) {
-        if attribute_offends(scope, first, number, parts) {
+        if number >= MANY && parts.prefix > 0 {
+            return attributes_offence_in_many(scope, first);
+        }
+        if attribute_offends(scope, first, number, parts, false) {
             return Some(parts.offset);
         }
         number += 1;

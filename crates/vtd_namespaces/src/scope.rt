@@ -49,7 +49,7 @@ impl<'s, 'a, W: Words> Scope<'s, 'a, W> {
     }
 
     /// The URI to which a prefix is bound that is not empty; none where it is not bound.
-    fn uri_of_prefix(&self, prefix: &[u8]) -> Uri<'a, W>
+    pub fn uri_of_prefix(&self, prefix: &[u8]) -> Uri<'a, W>
         ensures { (nest : Forest) (hs : List Holder) → IsScope self.now.table.now.bytes (W.lists self.now.table.now.words) self.now.open_tags.now self.now.count nest hs →
             (p : List ℕ) → prefix.now ≡ encode_utf8_all p → (p ≡ [] → ⊥) → uri_value result ≡ attribute_uri p (tags_in hs) }
     {
