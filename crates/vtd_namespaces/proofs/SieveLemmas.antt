@@ -38,7 +38,7 @@ same_one None (Some v) h = absurd (false≢true h)
 same_one (Some u) None h = absurd (false≢true h)
 same_one (Some u) (Some v) h = ap (λ x. Some x) ((bytes_eq-Decides u v).0 h)
 
-not_twin : (tags : List Tag) (slots : List Bool) (a b : Attribute) → is_some (attribute_uri (prefix_of a.name) tags) ≡ true → IsNoted tags slots b → is_taken slots (key_of tags a) ≡ false → is_twin tags a b ≡ false
+not_twin : (tags : List Tag) (slots : List ℕ) (a b : Attribute) → is_some (attribute_uri (prefix_of a.name) tags) ≡ true → IsNoted tags slots b → is_taken slots (key_of tags a) ≡ false → is_twin tags a b ≡ false
 not_twin tags slots a b some noted free = false_from_ne_true _ twin
   where
     twin : is_twin tags a b ≡ true → ⊥
@@ -52,12 +52,12 @@ not_twin tags slots a b some noted free = false_from_ne_true _ twin
         false≢true (sym free ∙ ap (is_taken slots) key ∙ noted p.0 prefix)
 
 -- an attribute whose slot is free has no twin among those that are noted
-no_noted_twin : (tags : List Tag) (slots : List Bool) (a : Attribute) (done : List Attribute) → is_some (attribute_uri (prefix_of a.name) tags) ≡ true → Each (IsNoted tags slots) done → is_taken slots (key_of tags a) ≡ false → list_any (is_twin tags a) done ≡ false
+no_noted_twin : (tags : List Tag) (slots : List ℕ) (a : Attribute) (done : List Attribute) → is_some (attribute_uri (prefix_of a.name) tags) ≡ true → Each (IsNoted tags slots) done → is_taken slots (key_of tags a) ≡ false → list_any (is_twin tags a) done ≡ false
 no_noted_twin tags slots a [] some noted free = refl
 no_noted_twin tags slots a (b ∷ done) some noted free = ap₂ (λ x y. x || y) (not_twin tags slots a b some noted.0 free) (no_noted_twin tags slots a done some noted.1 free)
 
 -- one more is noted
-still_noted : (tags : List Tag) (old new : List Bool) (done : List Attribute) → ((key : List ℕ) → is_taken old key ≡ true → is_taken new key ≡ true) → Each (IsNoted tags old) done → Each (IsNoted tags new) done
+still_noted : (tags : List Tag) (old new : List ℕ) (done : List Attribute) → ((key : List ℕ) → is_taken old key ≡ true → is_taken new key ≡ true) → Each (IsNoted tags old) done → Each (IsNoted tags new) done
 still_noted tags old new [] kept noted = tt
 still_noted tags old new (b ∷ done) kept noted = (λ d p. kept (key_of tags b) (noted.0 d p), still_noted tags old new done kept noted.1)
 
@@ -65,14 +65,14 @@ taken_more : (attributes done left : List Attribute) (a : Attribute) (number : �
 taken_more attributes done left a number split many =
     ap₂ take (sym (length-append done (a ∷ []) ∙ ap (λ k. k + 1) many)) (split ∙ sym (append_assoc done (a ∷ []) left)) ∙ take-append_seam (done ++ (a ∷ [])) left
 
-pub noted_more : (tags : List Tag) (old new : List Bool) (attributes done left : List Attribute) (a : Attribute) (number : ℕ) → attributes ≡ done ++ (a ∷ left) → length done ≡ number → ((key : List ℕ) → is_taken old key ≡ true → is_taken new key ≡ true) →
+pub noted_more : (tags : List Tag) (old new : List ℕ) (attributes done left : List Attribute) (a : Attribute) (number : ℕ) → attributes ≡ done ++ (a ∷ left) → length done ≡ number → ((key : List ℕ) → is_taken old key ≡ true → is_taken new key ≡ true) →
     Each (IsNoted tags old) (take number attributes) → IsNoted tags new a → Each (IsNoted tags new) (take (number + 1) attributes)
 noted_more tags old new attributes done left a number split many kept noted here =
     let before = subst (Each (IsNoted tags old)) (taken attributes done left a number split many) noted in
     subst (Each (IsNoted tags new)) (sym (taken_more attributes done left a number split many)) (each_append (IsNoted tags new) done (a ∷ []) (still_noted tags old new done kept before) (here, tt))
 
 -- an attribute whose slot is free is new
-pub known_new : (tags : List Tag) (slots : List Bool) (attributes done left : List Attribute) (a : Attribute) (number : ℕ) → attributes ≡ done ++ (a ∷ left) → length done ≡ number → Each (IsNoted tags slots) (take number attributes) →
+pub known_new : (tags : List Tag) (slots : List ℕ) (attributes done left : List Attribute) (a : Attribute) (number : ℕ) → attributes ≡ done ++ (a ∷ left) → length done ≡ number → Each (IsNoted tags slots) (take number attributes) →
     is_taken slots (key_of tags a) ≡ false → is_some (attribute_uri (prefix_of a.name) tags) ≡ true → list_any (is_twin tags a) done ≡ false
 known_new tags slots attributes done left a number split many noted free some =
     no_noted_twin tags slots a done some (subst (Each (IsNoted tags slots)) (taken attributes done left a number split many) noted) free

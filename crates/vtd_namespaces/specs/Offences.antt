@@ -33,5 +33,5 @@ abbrev pub key_of : List Tag → Attribute → List ℕ
 key_of tags a = unwrap_or (expanded_of tags a).uri [] ++ encode_utf8_all (expanded_of tags a).name
 
 -- a filter has noted an attribute, where it is one with a prefix and no declaration
-abbrev pub IsNoted : List Tag → List Bool → Attribute → Type 0
+abbrev pub IsNoted : List Tag → List ℕ → Attribute → Type 0
 IsNoted tags slots a = not (declares a.name) ≡ true → (prefix_of a.name ≡ [] → ⊥) → is_taken slots (key_of tags a) ≡ true

@@ -1,13 +1,21 @@
-//! A filter of keys that holds no keys: it tells keys that are new for certain.
+//! A filter of keys that holds no keys: it tells keys that are new for certain. A key has a slot and a mark of some 16 bits each,
+//! so that a key is rarely taken for another: where their slots and their marks are the same, or keys of other marks share its
+//! slot.
 
-ghost use Rattle.std.specs.Prelude.{◌≡◌, ◌<◌, ◌^◌, ◌/◌, ℕ, List, true, not, length, fold};
-ghost use Rattle.vtd_namespaces.specs.Filter.{mixed, is_taken};
+ghost use Rattle.std.specs.Prelude.{◌≡◌, ◌+◌, ◌%◌, ◌<◌, ◌^◌, ◌/◌, ℕ, List, true, not, length, fold};
+ghost use Rattle.vtd_namespaces.specs.Filter.{mixed, is_taken, stands_for};
 
 use vtd_text::Chars;
 use vtd_words::Words;
 
 /// How many slots a filter has.
 const SLOTS: usize = 65_536;
+
+/// What a slot holds that no key has taken.
+const FREE: u16 = 0;
+
+/// What a slot holds that keys of several marks have taken: it stands for all marks.
+const SHARED: u16 = 65_535;
 
 /// The number of a key, from that of what stands before these bytes of it.
 pub fn mix_bytes(before: u64, bytes: &[u8]) -> u64
@@ -43,17 +51,42 @@ fn slot_of(number: u64) -> u16
     (number >> 16) as u16
 }
 
-/// The slots that keys have taken.
+/// The mark of a key, by its number.
+fn mark_of(number: u64) -> u16
+    ensures { result ≡ number % 65521 + 1 }
+{
+    (number % 65_521) as u16 + 1
+}
+
+/// Whether what a slot holds stands for a mark.
+fn stands_for(mark: u16, held: u16) -> bool
+    ensures { result ≡ stands_for mark held }
+{
+    held == mark || held == SHARED
+}
+
+/// What a slot holds once a key with a mark has taken it.
+fn taken_by(held: u16, mark: u16) -> u16
+    ensures noted { stands_for mark result ≡ true }
+    ensures kept { (other : ℕ) → 0 < other → stands_for other held ≡ true → stands_for other result ≡ true }
+{
+    if held == FREE || held == mark {
+        return mark;
+    }
+    SHARED
+}
+
+/// What the slots hold.
 #[derive(Drop)]
 pub struct Filter {
-    pub slots: [bool; SLOTS],
+    pub slots: [u16; SLOTS],
 }
 
 impl Filter {
     /// No key is noted.
     pub fn new() -> Filter {
         Filter {
-            slots: [false; SLOTS],
+            slots: [FREE; SLOTS],
         }
     }
 
@@ -74,8 +107,9 @@ impl Filter {
         ensures kept { (other : List ℕ) → is_taken self.old.slots other ≡ true → is_taken self.new.slots other ≡ true }
     {
         let slot = slot_of(number) as usize;
-        let taken = self.slots[slot];
-        self.slots[slot] = true;
-        !taken
+        let mark = mark_of(number);
+        let held = self.slots[slot];
+        self.slots[slot] = taken_by(held, mark);
+        !stands_for(mark, held)
     }
 }
