@@ -6,9 +6,9 @@ use Rattle.std.specs.List.{slice_index_or}
 abbrev pub mixed : ℕ → ℕ → ℕ
 mixed sum byte = (sum * 0x9E37_79B1 + byte) % 2 ^ 32
 
--- the slot of a key: the upper half of its number
+-- the slot of a key: the upper half of its number with one byte more, so that the last byte tells too
 abbrev pub slot_of : List ℕ → ℕ
-slot_of key = fold mixed 0 key / 2 ^ 16
+slot_of key = mixed (fold mixed 0 key) 0 / 2 ^ 16
 
 -- the mark of a key in its slot: from 1 to 65,521
 abbrev pub mark_of : List ℕ → ℕ

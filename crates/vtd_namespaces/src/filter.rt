@@ -43,11 +43,12 @@ pub fn mix_chars<W: Words>(chars: Chars<'_, W>) -> u64
     number
 }
 
-/// The slot of a key, by its number.
+/// The slot of a key, by its number; the last byte of the key tells too.
 fn slot_of(number: u64) -> u16
     requires { number < 2 ^ 32 }
-    ensures { result ≡ number / 2 ^ 16 }
+    ensures { result ≡ mixed number 0 / 2 ^ 16 }
 {
+    let number = (number * 0x9E37_79B1) % (1 << 32);
     (number >> 16) as u16
 }
 
