@@ -17,3 +17,4 @@ pub mod NodeNameLemmas
 pub mod HolderLemmas
 pub mod UriLemmas
 pub mod RepeatLemmas
+pub mod SieveLemmas

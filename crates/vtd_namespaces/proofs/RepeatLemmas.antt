@@ -128,7 +128,7 @@ any_not_here bytes rs first x y m e h k =
     ap (λ j. list_any (bytes_eq x) (names_before bytes rs first j)) s ∙ ap₂ (λ a b. a || b) other k
 
 -- the filter: each name before has its slot taken
-pub not_taken : (slots : List Bool) (x : List ℕ) (names : List (List ℕ)) → ((y : List ℕ) → list_any (bytes_eq y) names ≡ true → is_taken slots y ≡ true) → is_taken slots x ≡ false → list_any (bytes_eq x) names ≡ false
+pub not_taken : (slots : List ℕ) (x : List ℕ) (names : List (List ℕ)) → ((y : List ℕ) → list_any (bytes_eq y) names ≡ true → is_taken slots y ≡ true) → is_taken slots x ≡ false → list_any (bytes_eq x) names ≡ false
 not_taken slots x names h k = false_from_ne_true _ (λ t. false≢true (sym k ∙ h x t))
 
 pub not_not : (r t : Bool) → r ≡ not t → (r ≡ true) → t ≡ false
@@ -136,7 +136,7 @@ not_not r true e h = absurd (false≢true (sym e ∙ h))
 not_not r false e h = refl
 
 -- and the next one
-pub next_noted : (bytes : List ℕ) (rs : List Token) (first n : ℕ) (old new : List Bool) (p : Parts) (name : List ℕ) → token_of p ≡ record_at (first + 2 * n) rs → name ≡ slice_of bytes (token_of p) →
+pub next_noted : (bytes : List ℕ) (rs : List Token) (first n : ℕ) (old new : List ℕ) (p : Parts) (name : List ℕ) → token_of p ≡ record_at (first + 2 * n) rs → name ≡ slice_of bytes (token_of p) →
     ((y : List ℕ) → list_any (bytes_eq y) (names_before bytes rs first n) ≡ true → is_taken old y ≡ true) → is_taken new name ≡ true → ((y : List ℕ) → is_taken old y ≡ true → is_taken new y ≡ true) →
     (y : List ℕ) → list_any (bytes_eq y) (names_before bytes rs first (n + 1)) ≡ true → is_taken new y ≡ true
 next_noted bytes rs first n old new p name here is before noted kept y h =

@@ -1,10 +1,12 @@
 -- The offences of a tag's names, name by name.
-use Rattle.std.specs.Prelude.{◌≡◌, ℕ, Bool, true, not, ◌&&◌, List, [], ◌∷◌, encode_utf8_all}
+use Rattle.std.specs.Prelude.{◌≡◌, ℕ, Bool, true, not, ◌&&◌, List, [], ◌∷◌, ◌++◌, encode_utf8_all}
+use Rattle.std.specs.Option.{unwrap_or}
 use Rattle.xml_model.specs.Chars.{size, prefix_of, is_name, is_qname}
 use Rattle.xml_model.specs.Items.{Attribute, Tag}
 use Rattle.xml_model.specs.Records.{declares}
 use Rattle.xml_model.specs.Names.{Expanded}
 use Rattle.xml_model.specs.Accepted.{expanded_of, seen_with, same_expanded, is_bound}
+use Rattle.vtd_namespaces.specs.Filter.{is_taken}
 
 -- whether an attribute under tags has the expanded name of another; a declaration has none: Namespaces in XML 1.0, section 6.3
 abbrev pub is_twin : List Tag → Attribute → Attribute → Bool
@@ -25,3 +27,11 @@ pub record IsWritten (name : List ℕ) (prefix : ℕ) (a : Attribute) : Type 0 w
   pub bytes : name ≡ encode_utf8_all a.name
   pub prefix_size : prefix ≡ size (prefix_of a.name)
   pub named : is_name a.name ≡ true
+
+-- the key of an attribute in a filter: its URI and the bytes of its local part
+abbrev pub key_of : List Tag → Attribute → List ℕ
+key_of tags a = unwrap_or (expanded_of tags a).uri [] ++ encode_utf8_all (expanded_of tags a).name
+
+-- a filter has noted an attribute, where it is one with a prefix and no declaration
+abbrev pub IsNoted : List Tag → List ℕ → Attribute → Type 0
+IsNoted tags slots a = not (declares a.name) ≡ true → (prefix_of a.name ≡ [] → ⊥) → is_taken slots (key_of tags a) ≡ true

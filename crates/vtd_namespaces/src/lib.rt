@@ -13,6 +13,7 @@ mod qnames;
 mod records;
 mod repeats;
 mod scope;
+mod sieve;
 mod uri;
 mod walk;
 

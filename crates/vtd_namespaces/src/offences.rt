@@ -1,6 +1,6 @@
 //! Names that offend Namespaces in XML 1.0 (sections 3, 5, 6.3 and 7).
 
-ghost use Rattle.std.specs.Prelude.{◌≡◌, ℕ, ◌+◌, ◌*◌, ◌<◌, ◌≤◌, ◌^◌, true, false, List, [], ◌∷◌, ◌++◌, length, take, is_some, encode_utf8_all, bytes_eq, codes};
+ghost use Rattle.std.specs.Prelude.{◌≡◌, ℕ, ◌+◌, ◌*◌, ◌<◌, ◌≤◌, ◌^◌, true, false, List, [], ◌∷◌, ◌++◌, length, take, is_some, encode_utf8_all, bytes_eq, codes, IfSome};
 ghost use Rattle.std.specs.List.{AllByRecursion, list_any};
 ghost use Rattle.xml_model.specs.Scan.{record_at};
 ghost use Rattle.vtd_words.specs.Packed.{token_of};
@@ -13,17 +13,19 @@ ghost use Rattle.xml_model.specs.Tree.{Holder};
 ghost use Rattle.xml_model.specs.Names.{attribute_uri};
 ghost use Rattle.xml_model.specs.Accepted.{attribute_offends as offends_as_attribute, declaration_offends as offends_by_declaration, is_reserved as is_reserved_uri, offending_attributes, offending_tag, repeated, tag_offends};
 ghost use Rattle.vtd_words.specs.Lists.{list_of};
-ghost use Rattle.vtd_words.specs.Table.{IsNestOf, Shows};
+ghost use Rattle.vtd_words.specs.Table.{IsNestOf, Shows, nodes_of};
 ghost use Rattle.vtd_text.specs.NameRecords.{IsDeclaration, IsNameOf};
 ghost use Rattle.vtd_namespaces.specs.Standing.{AttributesStand, IsAttributeRecord, TagStands};
 ghost use Rattle.vtd_namespaces.specs.Faults.{first_of};
-ghost use Rattle.vtd_namespaces.specs.Scope.{tags_in};
+ghost use Rattle.vtd_namespaces.specs.Scope.{IsNearest, tags_in};
 ghost use Rattle.vtd_namespaces.specs.Uris.{IsScope};
 ghost use Rattle.vtd_namespaces.specs.Offences.{is_twin, seen_after, IsFine, IsWritten};
 
+use crate::filter::Filter;
 use crate::qnames::{after_prefix, is_qname, prefix_of};
 use crate::records::{attribute_at, parts_at, slice_of};
 use crate::scope::Scope;
+use crate::sieve::note_attribute;
 use crate::uri::{XML_URI, XMLNS_URI};
 use vtd_text::{Chars, equals_str};
 use vtd_words::{Part, Parts, Table, Words};
@@ -69,12 +71,19 @@ const DECLARES_XML: &[u8] = b"xmlns:xml";
 const DECLARES_XMLNS: &[u8] = b"xmlns:xmlns";
 
 /// Whether the attribute whose name is a record has the local part and the URI of another, whose prefix is not empty and is
-/// bound (Namespaces in XML 1.0, section 6.3, constraint 'Attributes Unique').
-fn is_twin_at<W: Words>(scope: &Scope<'_, '_, W>, at: u32, name: &[u8], prefix_len: u32) -> bool
+/// bound by the declaration of a record (Namespaces in XML 1.0, section 6.3, constraint 'Attributes Unique').
+fn is_twin_at<W: Words>(
+    scope: &Scope<'_, '_, W>,
+    at: u32,
+    name: &[u8],
+    prefix_len: u32,
+    declaration: Option<u32>,
+) -> bool
     requires room { at < length (list_of Part.Records (W.lists scope.now.table.now.words)) }
     requires prefix { 0 < prefix_len }
+    requires declaration { IfSome declaration (IsDeclaration scope.now.table.now.bytes (W.lists scope.now.table.now.words)) }
     ensures { (nest : Forest) (hs : List Holder) → IsScope scope.now.table.now.bytes (W.lists scope.now.table.now.words) scope.now.open_tags.now scope.now.count nest hs →
-        (a : Attribute) → IsWritten name.now prefix_len a → is_some (attribute_uri (prefix_of_chars a.name) (tags_in hs)) ≡ true →
+        (a : Attribute) → IsWritten name.now prefix_len a → is_some (attribute_uri (prefix_of_chars a.name) (tags_in hs)) ≡ true → IsNearest (nodes_of scope.now.table.now.bytes nest) hs (prefix_of_chars a.name) declaration →
         (rs : List Token) → Shows (list_of Part.Records (W.lists scope.now.table.now.words)) rs → (place : ℕ) (b : Attribute) → IsAttributeRecord scope.now.table.now.bytes rs at place b →
         result ≡ is_twin (tags_in hs) a b }
 {
@@ -89,6 +98,7 @@ fn is_twin_at<W: Words>(scope: &Scope<'_, '_, W>, at: u32, name: &[u8], prefix_l
     if after_prefix(other_name, other.prefix) == after_prefix(name, prefix_len) {
         return scope.bound_alike(
             prefix_of(name, prefix_len),
+            declaration,
             prefix_of(other_name, other.prefix),
         );
     }
@@ -112,8 +122,9 @@ fn has_twin<W: Words>(
         (a : Attribute) → IsWritten name.now prefix_len a → is_some (attribute_uri (prefix_of_chars a.name) (tags_in (x ∷ xs))) ≡ true →
         result ≡ list_any (is_twin (tags_in (x ∷ xs)) a) (take count x.tag.attributes) }
 {
+    let own = scope.declaration(prefix_of(name, prefix_len));
     for number in 0..count {
-        if is_twin_at(scope, first + 2 * number, name, prefix_len) {
+        if is_twin_at(scope, first + 2 * number, name, prefix_len, own) {
             return true;
         }
     }
@@ -121,12 +132,14 @@ fn has_twin<W: Words>(
 }
 
 /// Whether an attribute or a declaration of the nearest tag offends, by the number of attributes before it, none of which
-/// offends; the record of the first of them has the index `first`. No two of them have one name.
+/// offends; the record of the first of them has the index `first`. No two of them have one name. Where it is known to be new,
+/// none of them has its expanded name.
 fn attribute_offends<W: Words>(
     scope: &Scope<'_, '_, W>,
     first: u32,
     number: u32,
     parts: Parts,
+    is_new: bool,
 ) -> bool
     requires room { first + 2 * number < length (list_of Part.Records (W.lists scope.now.table.now.words)) }
     requires bound { first + 2 * number < 2 ^ 32 }
@@ -134,6 +147,7 @@ fn attribute_offends<W: Words>(
     ensures { (nest : Forest) (x : Holder) (xs : List Holder) → IsScope scope.now.table.now.bytes (W.lists scope.now.table.now.words) scope.now.open_tags.now scope.now.count nest (x ∷ xs) →
         first ≡ x.place + 1 → (done left : List Attribute) (a : Attribute) → x.tag.attributes ≡ done ++ (a ∷ left) → length done ≡ number →
         AllByRecursion (IsFine (tags_in (x ∷ xs))) done → AllByRecursion (λ b. bytes_eq a.name b.name ≡ false) done →
+        (is_new ≡ true → is_some (attribute_uri (prefix_of_chars a.name) (tags_in (x ∷ xs))) ≡ true → list_any (is_twin (tags_in (x ∷ xs)) a) done ≡ false) →
         result ≡ offends_as_attribute (tags_in (x ∷ xs)) (seen_after (tags_in (x ∷ xs)) [] done) a }
 {
     let name = slice_of(scope.table.bytes(), parts);
@@ -149,11 +163,37 @@ fn attribute_offends<W: Words>(
     if !scope.is_bound(prefix_of(name, parts.prefix)) {
         return true;
     }
+    if is_new {
+        return false;
+    }
     has_twin(scope, first, number, name, parts.prefix)
 }
 
+/// The number of attributes from which on a filter is worth its making.
+const MANY: u32 = 16;
+
 /// Where the first name of an attribute or a declaration of the nearest tag begins that offends; no two of them have one
-/// name, and the record of the first of them has the index `first`.
+/// name, and the record of the first of them has the index `first`. Each is compared with those before it only where a filter
+/// takes its expanded name for one of theirs.
+fn attributes_offence_in_many<W: Words>(scope: &Scope<'_, '_, W>, first: u32) -> Option<u32>
+    requires { first ≤ length (list_of Part.Records (W.lists scope.now.table.now.words)) }
+    ensures { (nest : Forest) (x : Holder) (xs : List Holder) → IsScope scope.now.table.now.bytes (W.lists scope.now.table.now.words) scope.now.open_tags.now scope.now.count nest (x ∷ xs) →
+        first ≡ x.place + 1 → (at : ℕ) → AttributesStand scope.now.table.now.bytes (records nest (first_place scope.now.table.now.bytes)) first at x.tag.attributes →
+        repeated at [] x.tag.attributes ≡ [] → result ≡ first_of (offending_attributes (tags_in (x ∷ xs)) at [] x.tag.attributes) }
+{
+    let mut filter = Filter::new();
+    let mut number = 0;
+    while let Some(parts) = attribute_at(scope.table.words(), first + 2 * number) {
+        let is_new = note_attribute(scope, &mut filter, parts);
+        if attribute_offends(scope, first, number, parts, is_new) {
+            return Some(parts.offset);
+        }
+        number += 1;
+    }
+    None
+}
+
+/// The same. Each is compared with those before it; where one with a prefix is not among the first few, by a filter.
 fn attributes_offence<W: Words>(scope: &Scope<'_, '_, W>, first: u32) -> Option<u32>
     requires { first ≤ length (list_of Part.Records (W.lists scope.now.table.now.words)) }
     ensures { (nest : Forest) (x : Holder) (xs : List Holder) → IsScope scope.now.table.now.bytes (W.lists scope.now.table.now.words) scope.now.open_tags.now scope.now.count nest (x ∷ xs) →
@@ -162,7 +202,10 @@ fn attributes_offence<W: Words>(scope: &Scope<'_, '_, W>, first: u32) -> Option<
 {
     let mut number = 0;
     while let Some(parts) = attribute_at(scope.table.words(), first + 2 * number) {
-        if attribute_offends(scope, first, number, parts) {
+        if number >= MANY && parts.prefix > 0 {
+            return attributes_offence_in_many(scope, first);
+        }
+        if attribute_offends(scope, first, number, parts, false) {
             return Some(parts.offset);
         }
         number += 1;

@@ -34,7 +34,7 @@ fn is_among<W: Words>(bytes: &[u8], words: &W, first: u32, count: u32, name: &[u
 }
 
 /// Where the first name of a tag begins that repeats an earlier one; the records of the tag's attributes begin at `first`.
-/// Each name is compared with those before it whose slot in a filter is its own.
+/// Each name is compared with those before it only where a filter takes it for one of them.
 fn repeat_in_many<W: Words>(bytes: &[u8], words: &W, first: u32) -> Option<u32>
     requires { first ≤ length (list_of Part.Records (W.lists words.now)) }
     ensures { (rs : List Token) → Shows (list_of Part.Records (W.lists words.now)) rs → (at : ℕ) (others : List Attribute) →

@@ -34,7 +34,7 @@ impl<'s, 'a, W: Words> Scope<'s, 'a, W> {
     ghost use Rattle.vtd_text.specs.NameRecords.{IsDeclaration};
 
     /// The record of the name of the nearest declaration of a prefix, or `None` where there is none.
-    fn declaration(&self, prefix: &[u8]) -> Option<u32>
+    pub fn declaration(&self, prefix: &[u8]) -> Option<u32>
         ensures found { (nest : Forest) (hs : List Holder) → IsScope self.now.table.now.bytes (W.lists self.now.table.now.words) self.now.open_tags.now self.now.count nest hs →
             (p : List ℕ) → prefix.now ≡ encode_utf8_all p → IsNearest (nodes_of self.now.table.now.bytes nest) hs p result }
         ensures declares { IfSome result (IsDeclaration self.now.table.now.bytes (W.lists self.now.table.now.words)) }
@@ -48,27 +48,38 @@ impl<'s, 'a, W: Words> Scope<'s, 'a, W> {
         )
     }
 
-    /// The URI to which a prefix is bound that is not empty; none where it is not bound.
-    fn uri_of_prefix(&self, prefix: &[u8]) -> Uri<'a, W>
+    /// The URI to which a prefix is bound that is not empty, by the record of its nearest declaration; none where it is not bound.
+    fn uri_by(&self, prefix: &[u8], declaration: Option<u32>) -> Uri<'a, W>
+        requires { IfSome declaration (IsDeclaration self.now.table.now.bytes (W.lists self.now.table.now.words)) }
         ensures { (nest : Forest) (hs : List Holder) → IsScope self.now.table.now.bytes (W.lists self.now.table.now.words) self.now.open_tags.now self.now.count nest hs →
-            (p : List ℕ) → prefix.now ≡ encode_utf8_all p → (p ≡ [] → ⊥) → uri_value result ≡ attribute_uri p (tags_in hs) }
+            (p : List ℕ) → prefix.now ≡ encode_utf8_all p → (p ≡ [] → ⊥) → IsNearest (nodes_of self.now.table.now.bytes nest) hs p declaration → uri_value result ≡ attribute_uri p (tags_in hs) }
     {
         if prefix == XML {
             return Uri::Xml;
         }
-        match self.declaration(prefix) {
+        match declaration {
             Some(at) => Uri::Declared(Chars::of_declaration(self.table, at)),
             None => Uri::None,
         }
     }
 
-    /// Whether two prefixes that are not empty are bound to one URI, or both not bound.
-    pub fn bound_alike(&self, one: &[u8], other: &[u8]) -> bool
+    /// The URI to which a prefix is bound that is not empty; none where it is not bound.
+    pub fn uri_of_prefix(&self, prefix: &[u8]) -> Uri<'a, W>
         ensures { (nest : Forest) (hs : List Holder) → IsScope self.now.table.now.bytes (W.lists self.now.table.now.words) self.now.open_tags.now self.now.count nest hs →
-            (p q : List ℕ) → one.now ≡ encode_utf8_all p → other.now ≡ encode_utf8_all q → (p ≡ [] → ⊥) → (q ≡ [] → ⊥) →
+            (p : List ℕ) → prefix.now ≡ encode_utf8_all p → (p ≡ [] → ⊥) → uri_value result ≡ attribute_uri p (tags_in hs) }
+    {
+        self.uri_by(prefix, self.declaration(prefix))
+    }
+
+    /// Whether two prefixes that are not empty are bound to one URI, or both not bound, by the record of the nearest declaration
+    /// of the first.
+    pub fn bound_alike(&self, one: &[u8], declaration: Option<u32>, other: &[u8]) -> bool
+        requires { IfSome declaration (IsDeclaration self.now.table.now.bytes (W.lists self.now.table.now.words)) }
+        ensures { (nest : Forest) (hs : List Holder) → IsScope self.now.table.now.bytes (W.lists self.now.table.now.words) self.now.open_tags.now self.now.count nest hs →
+            (p q : List ℕ) → one.now ≡ encode_utf8_all p → other.now ≡ encode_utf8_all q → (p ≡ [] → ⊥) → (q ≡ [] → ⊥) → IsNearest (nodes_of self.now.table.now.bytes nest) hs p declaration →
             result ≡ same_uri (attribute_uri p (tags_in hs)) (attribute_uri q (tags_in hs)) }
     {
-        same_uri(self.uri_of_prefix(one), self.uri_of_prefix(other))
+        same_uri(self.uri_by(one, declaration), self.uri_of_prefix(other))
     }
 
     /// Whether a prefix is bound (Namespaces in XML 1.0, section 5, constraint 'Prefix Declared'): the empty one needs no

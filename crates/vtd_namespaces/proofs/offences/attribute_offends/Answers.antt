@@ -8,7 +8,7 @@ use Rattle.vtd_namespaces.proofs.AttributeLemmas.{attends, taken, bound_uri, som
 use Rattle.vtd_namespaces.proofs.offences.attribute_offends.Goals as goal
 
 pub returns-then-not-is_qname : goal.returns-then-not-is_qname
-returns-then-not-is_qname g c = λ nest x xs s e done left a split many f n.
+returns-then-not-is_qname g c = λ nest x xs s e done left a split many f n v.
     let t = attends _ _ _ _ nest x xs s c.args.first c.args.number e done left a split many c.args.parts c.requires.here in
     let slice = c.slice_of-name.ensures ∙ ap (λ b. slice_of b (token_of c.args.parts)) c.bytes.ensures.value ∙ t.other.slice in
     not_qualified (tags_in (x ∷ xs)) (seen_after (tags_in (x ∷ xs)) _ done) a (sym (c.is_qname.ensures a.name t.other.named slice t.other.prefix) ∙ c.if-not-is_qname.true)
@@ -17,27 +17,35 @@ pub declaration_offends-requires : goal.declaration_offends-requires
 declaration_offends-requires g c = declaration_at _ _ c.bytes.ensures.table c.args.parts (c.args.first + 2 * c.args.number) c.requires.here c.if-parts-eq3.true
 
 pub returns-then-parts-eq3 : goal.returns-then-parts-eq3
-returns-then-parts-eq3 g c = λ nest x xs s e done left a split many f n.
+returns-then-parts-eq3 g c = λ nest x xs s e done left a split many f n v.
     let t = attends _ _ _ _ nest x xs s c.args.first c.args.number e done left a split many c.args.parts c.requires.here in
     let slice = c.slice_of-name.ensures ∙ ap (λ b. slice_of b (token_of c.args.parts)) c.bytes.ensures.value ∙ t.other.slice in
     by_declaration _ c.args.parts (tags_in (x ∷ xs)) _ a c.declaration_offends.result t.other (sym (c.is_qname.ensures a.name t.other.named slice t.other.prefix) ∙ c.if-not-is_qname.false) c.if-parts-eq3.true
     (c.declaration_offends.ensures nest s.shown a t.stands slice)
 
 pub returns-then-parts-eq0 : goal.returns-then-parts-eq0
-returns-then-parts-eq0 g c = λ nest x xs s e done left a split many f n.
+returns-then-parts-eq0 g c = λ nest x xs s e done left a split many f n v.
     let t = attends _ _ _ _ nest x xs s c.args.first c.args.number e done left a split many c.args.parts c.requires.here in
     let slice = c.slice_of-name.ensures ∙ ap (λ b. slice_of b (token_of c.args.parts)) c.bytes.ensures.value ∙ t.other.slice in
     by_no_prefix _ c.args.parts (tags_in (x ∷ xs)) done a t.other (sym (c.is_qname.ensures a.name t.other.named slice t.other.prefix) ∙ c.if-not-is_qname.false) c.if-parts-eq3.false c.if-parts-eq0.true f n
 
 pub returns-then-not-is_bound : goal.returns-then-not-is_bound
-returns-then-not-is_bound g c = λ nest x xs s e done left a split many f n.
+returns-then-not-is_bound g c = λ nest x xs s e done left a split many f n v.
     let t = attends _ _ _ _ nest x xs s c.args.first c.args.number e done left a split many c.args.parts c.requires.here in
     let slice = c.slice_of-name.ensures ∙ ap (λ b. slice_of b (token_of c.args.parts)) c.bytes.ensures.value ∙ t.other.slice in
     by_unbound _ c.args.parts (tags_in (x ∷ xs)) (seen_after (tags_in (x ∷ xs)) _ done) a t.other (sym (c.is_qname.ensures a.name t.other.named slice t.other.prefix) ∙ c.if-not-is_qname.false) c.if-parts-eq3.false
     (sym (c.is_bound.ensures nest (x ∷ xs) s _ (c.prefix_of.ensures a.name slice t.other.prefix)) ∙ c.if-not-is_bound.true)
 
+pub returns-then-is_new : goal.returns-then-is_new
+returns-then-is_new g c = λ nest x xs s e done left a split many f n v.
+    let t = attends _ _ _ _ nest x xs s c.args.first c.args.number e done left a split many c.args.parts c.requires.here in
+    let slice = c.slice_of-name.ensures ∙ ap (λ b. slice_of b (token_of c.args.parts)) c.bytes.ensures.value ∙ t.other.slice in
+    let bound = sym (c.is_bound.ensures nest (x ∷ xs) s _ (c.prefix_of.ensures a.name slice t.other.prefix)) ∙ c.if-not-is_bound.false in
+    let some = bound_uri _ (tags_in (x ∷ xs)) (some_prefix _ c.args.parts.prefix t.other.prefix c.if-parts-eq0.false) bound in
+    by_twins _ c.args.parts (tags_in (x ∷ xs)) done a _ t.other (sym (c.is_qname.ensures a.name t.other.named slice t.other.prefix) ∙ c.if-not-is_qname.false) c.if-parts-eq3.false bound (sym (v c.if-is_new.true some))
+
 pub returns : goal.returns
-returns g c = λ nest x xs s e done left a split many f n.
+returns g c = λ nest x xs s e done left a split many f n v.
     let t = attends _ _ _ _ nest x xs s c.args.first c.args.number e done left a split many c.args.parts c.requires.here in
     let slice = c.slice_of-name.ensures ∙ ap (λ b. slice_of b (token_of c.args.parts)) c.bytes.ensures.value ∙ t.other.slice in
     let bound = sym (c.is_bound.ensures nest (x ∷ xs) s _ (c.prefix_of.ensures a.name slice t.other.prefix)) ∙ c.if-not-is_bound.false in

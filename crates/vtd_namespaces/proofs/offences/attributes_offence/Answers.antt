@@ -3,6 +3,7 @@ use Rattle.xml_model.specs.Items.{first_place}
 use Rattle.xml_model.specs.Records.{records}
 use Rattle.vtd_words.proofs.Fitting.{nest_shown}
 use Rattle.vtd_namespaces.specs.Scope.{tags_in}
+use Rattle.vtd_namespaces.proofs.SieveLemmas.{not_known}
 use Rattle.vtd_namespaces.proofs.InspectLemmas.{none_inspected, all_inspected, next_inspected, differ}
 use Rattle.vtd_namespaces.proofs.offences.attributes_offence.Goals as goal
 
@@ -18,7 +19,7 @@ returns-then-attribute_offends g c = λ nest x xs s e at stand h.
     let here = rw c.words.ensures.value at c.in-Some.ensures.some in
     let rs = records nest (first_place c.args.scope.now.table.now.bytes) in
     let n = next_inspected c.args.scope.now.table.now.bytes rs c.args.first c.loop-parts.number at (tags_in (x ∷ xs)) x.tag.attributes c.in-Some.parts (c.loop-parts.invariant.inspected nest x xs s e at stand h) (here rs (nest_shown _ _ nest s.few s.shown)) c.in-Some.ensures.kind in
-    n.hit (sym (c.attribute_offends.ensures nest x xs s e n.done n.left n.attribute n.split n.many n.fine (differ c.args.scope.now.table.now.bytes rs c.args.first c.loop-parts.number at (tags_in (x ∷ xs)) x.tag.attributes c.in-Some.parts n h)) ∙ c.if-attribute_offends.true)
+    n.hit (sym (c.attribute_offends.ensures nest x xs s e n.done n.left n.attribute n.split n.many n.fine (differ c.args.scope.now.table.now.bytes rs c.args.first c.loop-parts.number at (tags_in (x ∷ xs)) x.tag.attributes c.in-Some.parts n h) not_known) ∙ c.if-attribute_offends.true)
 
 pub loop-parts-preserved : goal.loop-parts-preserved
 loop-parts-preserved g c =
@@ -30,7 +31,7 @@ loop-parts-preserved g c =
           let here = rw c.words.ensures.value at c.in-Some.ensures.some in
           let rs = records nest (first_place c.args.scope.now.table.now.bytes) in
           let n = next_inspected c.args.scope.now.table.now.bytes rs c.args.first c.loop-parts.number at (tags_in (x ∷ xs)) x.tag.attributes c.in-Some.parts (c.loop-parts.invariant.inspected nest x xs s e at stand h) (here rs (nest_shown _ _ nest s.few s.shown)) c.in-Some.ensures.kind in
-          n.miss (sym (c.attribute_offends.ensures nest x xs s e n.done n.left n.attribute n.split n.many n.fine (differ c.args.scope.now.table.now.bytes rs c.args.first c.loop-parts.number at (tags_in (x ∷ xs)) x.tag.attributes c.in-Some.parts n h)) ∙ c.if-attribute_offends.false);
+          n.miss (sym (c.attribute_offends.ensures nest x xs s e n.done n.left n.attribute n.split n.many n.fine (differ c.args.scope.now.table.now.bytes rs c.args.first c.loop-parts.number at (tags_in (x ∷ xs)) x.tag.attributes c.in-Some.parts n h) not_known) ∙ c.if-attribute_offends.false);
     }
 
 pub returns : goal.returns

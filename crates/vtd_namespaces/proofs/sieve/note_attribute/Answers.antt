@@ -1,0 +1,22 @@
+use Rattle.std.proofs.Common.{◌∙◌, ap}
+use Rattle.vtd_words.specs.Packed.{token_of}
+use Rattle.vtd_namespaces.specs.Standing.{slice_of}
+use Rattle.vtd_namespaces.proofs.RepeatLemmas.{not_not}
+use Rattle.vtd_namespaces.proofs.SieveLemmas.{no_declaration, no_prefix}
+use Rattle.vtd_namespaces.proofs.sieve.note_attribute.Goals as goal
+use Rattle.vtd_namespaces.proofs.sieve.note_attribute.Goals.{then-parts-eq3-via-then-parts-eq3, then-parts-eq3-via-else-parts-eq3+then-parts-eq0}
+
+pub returns-then-parts-eq3-clause-noted : goal.returns-then-parts-eq3-clause-noted
+returns-then-parts-eq3-clause-noted g c = λ nest hs s a t r d p.
+    elim c.then-parts-eq3.branch [
+      | then-parts-eq3-via-then-parts-eq3 w ↦ absurd (no_declaration a c.args.parts.token t w.if-parts-eq3.true d)
+      | then-parts-eq3-via-else-parts-eq3+then-parts-eq0 w ↦ absurd (p (no_prefix a c.args.parts.prefix r.prefix w.if-parts-eq0.true))
+    ]
+
+pub returns-clause-new : goal.returns-clause-new
+returns-clause-new g c = λ nest hs s a t r k.
+    not_not c.note_name.result _ (c.note_name.ensures.new nest hs s a (record { bytes = c.slice_of.ensures ∙ ap (λ b. slice_of b (token_of c.args.parts)) c.bytes.ensures.value ∙ r.slice; prefix_size = r.prefix; named = r.named })) k
+
+pub returns-clause-noted : goal.returns-clause-noted
+returns-clause-noted g c = λ nest hs s a t r d p.
+    c.note_name.ensures.noted nest hs s a (record { bytes = c.slice_of.ensures ∙ ap (λ b. slice_of b (token_of c.args.parts)) c.bytes.ensures.value ∙ r.slice; prefix_size = r.prefix; named = r.named })

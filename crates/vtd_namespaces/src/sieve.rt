@@ -1,0 +1,72 @@
+//! A sieve for the expanded names of a tag's attributes (Namespaces in XML 1.0, section 6.3): a filter that is keyed by the URI
+//! and the local part.
+
+ghost use Rattle.std.specs.Prelude.{◌≡◌, ℕ, ◌<◌, ◌^◌, true, false, not, List, [], fold};
+ghost use Rattle.std.specs.Option.{unwrap_or};
+ghost use Rattle.xml_model.specs.Items.{Attribute};
+ghost use Rattle.xml_model.specs.Nest.{Forest};
+ghost use Rattle.xml_model.specs.Records.{name_token};
+ghost use Rattle.xml_model.specs.Tree.{Holder};
+ghost use Rattle.vtd_words.specs.Packed.{token_of};
+ghost use Rattle.vtd_namespaces.specs.Filter.{mixed, is_taken};
+ghost use Rattle.vtd_namespaces.specs.Standing.{IsNameRecord};
+ghost use Rattle.vtd_namespaces.specs.Scope.{tags_in};
+ghost use Rattle.vtd_namespaces.specs.Uris.{IsScope, uri_value};
+ghost use Rattle.vtd_namespaces.specs.Offences.{key_of, IsNoted, IsWritten};
+
+use crate::filter::{Filter, mix_bytes, mix_chars};
+use crate::qnames::{after_prefix, prefix_of};
+use crate::records::slice_of;
+use crate::scope::Scope;
+use crate::uri::{Uri, XML_URI};
+use vtd_words::{Parts, Words};
+
+/// The number of a URI as the front of a key; that of none is of no code points.
+fn number_of_uri<W: Words>(uri: Uri<'_, W>) -> u64
+    ensures number { result ≡ fold mixed 0 (unwrap_or (uri_value uri.entry) []) }
+    ensures fits { result < 2 ^ 32 }
+{
+    match uri {
+        Uri::None => 0,
+        Uri::Xml => mix_bytes(0, XML_URI.as_bytes()),
+        Uri::Declared(chars) => mix_chars(chars),
+    }
+}
+
+/// Notes the expanded name of an attribute whose prefix is not empty; true where no attribute that was noted before has it.
+fn note_name<W: Words>(
+    scope: &Scope<'_, '_, W>,
+    filter: &mut Filter,
+    name: &[u8],
+    prefix_len: u32,
+) -> bool
+    requires prefix { 0 < prefix_len }
+    ensures new { (nest : Forest) (hs : List Holder) → IsScope scope.now.table.now.bytes (W.lists scope.now.table.now.words) scope.now.open_tags.now scope.now.count nest hs →
+        (a : Attribute) → IsWritten name.now prefix_len a → result ≡ not (is_taken filter.old.slots (key_of (tags_in hs) a)) }
+    ensures noted { (nest : Forest) (hs : List Holder) → IsScope scope.now.table.now.bytes (W.lists scope.now.table.now.words) scope.now.open_tags.now scope.now.count nest hs →
+        (a : Attribute) → IsWritten name.now prefix_len a → is_taken filter.new.slots (key_of (tags_in hs) a) ≡ true }
+    ensures kept { (key : List ℕ) → is_taken filter.old.slots key ≡ true → is_taken filter.new.slots key ≡ true }
+{
+    let uri = number_of_uri(scope.uri_of_prefix(prefix_of(name, prefix_len)));
+    filter.note_number(mix_bytes(uri, after_prefix(name, prefix_len)))
+}
+
+/// Notes an attribute of the nearest tag, where it is one with a prefix and no declaration; true only where no attribute that
+/// was noted before has its expanded name.
+pub fn note_attribute<W: Words>(scope: &Scope<'_, '_, W>, filter: &mut Filter, parts: Parts) -> bool
+    ensures new { (nest : Forest) (hs : List Holder) → IsScope scope.now.table.now.bytes (W.lists scope.now.table.now.words) scope.now.open_tags.now scope.now.count nest hs →
+        (a : Attribute) → parts.token ≡ name_token a.name → IsNameRecord scope.now.table.now.bytes (token_of parts) a.name → result ≡ true → is_taken filter.old.slots (key_of (tags_in hs) a) ≡ false }
+    ensures noted { (nest : Forest) (hs : List Holder) → IsScope scope.now.table.now.bytes (W.lists scope.now.table.now.words) scope.now.open_tags.now scope.now.count nest hs →
+        (a : Attribute) → parts.token ≡ name_token a.name → IsNameRecord scope.now.table.now.bytes (token_of parts) a.name → IsNoted (tags_in hs) filter.new.slots a }
+    ensures kept { (key : List ℕ) → is_taken filter.old.slots key ≡ true → is_taken filter.new.slots key ≡ true }
+{
+    if parts.token == 3 || parts.prefix == 0 {
+        return false;
+    }
+    note_name(
+        scope,
+        filter,
+        slice_of(scope.table.bytes(), parts),
+        parts.prefix,
+    )
+}
