@@ -182,6 +182,16 @@ fn limits(rt: HostRuntime) -> Result<(), Fail> {
 }
 
 #[test]
+fn deepest(rt: HostRuntime) -> Result<(), Fail> {
+    let mut doc = repeated(rt.alloc(), "<a>", 255, "")?;
+    doc.push_str(&repeated(rt.alloc(), "</a>", 255, "")?)?;
+    let got = run_over(rt.alloc(), &["doc"], doc.as_bytes(), "", NO_FAULT)?;
+    assert_eq!(rt; got.status, Status::Done);
+    assert!(rt; got.out.taken().is_empty());
+    Ok(())
+}
+
+#[test]
 fn words(rt: HostRuntime) -> Result<(), Fail> {
     let usage = "usage: vtd [-k] [-x] DOC | vtd -g N\n";
     let forms: [(&[&str], &str, Status); 5] = [
