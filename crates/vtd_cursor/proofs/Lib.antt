@@ -3,7 +3,6 @@ pub mod Closing
 pub mod LastPieces
 pub mod NodeSpans
 pub mod TagPlaces
-pub mod WordLemmas
 pub mod PieceLemmas
 pub mod SpanLemmas
 pub mod TagLemmas

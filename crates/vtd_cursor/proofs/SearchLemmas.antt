@@ -19,7 +19,7 @@ use Rattle.vtd_words.specs.Packed.{token_of}
 use Rattle.vtd_cursor.proofs.SpanLemmas.{PartsAt}
 use Rattle.vtd_words.specs.Table.{IsNestOf, node_of, nodes_of}
 use Rattle.vtd_words.proofs.Fitting.{nest_shown}
-use Rattle.vtd_cursor.proofs.WordLemmas.{shown_length}
+use Rattle.vtd_words.proofs.Shown.{shown_length}
 use Rattle.vtd_cursor.specs.Searches.{is_child_kind, is_within, is_attribute_part, IsWanted, Passes, NodeAt, NodeOfLevel, FirstFrom, LastBefore}
 
 -- Nodes by the index of their first record.

@@ -14,7 +14,7 @@ use Rattle.vtd_words.specs.Table.{IsNestOf, IsNodeOf, Shows, nodes_of}
 use Rattle.vtd_words.proofs.Fitting.{nest_shown}
 use Rattle.vtd_cursor.specs.Endings.{opening, token_end, IsEnding, HasEnding}
 use Rattle.vtd_cursor.proofs.NodeSpans.{Begins, NodeShown, node_shown}
-use Rattle.vtd_cursor.proofs.WordLemmas.{shown_length}
+use Rattle.vtd_words.proofs.Shown.{shown_length}
 
 -- the parts of the record with an index, whatever records the words show
 abbrev pub PartsAt : Lists → ℕ → Parts → Type 0

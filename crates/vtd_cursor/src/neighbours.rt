@@ -8,9 +8,8 @@ ghost use Rattle.vtd_words.specs.Lists.{list_of};
 ghost use Rattle.vtd_words.specs.Table.{IsNestOf, IsNodeOf, nodes_of};
 ghost use Rattle.vtd_cursor.specs.Moves.{first_of, last_of};
 
-use crate::pieces::parts_at;
 use crate::searches::{attribute_from, child_before, child_from, is_child, level_of};
-use vtd_words::{Part, Table, Words};
+use vtd_words::{Part, Table, Words, parts_at};
 use xml_model::{Kind, Node};
 
 /// The parent; `None` for the root.

@@ -12,17 +12,8 @@ ghost use Rattle.vtd_words.specs.Packed.{token_of};
 ghost use Rattle.vtd_words.specs.Table.{Shows};
 ghost use Rattle.vtd_cursor.specs.Endings.{opening, closing, token_end, ends_tag, EndTags, HasEndTags, HasEnding, HasLastPiece, HasTagAt, HasTagOf, IsEnding, IsLastPiece, IsNearestTag, IsTagOf};
 
-use vtd_words::{Part, Parts, Words, unpack};
+use vtd_words::{Part, Parts, Words, parts_at};
 use xml_items::{Item, ItemKind, next_item};
-
-/// The parts of a record.
-pub fn parts_at<W: Words>(words: &W, at: u32) -> Parts
-    requires { at < length (list_of Part.Records (W.lists words.now)) }
-    ensures parts { (rs : List Token) → Shows (list_of Part.Records (W.lists words.now)) rs → token_of result ≡ record_at at rs }
-    ensures narrow { result.offset + result.length < 2 ^ 31 }
-{
-    unpack(words.word(Part::Records, at))
-}
 
 /// Where the piece begins whose first record has these parts.
 pub fn piece_start(parts: Parts) -> u32

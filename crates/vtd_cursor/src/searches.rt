@@ -11,8 +11,7 @@ ghost use Rattle.vtd_words.specs.Packed.{token_of};
 ghost use Rattle.vtd_words.specs.Table.{IsNestOf, IsNodeOf, nodes_of};
 ghost use Rattle.vtd_cursor.specs.Searches.{is_attribute_part as is_attribute_token, is_child_kind, is_within, FirstFrom, LastBefore, NodeAt, NodeOfLevel};
 
-use crate::pieces::parts_at;
-use vtd_words::{Part, Parts, Table, Words};
+use vtd_words::{Part, Parts, Table, Words, parts_at};
 use xml_model::{Kind, Node};
 
 /// The level of a record: how many elements hold what it is of.

@@ -10,9 +10,9 @@ ghost use Rattle.xml_chars.specs.Places.{span_from};
 ghost use Rattle.vtd_words.specs.Table.{IsNestOf, IsNodeOf, nodes_of};
 ghost use Rattle.vtd_cursor.specs.Tags.{tags_by, HasEndTag};
 
-use crate::pieces::{end_of_level, parts_at, piece_start, tag_of, token_end};
+use crate::pieces::{end_of_level, piece_start, tag_of, token_end};
 use vtd_location::Nav;
-use vtd_words::{Table, Words};
+use vtd_words::{Table, Words, parts_at};
 use xml_items::ItemKind;
 use xml_model::{Kind, Node, Span};
 

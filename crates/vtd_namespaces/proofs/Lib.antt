@@ -1,4 +1,3 @@
-pub mod Shown
 pub mod SpelledLemmas
 pub mod StandingLemmas
 pub mod FaultLemmas

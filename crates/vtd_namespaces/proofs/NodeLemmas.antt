@@ -25,7 +25,7 @@ use Rattle.vtd_words.proofs.Fitting.{nest_shown}
 use Rattle.vtd_words.proofs.Owners.{kind_in, stands_in}
 use Rattle.vtd_namespaces.specs.Standing.{AttributesStand, ThingStands, StandsAt}
 use Rattle.vtd_namespaces.specs.Faults.{first_of, node_faults, thing_faults}
-use Rattle.vtd_namespaces.proofs.Shown.{shown_length}
+use Rattle.vtd_words.proofs.Shown.{shown_length}
 use Rattle.vtd_namespaces.proofs.StandingLemmas.{document_stands}
 use Rattle.vtd_namespaces.proofs.FaultLemmas.{NoneBefore, first_found, none_found, none_listed}
 

@@ -27,7 +27,7 @@ use Rattle.vtd_namespaces.specs.Standing.{slice_of, TagStands, ThingStands, Stan
 use Rattle.vtd_namespaces.specs.Scope.{HolderIn, Chain, IsOpenBefore, tags_in}
 use Rattle.vtd_namespaces.specs.Uris.{IsScope}
 use Rattle.vtd_namespaces.specs.Faults.{first_of, node_faults, thing_faults, OffenceAt}
-use Rattle.vtd_namespaces.proofs.Shown.{shown_length}
+use Rattle.vtd_words.proofs.Shown.{shown_length}
 use Rattle.vtd_namespaces.proofs.StandingLemmas.{document_stands}
 use Rattle.vtd_namespaces.proofs.ChainLemmas.{document_chain}
 use Rattle.vtd_namespaces.proofs.OpenLemmas.{opened_at}

@@ -12,9 +12,9 @@ ghost use Rattle.vtd_namespaces.specs.NodeNames.{node_local, node_prefix, test_o
 use crate::compare::is_uri;
 use crate::holders::{nearest_element, uri_of_prefix};
 use crate::qnames;
-use crate::records::{parts_at, slice_of};
+use crate::records::slice_of;
 use crate::uri::Uri;
-use vtd_words::{Table, Words};
+use vtd_words::{Table, Words, parts_at};
 use xml_model::{Kind, NameTest, Node};
 
 /// The prefix in a node's name, in UTF-8; it is empty where the name has none, and for an instruction. The node is an element,

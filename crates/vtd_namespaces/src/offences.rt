@@ -23,12 +23,12 @@ ghost use Rattle.vtd_namespaces.specs.Offences.{is_twin, seen_after, IsFine, IsW
 
 use crate::filter::Filter;
 use crate::qnames::{after_prefix, is_qname, prefix_of};
-use crate::records::{attribute_at, parts_at, slice_of};
+use crate::records::{attribute_at, slice_of};
 use crate::scope::Scope;
 use crate::sieve::note_attribute;
 use crate::uri::{XML_URI, XMLNS_URI};
 use vtd_text::{Chars, equals_str};
-use vtd_words::{Part, Parts, Table, Words};
+use vtd_words::{Part, Parts, Table, Words, parts_at};
 
 /// Whether the value of a declaration is one of the two URIs that are bound to `xml` and `xmlns` for ever.
 fn is_reserved<W: Words>(table: &Table<'_, W>, at: u32) -> bool

@@ -9,15 +9,7 @@ ghost use Rattle.vtd_words.specs.Table.{Shows};
 ghost use Rattle.vtd_namespaces.specs.Standing.{slice_of, is_attribute_token};
 ghost use Rattle.vtd_namespaces.specs.Repeats.{HasNoAttribute};
 
-use vtd_words::{Part, Parts, Words, unpack};
-
-/// The parts of a record.
-pub fn parts_at<W: Words>(words: &W, at: u32) -> Parts
-    requires { at < length (list_of Part.Records (W.lists words.now)) }
-    ensures { (rs : List Token) → Shows (list_of Part.Records (W.lists words.now)) rs → token_of result ≡ record_at at rs }
-{
-    unpack(words.word(Part::Records, at))
-}
+use vtd_words::{Part, Parts, Words, parts_at};
 
 /// The parts of the record with an index, where it is of an attribute's name and the value's record follows it.
 pub fn attribute_at<W: Words>(words: &W, at: u32) -> Option<Parts>

@@ -13,8 +13,8 @@ ghost use Rattle.vtd_namespaces.specs.Repeats.{names_before};
 ghost use Rattle.vtd_namespaces.specs.Faults.{first_of};
 
 use crate::filter::Filter;
-use crate::records::{attribute_at, parts_at, slice_of};
-use vtd_words::{Part, Words};
+use crate::records::{attribute_at, slice_of};
+use vtd_words::{Part, Words, parts_at};
 
 /// The number of names from which on a filter is worth its making.
 const MANY: u32 = 64;

@@ -15,9 +15,9 @@ ghost use Rattle.vtd_namespaces.specs.Scope.{IsOpenBefore};
 
 use crate::offences::tag_offence;
 use crate::qnames::has_colon;
-use crate::records::{parts_at, slice_of};
+use crate::records::slice_of;
 use crate::scope::Scope;
-use vtd_words::{Part, Parts, Table, Words};
+use vtd_words::{Part, Parts, Table, Words, parts_at};
 
 /// Where the first name of an element's tag begins that offends. The list has the indexes of the tags that are open there, by
 /// their depth, with its own.

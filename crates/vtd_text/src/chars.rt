@@ -16,10 +16,10 @@ ghost use Rattle.vtd_text.specs.Joined.{Joined};
 ghost use Rattle.vtd_text.specs.NameRecords.{IsDeclaration, IsNameOf};
 ghost use Rattle.vtd_text.specs.Resolved.{IsRecord, IsResolved, IsRow};
 
-use crate::row::{Row, parts_at, text_of};
+use crate::row::{Row, text_of};
 use crate::token::{Rule, TokenChars};
 use std::marker::Model;
-use vtd_words::{Part, Table, Words};
+use vtd_words::{Part, Table, Words, parts_at};
 use xml_model::{Kind, Node};
 
 /// The code points that are left of a text, resolved: line ends, references, the white space of attribute values, and CDATA

@@ -12,7 +12,7 @@ ghost use Rattle.vtd_text.specs.Joined.{rule_of, slice_of, Gives, Joined, IsText
 ghost use Rattle.vtd_text.specs.Tokens.{HasContent};
 
 use crate::token::{Rule, TokenChars};
-use vtd_words::{Part, Parts, Words, unpack};
+use vtd_words::{Parts, Words, parts_at};
 
 /// The rule for the token of a record; `None` exactly where it is of no text and of no CDATA section.
 fn rule_of(parts: Parts) -> Option<Rule>
@@ -33,14 +33,6 @@ pub(crate) fn text_of(bytes: &[u8], parts: Parts) -> &str
     let (_, from) = bytes.split_at(parts.offset as usize);
     let (slice, _) = from.split_at(parts.length as usize);
     unsafe { std::str::from_utf8_unchecked(slice) }
-}
-
-/// The parts of a record.
-pub(crate) fn parts_at<W: Words>(words: &W, at: u32) -> Parts
-    requires { at < length (list_of Part.Records (W.lists words.now)) }
-    ensures { (rs : List Token) → Shows (list_of Part.Records (W.lists words.now)) rs → token_of result ≡ record_at at rs }
-{
-    unpack(words.word(Part::Records, at))
 }
 
 /// The token of a record, of which all is left; an empty one where the record is of no text and of no CDATA section.

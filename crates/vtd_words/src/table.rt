@@ -126,10 +126,11 @@ fn past_of<W: Words>(words: &W, node: Node) -> u32
     }
 }
 
-/// The parts of a record.
-fn parts_at<W: Words>(words: &W, at: u32) -> Parts
+/// The parts of the record with an index.
+pub fn parts_at<W: Words>(words: &W, at: u32) -> Parts
     requires { at < length (list_of Part.Records (W.lists words.now)) }
-    ensures { (rs : List Token) → Shows (list_of Part.Records (W.lists words.now)) rs → token_of result ≡ record_at at rs }
+    ensures parts { (rs : List Token) → Shows (list_of Part.Records (W.lists words.now)) rs → token_of result ≡ record_at at rs }
+    ensures narrow { result.offset + result.length < 2 ^ 31 }
 {
     unpack(words.word(Part::Records, at))
 }

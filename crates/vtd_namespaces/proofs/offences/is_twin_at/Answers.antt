@@ -7,12 +7,12 @@ use Rattle.vtd_namespaces.proofs.offences.is_twin_at.Goals as goal
 
 pub returns-then-other-eq0 : goal.returns-then-other-eq0
 returns-then-other-eq0 g c = λ nest hs s a w u d rs k place b r.
-    let here = rw c.words.ensures.value at c.parts_at-other.ensures in
+    let here = rw c.words.ensures.value at c.parts_at-other.ensures.parts in
     twin_unprefixed _ c.parts_at-other.result (tags_in hs) a b (other_name c.args.scope.now.table.now.bytes rs c.args.at place c.parts_at-other.result b (here rs k) r) c.if-other-ne2.false c.if-other-eq0.true u
 
 pub returns-then-eq : goal.returns-then-eq
 returns-then-eq g c = λ nest hs s a w u d rs k place b r.
-    let here = rw c.words.ensures.value at c.parts_at-other.ensures in
+    let here = rw c.words.ensures.value at c.parts_at-other.ensures.parts in
     let o = other_name c.args.scope.now.table.now.bytes rs c.args.at place c.parts_at-other.result b (here rs k) r in
     let slice = c.slice_of-other_name.ensures ∙ ap (λ x. slice_of x (token_of c.parts_at-other.result)) c.bytes.ensures.value ∙ o.slice in
     let t =
@@ -22,7 +22,7 @@ returns-then-eq g c = λ nest hs s a w u d rs k place b r.
 
 pub returns : goal.returns
 returns g c = λ nest hs s a w u d rs k place b r.
-    let here = rw c.words.ensures.value at c.parts_at-other.ensures in
+    let here = rw c.words.ensures.value at c.parts_at-other.ensures.parts in
     let o = other_name c.args.scope.now.table.now.bytes rs c.args.at place c.parts_at-other.result b (here rs k) r in
     let slice = c.slice_of-other_name.ensures ∙ ap (λ x. slice_of x (token_of c.parts_at-other.result)) c.bytes.ensures.value ∙ o.slice in
     let t =

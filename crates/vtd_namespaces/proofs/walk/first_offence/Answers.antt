@@ -4,7 +4,7 @@ use Rattle.xml_model.specs.Records.{records}
 use Rattle.xml_model.specs.Accepted.{offences}
 use Rattle.vtd_words.proofs.Fitting.{nest_shown}
 use Rattle.vtd_words.proofs.Nodes.{some_record}
-use Rattle.vtd_namespaces.proofs.Shown.{shown_length}
+use Rattle.vtd_words.proofs.Shown.{shown_length}
 use Rattle.vtd_namespaces.proofs.OpenLemmas.{all_zero, none_open}
 use Rattle.vtd_namespaces.proofs.NodeLemmas.{none_before_first, all_before}
 use Rattle.vtd_namespaces.proofs.TagLemmas.{offence_some, offence_none}

@@ -7,17 +7,17 @@ returns-in_err-at g c = λ nest s e w. rw c.from_residual.ensures (sym (raw_none
 
 pub text_of-text-requires : goal.text_of-text-requires
 text_of-text-requires g c =
-    let f = rw c.words.ensures.value at c.parts_at.ensures in
+    let f = rw c.words.ensures.value at c.parts_at.ensures.parts in
     rw c.bytes.ensures.value (text_there _ _ c.bytes.ensures.table.few c.args.node c.in_ok-at.at _ c.requires f c.in_ok-at.ensures.«record»)
 
 pub returns-then-equals_str : goal.returns-then-equals_str
 returns-then-equals_str g c =
-    let f = rw c.words.ensures.value at c.parts_at.ensures in
+    let f = rw c.words.ensures.value at c.parts_at.ensures.parts in
     let t = rw c.bytes.ensures.value at c.text_of-text.ensures in
     λ nest s e w. rw c.as_bytes.ensures.value (raw_answer _ _ c.bytes.ensures.table.few c.args.node c.in_ok-at.at _ c.text_of-text.result.now c.of.result true f c.in_ok-at.ensures.«record» t c.of.ensures (sym c.if-equals_str.true ∙ c.equals_str.ensures) nest s e w)
 
 pub returns-else-equals_str : goal.returns-else-equals_str
 returns-else-equals_str g c =
-    let f = rw c.words.ensures.value at c.parts_at.ensures in
+    let f = rw c.words.ensures.value at c.parts_at.ensures.parts in
     let t = rw c.bytes.ensures.value at c.text_of-text.ensures in
     λ nest s e w. raw_answer _ _ c.bytes.ensures.table.few c.args.node c.in_ok-at.at _ c.text_of-text.result.now c.of.result false f c.in_ok-at.ensures.«record» t c.of.ensures (sym c.if-equals_str.false ∙ c.equals_str.ensures) nest s e w
