@@ -5,7 +5,7 @@ ghost use Rattle.xml_model.specs.Records.{word};
 ghost use Rattle.xml_model.specs.Accepted.{is_name_token};
 ghost use Rattle.vtd_words.specs.Packed.{token_of, fits, HasZeroBits};
 
-/// The parts of a record. `token` is its type, 0 to 13; `depth` counts elements, 255 outside the root element; `prefix`,
+/// The parts of a record. `token` is its type, in a document 0 to 13; `depth` counts elements, 255 outside the root element; `prefix`,
 /// `length` and `offset` count bytes, and `prefix` is 0 for what is no name.
 #[derive(Clone, Copy, Debug, PartialEq, Eq)]
 pub struct Parts {
@@ -54,7 +54,7 @@ pub fn pack(parts: Parts) -> Option<u64>
     )
 }
 
-/// The parts of a word. Bits 31 and 30 are not read: where they are zero, the word is that of its parts again.
+/// The parts of a word. Where its bits 31 and 30 are zero, the word is that of its parts again.
 pub fn unpack(packed: u64) -> Parts
     ensures fits { fits result ≡ true }
     ensures unpacked { (parts : Parts) → fits parts ≡ true → word (token_of parts) ≡ packed → result ≡ parts }

@@ -70,7 +70,7 @@ impl<'a, W: Words> Table<'a, W> {
         Some(Node { kind, at })
     }
 
-    /// The first record past those of a node and of all that stands in it. Each of these records is read at most once.
+    /// The first record past those of a node and of all that stands in it.
     pub fn end_of(&self, node: Node) -> u32
         requires { IsNodeOf self.now.bytes (W.lists self.now.words) node }
         ensures { (nest : Forest) → IsNestOf self.now.bytes (W.lists self.now.words) nest →
@@ -79,7 +79,7 @@ impl<'a, W: Words> Table<'a, W> {
         past_of(self.words, node)
     }
 
-    /// The node's parent; `None` exactly for the root. The search backwards stops at the first lower starting tag.
+    /// The node's parent; `None` exactly for the root.
     pub fn owner_of(&self, node: Node) -> Option<Node>
         requires { IsNodeOf self.now.bytes (W.lists self.now.words) node }
         ensures root { IsNone result ↔ (node.kind ≡ Kind.Root) }
