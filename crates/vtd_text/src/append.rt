@@ -8,7 +8,7 @@ use std::alloc::{AllocError, Global};
 use vtd_words::Words;
 use xml_model::{NoMemory, Text};
 
-/// Appends what is left to a text; where there is no memory, perhaps a part of it.
+/// Appends what is left to a text; after `AllocError` the text begins with what it held.
 fn append<W: Words>(left: Chars<'_, W>, held: &mut String) -> Result<(), AllocError>
     ensures all { OnOk result (string_bytes held.new ≡ string_bytes held.old ++ encode_utf8_all left.entry) }
     ensures kept { take (length (string_bytes held.old)) (string_bytes held.new) ≡ string_bytes held.old }
@@ -22,8 +22,7 @@ fn append<W: Words>(left: Chars<'_, W>, held: &mut String) -> Result<(), AllocEr
     Ok(())
 }
 
-/// Appends code points to a text. `NoMemory` comes where the text cannot grow; it is then as before. What stands in the
-/// document as it is is copied as slices. The allocator says that memory is taken; the text grows in its own.
+/// Appends code points to a text; after `NoMemory` the text is as before. The allocator says that the call may take memory.
 pub fn append_to<W: Words>(
     _alloc: Global,
     chars: Chars<'_, W>,

@@ -23,7 +23,7 @@ use vtd_words::{Part, Table, Words, parts_at};
 use xml_model::{Kind, Node};
 
 /// The code points that are left of a text, resolved: line ends, references, the white space of attribute values, and CDATA
-/// sections beside texts (XML 1.0, sections 2.11, 3.3.3, 4.1 and 4.6). Contracts see the list of them. Nothing is copied.
+/// sections beside texts (XML 1.0, sections 2.11, 3.3.3, 4.1 and 4.6). Contracts see the list of them.
 #[derive(Drop)]
 pub struct Chars<'a, W: Words> {
     row: Row<'a, W>,
@@ -90,8 +90,7 @@ impl<'a, W: Words> Chars<'a, W> {
         Chars::of_record(table.bytes(), words, Rule::Value, behind(words, at))
     }
 
-    /// Takes code points that stand in the document as they are: those up to the next that does not, or to the end of a text or
-    /// of a CDATA section. There may be none.
+    /// Takes code points at the front, perhaps none; their UTF-8 is answered.
     pub(crate) fn next_plain(&mut self) -> &'a str
         ensures { self.old ≡ chars result.now ++ self.new }
     {

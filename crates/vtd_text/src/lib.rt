@@ -1,6 +1,5 @@
 //! Resolved texts: the characters of a node's string-value, with line ends, references, CDATA sections and the white space of
-//! attribute values resolved (XML 1.0, sections 2.11, 3.3.3, 4.1 and 4.6). Nothing is copied but by `append_to`, which alone takes
-//! memory.
+//! attribute values resolved (XML 1.0, sections 2.11, 3.3.3, 4.1 and 4.6). `append_to` alone takes memory.
 #![tactic(auto)]
 
 mod append;

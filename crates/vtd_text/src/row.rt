@@ -116,7 +116,7 @@ impl<'a, W: Words> Row<'a, W> {
         None
     }
 
-    /// Takes the longest front of what is left of the token whose characters stand for themselves.
+    /// Takes a front of what is left of the token, perhaps an empty one, whose characters stand for themselves.
     pub(crate) fn next_plain(&mut self) -> &'a str
         ensures content { (rs : List Token) (content : List ℕ) → IsLeft self.old.bytes.now rs self.old.token.rule self.old.token.text.now self.old.at self.old.past content →
             LeavesBehind (IsLeft self.old.bytes.now rs self.new.token.rule self.new.token.text.now self.old.at self.old.past) content (chars result.now) }

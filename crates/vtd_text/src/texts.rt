@@ -45,7 +45,7 @@ fn after_both<'a>(text: &'a str, c: char, front: &str) -> Option<&'a str>
     }
 }
 
-/// Whether a text has the code points of another one. What stands in the document as it is is compared as slices.
+/// Whether a text has the code points of another one.
 pub fn equals_str<W: Words>(one: Chars<'_, W>, text: &str) -> bool
     ensures { result ≡ bytes_eq one.entry (chars text.now) }
 {

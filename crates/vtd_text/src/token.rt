@@ -127,7 +127,7 @@ impl<'a> TokenChars<'a> {
         Some(c)
     }
 
-    /// Takes the longest front whose characters stand for themselves.
+    /// Takes a front, perhaps an empty one, whose characters stand for themselves.
     pub(crate) fn next_plain(&mut self) -> &'a str
         ensures content { (content : List ℕ) → HasContent self.old.rule (chars self.old.text.now) content →
             LeavesRest self.old.rule content (chars result.now) (chars self.new.text.now) }

@@ -25,7 +25,7 @@ pub struct Counts {
     pub level3: u32,
 }
 
-/// Words that can be read: those of a document in memory, or of an index file.
+/// Words that can be read.
 pub trait Words {
     ghost lists: { Self → Lists };
 
@@ -115,7 +115,7 @@ impl Model for WordVec {
 }
 
 impl WordVec {
-    /// No words, and no room for any. It takes no memory.
+    /// No words, and no room for any.
     pub fn new(alloc: Global) -> WordVec
         ensures lists { result.lists ≡ none }
         ensures room { result.room ≡ no_room }
