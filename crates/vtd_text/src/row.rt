@@ -12,7 +12,7 @@ ghost use Rattle.vtd_text.specs.Joined.{rule_of, slice_of, Gives, Joined, IsText
 ghost use Rattle.vtd_text.specs.Tokens.{HasContent};
 
 use crate::token::{Rule, TokenChars};
-use vtd_words::{Parts, Words, parts_at};
+use vtd_words::{Part, Parts, Words, parts_at};
 
 /// The rule for the token of a record; `None` exactly where it is of no text and of no CDATA section.
 fn rule_of(parts: Parts) -> Option<Rule>

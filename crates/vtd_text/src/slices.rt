@@ -15,7 +15,7 @@ ghost use Rattle.vtd_text.specs.Raw.{IsWritten, raw_content, written_content};
 use crate::chars::{Chars, behind};
 use crate::row::text_of;
 use crate::texts::equals_str;
-use vtd_words::{Table, Words, parts_at};
+use vtd_words::{Part, Table, Words, parts_at};
 use xml_model::{Kind, Node};
 
 /// The record that has the content of a node alone; `None` exactly for the root, an element, and a text whose run has several
