@@ -1,7 +1,10 @@
 #!/usr/bin/env bash
 # Writes a document of about so many megabytes to standard output: bench/document.sh KIND [MEGABYTES], 100 if no number is given.
 # The kinds: orders (a short element with an attribute inside another), text (long texts), attributes (many in each tag), accented
-# (texts that are not ASCII), elements (densest in elements: <b/>), records (densest in records: <b/>x).
+# (texts that are not ASCII), elements (densest in elements: <b/>), records (densest in records: <b/>x), deep (elements 250 deep).
+# Hard ones, for the checks of names: prefixed (20 attributes with prefixes in each tag), scopes (1,000 declarations in the root
+# element, and a prefixed name in each of its children), names (one tag of that many attributes), declarations (one tag of as many
+# declarations as attributes with those prefixes).
 set -eu
 kind=$1
 megabytes=${2:-100}
@@ -37,6 +40,38 @@ case $kind in
     accented)
         words='Über allen Gipfeln ist Ruh, in allen Wipfeln spürest du kaum einen Hauch; 静かさや岩にしみ入る蝉の声. '
         repeated '<book>' "<p>$words$words$words$words</p>" '</book>'
+        ;;
+    deep)
+        awk -v bytes="$((megabytes * 1000000))" 'BEGIN {
+            for (i = 0; i < 250; i++) { opening = opening "<a>"; closing = closing "</a>" }
+            printf "<r>"
+            for (written = 7; written < bytes; written += 1750) printf "%s%s", opening, closing
+            printf "</r>"
+        }'
+        ;;
+    prefixed)
+        attributes=$(awk 'BEGIN { for (i = 1; i <= 20; i++) printf " p:a%d=\"%d\"", i, i }')
+        repeated '<rows xmlns:p="urn:p">' "<row$attributes/>" '</rows>'
+        ;;
+    scopes)
+        declarations=$(awk 'BEGIN { for (i = 1; i <= 1000; i++) printf " xmlns:p%d=\"urn:%d\"", i, i }')
+        repeated "<r$declarations>" '<p1000:c/>' '</r>'
+        ;;
+    names)
+        awk -v bytes="$((megabytes * 1000000))" 'BEGIN {
+            printf "<r"
+            for (written = 5; written < bytes; written += 12) printf " a%07d=\"\"", ++number
+            printf "/>"
+        }'
+        ;;
+    declarations)
+        awk -v bytes="$((megabytes * 1000000))" 'BEGIN {
+            count = int(bytes / 38)
+            printf "<r"
+            for (i = 1; i <= count; i++) printf " xmlns:p%06d=\"%06d\"", i, i
+            for (i = 1; i <= count; i++) printf " p%06d:a=\"\"", i
+            printf "/>"
+        }'
         ;;
     elements) repeated '<a>' '<b/>' '</a>' ;;
     records) repeated '<a>' '<b/>x' '</a>' ;;

@@ -1,17 +1,19 @@
 #!/usr/bin/env bash
 # Times the program on generated documents, each beside xmllint (Debian's libxml2-utils; skipped where it is missing), in one
-# run, and tells the program's peak memory: bench/measure.sh [MEGABYTES [RUNS]]
+# run, and tells the program's peak memory: bench/measure.sh [MEGABYTES [RUNS [KIND..]]]
 set -eu
 top=$(cd "$(dirname "$0")/.." && pwd)
 megabytes=${1:-100}
 runs=${2:-3}
+kinds=${*:3}
+kinds=${kinds:-orders text attributes accented elements records}
 folder=$(mktemp -d)
 trap 'rm -rf "$folder"' EXIT
 : > "$folder/empty"
 printf 'elements\n' > "$folder/listing"
 printf '<a/>' > "$folder/small.xml"
 "$top/vtd" "$folder/small.xml" < /dev/null
-for kind in orders text attributes accented elements records; do
+for kind in $kinds; do
     "$top/bench/document.sh" "$kind" "$megabytes" > "$folder/$kind.xml"
     python3 - "$top/crates/vtd_program/out/vtd_program" "$folder" "$kind" "$runs" <<'PY'
 import os, shutil, subprocess, sys, time

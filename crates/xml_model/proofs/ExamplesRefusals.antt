@@ -302,6 +302,24 @@ default_for_xmlns : offending (with_attributes (codes "a") (attr (codes "xmlns")
 unfolding opened
 default_for_xmlns = refl
 
+other_for_xmlns : offending (with_attributes (codes "a") (attr (codes "xmlns:p") xmlns_uri ∷ [])) ≡ 3 ∷ []
+unfolding opened
+other_for_xmlns = refl
+
+default_for_xml : offending (with_attributes (codes "a") (attr (codes "xmlns") xml_uri ∷ [])) ≡ 3 ∷ []
+unfolding opened
+default_for_xml = refl
+
+-- declarations whose names are no qualified names
+declared_badly : offending (with_attributes (codes "a") (attr (codes "xmlns:") (codes "u") ∷ attr (codes "xmlns:p:q") (codes "u") ∷ [])) ≡ 3 ∷ 14 ∷ []
+unfolding opened
+declared_badly = refl
+
+-- a prefix that an element declares does not reach the one behind it
+prefix_of_a_sibling : offending (elem (codes "a") (empty (tag_with (codes "p:b") (attr (codes "xmlns:p") (codes "u") ∷ [])) (hollow (codes "p:c") done)) done) ≡ 22 ∷ []
+unfolding opened
+prefix_of_a_sibling = refl
+
 -- an empty value for a prefix; the prefix is bound all the same
 empty_prefix : offending (with_attributes (codes "p:a") (attr (codes "xmlns:p") [] ∷ [])) ≡ 5 ∷ []
 unfolding opened
