@@ -14,7 +14,7 @@ ghost use Rattle.xml_acceptance.specs.Verdicts.{HasNoLevels};
 use crate::findings::Findings;
 use crate::nest_so_far::NestSoFar;
 use vtd_words::Counts;
-use xml_items::{Counted, next_counted};
+use xml_items::{Counted, first_place, next_counted};
 use xml_model::DocFault;
 
 /// What a pass over the items has found.
@@ -86,17 +86,6 @@ impl Pass {
             level2: 0,
             level3: 0,
         })
-    }
-}
-
-/// The first place of the document: that after a byte order mark, or its start.
-fn first_place(bytes: &[u8]) -> u32
-    ensures { result ≡ first_place bytes.now }
-{
-    if bytes.starts_with(&[0xEF, 0xBB, 0xBF]) {
-        3
-    } else {
-        0
     }
 }
 

@@ -79,8 +79,9 @@ pub struct AttributeItem {
     pub value: Span,
 }
 
-/// The first place of the document: that after a byte order mark, or its start.
-fn first_place(bytes: &[u8]) -> u32
+/// The first place of the document, where its items begin: that after a byte order mark, which belongs to no item, or its
+/// start (XML 1.0, section 4.3.3).
+pub fn first_place(bytes: &[u8]) -> u32
     ensures { result ≡ first_place bytes.now }
 {
     if bytes.starts_with(&[0xEF, 0xBB, 0xBF]) {
