@@ -31,7 +31,10 @@ struct Place {
     node: Node,
 }
 
+/// The root fills the places where no node is saved.
 impl Default for Place {
+    ghost is_default = { λ p. p.node ≡ root_node };
+
     fn default() -> Place {
         Place { node: ROOT }
     }

@@ -141,12 +141,12 @@ pub record Attends (bytes : List ℕ) (nest : Forest) (p : Parts) (n : ℕ) (a :
   pub other : OtherName bytes p a
   pub stands : IsNameOf bytes nest n a
 
-pub attends : (bytes : List ℕ) (lists : Lists) (open_tags : List ℕ) (count : ℕ) (nest : Forest) (x : Holder) (xs : List Holder) → IsScope bytes lists open_tags count nest (x ∷ xs) → (first number : ℕ) → first ≡ x.place + 1 →
+pub attends : (bytes : List ℕ) (lists : Lists) (open_tags : List ℕ) (depth : ℕ) (nest : Forest) (x : Holder) (xs : List Holder) → IsScope bytes lists open_tags depth nest (x ∷ xs) → (first number : ℕ) → first ≡ x.place + 1 →
     (done left : List Attribute) (a : Attribute) → x.tag.attributes ≡ done ++ (a ∷ left) → length done ≡ number → (p : Parts) → ((rs : List Token) → Shows lists.records rs → token_of p ≡ record_at (first + 2 * number) rs) → Attends bytes nest p (first + 2 * number) a
-attends bytes lists open_tags count nest x xs s first number e done left a split many p here =
+attends bytes lists open_tags depth nest x xs s first number e done left a split many p here =
     let rs = records nest (first_place bytes) in
     let within : number < length x.tag.attributes = omega (arith, ap (λ l. length l) split, length-append done (a ∷ left), many) in
-    let r = scope_attribute bytes lists open_tags count nest x xs s first number a e within in
+    let r = scope_attribute bytes lists open_tags depth nest x xs s first number a e within in
     let same : get_or x.tag.attributes number a ≡ a = ap₂ (λ l k. get_or l k a) split (sym many) ∙ get_or-append_seam done a left a in
     let rec : IsAttributeRecord bytes rs (first + 2 * number) r.0 a = subst (λ b. IsAttributeRecord bytes rs (first + 2 * number) r.0 b) same r.1 in
     let h : HolderIn (nodes_of bytes nest) x xs = s.chain.0 in

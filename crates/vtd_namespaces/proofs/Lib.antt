@@ -4,6 +4,7 @@ pub mod FaultLemmas
 pub mod NodeLemmas
 pub mod ChainLemmas
 pub mod OpenLemmas
+pub mod FilterLemmas
 pub mod DeclarationLemmas
 pub mod QNameLemmas
 pub mod ScopeLemmas
@@ -17,3 +18,4 @@ pub mod HolderLemmas
 pub mod UriLemmas
 pub mod RepeatLemmas
 pub mod SieveLemmas
+pub mod TestTables

@@ -207,9 +207,9 @@ attribute_number (a ∷ others) bytes rs n at (suc k) d s h =
     (r.0, subst (λ m. IsAttributeRecord bytes rs m r.0 (get_or others k d)) e r.1)
 
 -- of the nearest tag of a scope
-pub scope_attribute : (bytes : List ℕ) (lists : Lists) (open_tags : List ℕ) (count : ℕ) (nest : Forest) (x : Holder) (xs : List Holder) → IsScope bytes lists open_tags count nest (x ∷ xs) →
+pub scope_attribute : (bytes : List ℕ) (lists : Lists) (open_tags : List ℕ) (depth : ℕ) (nest : Forest) (x : Holder) (xs : List Holder) → IsScope bytes lists open_tags depth nest (x ∷ xs) →
     (first k : ℕ) (d : Attribute) → first ≡ x.place + 1 → k < length x.tag.attributes → (place : ℕ) × IsAttributeRecord bytes (records nest (first_place bytes)) (first + 2 * k) place (get_or x.tag.attributes k d)
-scope_attribute bytes lists open_tags count nest x xs s first k d e h =
+scope_attribute bytes lists open_tags depth nest x xs s first k d e h =
     let rs = records nest (first_place bytes) in
     let a = chain_attributes bytes rs (nodes_of bytes nest) (document_stands bytes nest s.shown.accepted.document) x xs s.chain.0 in
     let r = attribute_number x.tag.attributes bytes rs (x.place + 1) a.0 k d a.1 h in

@@ -179,7 +179,8 @@ open_more open_tags rs at d b w h t e = record { within = within; last = last }
         ap (λ i. slice_index_or (set open_tags d at) i 0) k ∙ same ∙ sym is)
         (cases_lt q at)
 
-zeros : (m k : ℕ) → ◌≡◌ {A = ℕ} (slice_index_or (replicate m 0) k 0) 0
+-- what a list of zeros has anywhere
+pub zeros : (m k : ℕ) → ◌≡◌ {A = ℕ} (slice_index_or (replicate m 0) k 0) 0
 zeros zero k = refl
 zeros (suc m) zero = refl
 zeros (suc m) (suc k) = zeros m k

@@ -117,11 +117,11 @@ all_known bytes lists nest s h =
     (λ e a b. record { stands = a.0; shows = a.1; chain = b.0.0; unrepeated = b.0.1; there = b.1 }) es one three
 
 -- the scope of an element, and its tag
-pub record TagKnown (bytes : List ℕ) (lists : Lists) (nest : Forest) (open_tags : List ℕ) (count at : ℕ) (e : Entry) : Type 0 where
+pub record TagKnown (bytes : List ℕ) (lists : Lists) (nest : Forest) (open_tags : List ℕ) (depth at : ℕ) (e : Entry) : Type 0 where
   pub tag : Tag
   pub inside : Forest
   pub what : e.what ≡ Thing.element tag inside
-  pub scope : IsScope bytes lists open_tags count nest (record { tag = tag; place = at } ∷ e.holders)
+  pub scope : IsScope bytes lists open_tags depth nest (record { tag = tag; place = at } ∷ e.holders)
   pub stands : TagStands bytes (records nest (first_place bytes)) at e.start tag
   pub unrepeated : repeated (attributes_place e.start tag) [] tag.attributes ≡ []
 
@@ -132,7 +132,7 @@ same_kind : (j k : Kind) → Some j ≡ Some k → j ≡ k
 same_kind j k h = cc
 
 pub tag_known : (bytes : List ℕ) (lists : Lists) (nest : Forest) → length bytes < 2 ^ 30 → IsNestOf bytes lists nest → (open_tags : List ℕ) (at depth : ℕ) → IsOpenBefore open_tags (records nest (first_place bytes)) (at + 1) → (record_at at (records nest (first_place bytes))).token ≡ 0 →
-    (record_at at (records nest (first_place bytes))).depth ≡ depth → (e : Entry) → e.place ≡ at → Known bytes nest e → TagKnown bytes lists nest open_tags (depth + 1) at e
+    (record_at at (records nest (first_place bytes))).depth ≡ depth → (e : Entry) → e.place ≡ at → Known bytes nest e → TagKnown bytes lists nest open_tags depth at e
 tag_known bytes lists nest few s open_tags at depth o t d e h k = by e.what refl kind k.stands k.unrepeated
   where
     rs : List Token
@@ -147,7 +147,7 @@ tag_known bytes lists nest few s open_tags at depth o t d e h k = by e.what refl
     many : length e.holders ≡ depth
     many = sym k.shows.level ∙ shown_depth (record_at e.place rs) token ∙ ap (λ n. (record_at n rs).depth) h ∙ d
 
-    by : (what : Thing) → e.what ≡ what → kind_of what ≡ kinds.Element → ThingStands bytes rs e.place e.start what → thing_faults repeats e.start (tags_of e) what ≡ [] → TagKnown bytes lists nest open_tags (depth + 1) at e
+    by : (what : Thing) → e.what ≡ what → kind_of what ≡ kinds.Element → ThingStands bytes rs e.place e.start what → thing_faults repeats e.start (tags_of e) what ≡ [] → TagKnown bytes lists nest open_tags depth at e
     by (Thing.element u inside) w c v f =
         let holder : HolderIn (nodes_of bytes nest) (record { tag = u; place = at }) e.holders = record { entry = e; there = k.there; inside = inside; what = w; place = h; holders = refl } in
         record {
@@ -172,7 +172,7 @@ tag_known bytes lists nest few s open_tags at depth o t d e h k = by e.what refl
 
 pub element_offence : (bytes : List ℕ) (lists : Lists) (nest : Forest) → length bytes < 2 ^ 30 → IsNestOf bytes lists nest → over_names repeats [] (first_place bytes) nest ≡ [] → (open_tags : List ℕ) (at depth : ℕ) (r : Option ℕ) →
     IsOpenBefore open_tags (records nest (first_place bytes)) (at + 1) → (record_at at (records nest (first_place bytes))).token ≡ 0 → (record_at at (records nest (first_place bytes))).depth ≡ depth →
-    ((x : Holder) (xs : List Holder) → IsScope bytes lists open_tags (depth + 1) nest (x ∷ xs) → at ≡ x.place → (start : ℕ) → TagStands bytes (records nest (first_place bytes)) at start x.tag → repeated (attributes_place start x.tag) [] x.tag.attributes ≡ [] →
+    ((x : Holder) (xs : List Holder) → IsScope bytes lists open_tags depth nest (x ∷ xs) → at ≡ x.place → (start : ℕ) → TagStands bytes (records nest (first_place bytes)) at start x.tag → repeated (attributes_place start x.tag) [] x.tag.attributes ≡ [] →
     r ≡ first_of (offending_tag start (tags_in xs) x.tag)) → OffenceAt at r (nodes_of bytes nest)
 element_offence bytes lists nest few s h open_tags at depth r o t d told =
     each_more (Known bytes nest) (λ e. e.place ≡ at → r ≡ first_of (node_faults offences e))

@@ -1,5 +1,5 @@
 -- URIs, and the tags under which they are looked up (this project's own).
-use Rattle.std.specs.Prelude.{◌≡◌, ℕ, ◌<◌, ◌^◌, List, length, Option, Some, None, Bool, true, false, bytes_eq}
+use Rattle.std.specs.Prelude.{◌≡◌, ℕ, ◌+◌, ◌<◌, ◌^◌, List, length, Option, Some, None, Bool, true, false, bytes_eq}
 use Rattle.xml_model.specs.Nest.{Forest}
 use Rattle.xml_model.specs.Tree.{Holder}
 use Rattle.xml_model.specs.Names.{xml_uri}
@@ -9,13 +9,14 @@ use Rattle.vtd_namespaces.specs.Scope.{Chain, Opened}
 use Rattle.vtd_namespaces.specs.declared.uri.Uri.{Uri}
 use Rattle.vtd_namespaces.specs.declared.uri.Uri.TheVariants as uris
 
--- in a nest of a table these elements hold what is looked at, the nearest one first, and a list has the indexes of so many tags
-pub record IsScope (bytes : List ℕ) (lists : Lists) (open_tags : List ℕ) (count : ℕ) (nest : Forest) (hs : List Holder) : Type 0 where
+-- in a nest of a table these elements hold what is looked at, the nearest one first, which stands at a depth; a list has the indexes of
+-- their tags
+pub record IsScope (bytes : List ℕ) (lists : Lists) (open_tags : List ℕ) (depth : ℕ) (nest : Forest) (hs : List Holder) : Type 0 where
   pub few : length bytes < 2 ^ 30
   pub shown : IsNestOf bytes lists nest
   pub chain : Chain (nodes_of bytes nest) hs
   pub opened : Opened open_tags hs
-  pub many : length hs ≡ count
+  pub many : length hs ≡ depth + 1
 
 -- the URI, or none
 abbrev pub uri_value : {W : Type 0} → Uri W → Option (List ℕ)

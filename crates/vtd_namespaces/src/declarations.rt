@@ -54,24 +54,23 @@ pub fn declaration_in<W: Words>(bytes: &[u8], words: &W, first: u32, prefix: &[u
     None
 }
 
-/// The record of the name of the nearest declaration of a prefix in so many open tags, or `None` where they have none.
+/// The record of the name of the nearest declaration of a prefix in the open tags up to a depth, or `None` where they have none.
 pub fn declaration_for<W: Words>(
     bytes: &[u8],
     words: &W,
     open_tags: &[u32; 256],
-    count: u32,
+    depth: u8,
     prefix: &[u8],
 ) -> Option<u32>
     requires few { length bytes.now < 2 ^ 30 }
-    requires count { count ≤ 256 }
     requires bound { length (list_of Part.Records (W.lists words.now)) < 2 ^ 32 }
     requires tags { (k : ℕ) → slice_index_or open_tags.now k 0 < length (list_of Part.Records (W.lists words.now)) }
-    ensures found { (nest : Forest) → IsNestOf bytes.now (W.lists words.now) nest → (hs : List Holder) → Chain (nodes_of bytes.now nest) hs → Opened open_tags.now hs → length hs ≡ count →
+    ensures found { (nest : Forest) → IsNestOf bytes.now (W.lists words.now) nest → (hs : List Holder) → Chain (nodes_of bytes.now nest) hs → Opened open_tags.now hs → length hs ≡ depth + 1 →
         (p : List ℕ) → prefix.now ≡ encode_utf8_all p → IsNearest (nodes_of bytes.now nest) hs p result }
     ensures declares { (rs : List Token) → Shows (list_of Part.Records (W.lists words.now)) rs → IfSome result (λ n. (record_at n rs).token ≡ 3) }
 {
-    for depth in (0..count as usize).rev() {
-        let found = declaration_in(bytes, words, open_tags[depth] + 1, prefix);
+    for level in (0..depth as usize + 1).rev() {
+        let found = declaration_in(bytes, words, open_tags[level] + 1, prefix);
         if found.is_some() {
             return found;
         }

@@ -2,7 +2,7 @@
 //! so that a key is rarely taken for another: where their slots and their marks are the same, or keys of other marks share its
 //! slot.
 
-ghost use Rattle.std.specs.Prelude.{◌≡◌, ◌+◌, ◌%◌, ◌<◌, ◌^◌, ◌/◌, ℕ, List, true, not, length, fold};
+ghost use Rattle.std.specs.Prelude.{◌≡◌, ◌+◌, ◌%◌, ◌<◌, ◌^◌, ◌/◌, ℕ, List, true, false, not, length, fold};
 ghost use Rattle.vtd_namespaces.specs.Filter.{mixed, is_taken, stands_for};
 
 use vtd_text::Chars;
@@ -84,8 +84,10 @@ pub struct Filter {
 }
 
 impl Filter {
-    /// No key is noted.
-    pub fn new() -> Filter {
+    /// A filter in which no key is noted.
+    pub fn new() -> Filter
+        ensures { (key : List ℕ) → is_taken result.slots key ≡ false }
+    {
         Filter {
             slots: [FREE; SLOTS],
         }

@@ -82,7 +82,7 @@ fn is_twin_at<W: Words>(
     requires room { at < length (list_of Part.Records (W.lists scope.now.table.now.words)) }
     requires prefix { 0 < prefix_len }
     requires declaration { IfSome declaration (IsDeclaration scope.now.table.now.bytes (W.lists scope.now.table.now.words)) }
-    ensures { (nest : Forest) (hs : List Holder) → IsScope scope.now.table.now.bytes (W.lists scope.now.table.now.words) scope.now.open_tags.now scope.now.count nest hs →
+    ensures { (nest : Forest) (hs : List Holder) → IsScope scope.now.table.now.bytes (W.lists scope.now.table.now.words) scope.now.open_tags.now scope.now.depth nest hs →
         (a : Attribute) → IsWritten name.now prefix_len a → is_some (attribute_uri (prefix_of_chars a.name) (tags_in hs)) ≡ true → IsNearest (nodes_of scope.now.table.now.bytes nest) hs (prefix_of_chars a.name) declaration →
         (rs : List Token) → Shows (list_of Part.Records (W.lists scope.now.table.now.words)) rs → (place : ℕ) (b : Attribute) → IsAttributeRecord scope.now.table.now.bytes rs at place b →
         result ≡ is_twin (tags_in hs) a b }
@@ -117,7 +117,7 @@ fn has_twin<W: Words>(
     requires room { first + 2 * count ≤ length (list_of Part.Records (W.lists scope.now.table.now.words)) }
     requires bound { first + 2 * count < 2 ^ 32 }
     requires prefix { 0 < prefix_len }
-    ensures { (nest : Forest) (x : Holder) (xs : List Holder) → IsScope scope.now.table.now.bytes (W.lists scope.now.table.now.words) scope.now.open_tags.now scope.now.count nest (x ∷ xs) →
+    ensures { (nest : Forest) (x : Holder) (xs : List Holder) → IsScope scope.now.table.now.bytes (W.lists scope.now.table.now.words) scope.now.open_tags.now scope.now.depth nest (x ∷ xs) →
         first ≡ x.place + 1 → count ≤ length x.tag.attributes →
         (a : Attribute) → IsWritten name.now prefix_len a → is_some (attribute_uri (prefix_of_chars a.name) (tags_in (x ∷ xs))) ≡ true →
         result ≡ list_any (is_twin (tags_in (x ∷ xs)) a) (take count x.tag.attributes) }
@@ -144,7 +144,7 @@ fn attribute_offends<W: Words>(
     requires room { first + 2 * number < length (list_of Part.Records (W.lists scope.now.table.now.words)) }
     requires bound { first + 2 * number < 2 ^ 32 }
     requires here { (rs : List Token) → Shows (list_of Part.Records (W.lists scope.now.table.now.words)) rs → token_of parts ≡ record_at (first + 2 * number) rs }
-    ensures { (nest : Forest) (x : Holder) (xs : List Holder) → IsScope scope.now.table.now.bytes (W.lists scope.now.table.now.words) scope.now.open_tags.now scope.now.count nest (x ∷ xs) →
+    ensures { (nest : Forest) (x : Holder) (xs : List Holder) → IsScope scope.now.table.now.bytes (W.lists scope.now.table.now.words) scope.now.open_tags.now scope.now.depth nest (x ∷ xs) →
         first ≡ x.place + 1 → (done left : List Attribute) (a : Attribute) → x.tag.attributes ≡ done ++ (a ∷ left) → length done ≡ number →
         AllByRecursion (IsFine (tags_in (x ∷ xs))) done → AllByRecursion (λ b. bytes_eq a.name b.name ≡ false) done →
         (is_new ≡ true → is_some (attribute_uri (prefix_of_chars a.name) (tags_in (x ∷ xs))) ≡ true → list_any (is_twin (tags_in (x ∷ xs)) a) done ≡ false) →
@@ -177,7 +177,7 @@ const MANY: u32 = 16;
 /// takes its expanded name for one of theirs.
 fn attributes_offence_in_many<W: Words>(scope: &Scope<'_, '_, W>, first: u32) -> Option<u32>
     requires { first ≤ length (list_of Part.Records (W.lists scope.now.table.now.words)) }
-    ensures { (nest : Forest) (x : Holder) (xs : List Holder) → IsScope scope.now.table.now.bytes (W.lists scope.now.table.now.words) scope.now.open_tags.now scope.now.count nest (x ∷ xs) →
+    ensures { (nest : Forest) (x : Holder) (xs : List Holder) → IsScope scope.now.table.now.bytes (W.lists scope.now.table.now.words) scope.now.open_tags.now scope.now.depth nest (x ∷ xs) →
         first ≡ x.place + 1 → (at : ℕ) → AttributesStand scope.now.table.now.bytes (records nest (first_place scope.now.table.now.bytes)) first at x.tag.attributes →
         repeated at [] x.tag.attributes ≡ [] → result ≡ first_of (offending_attributes (tags_in (x ∷ xs)) at [] x.tag.attributes) }
 {
@@ -196,7 +196,7 @@ fn attributes_offence_in_many<W: Words>(scope: &Scope<'_, '_, W>, first: u32) ->
 /// The same. Each is compared with those before it; where one with a prefix is not among the first few, by a filter.
 fn attributes_offence<W: Words>(scope: &Scope<'_, '_, W>, first: u32) -> Option<u32>
     requires { first ≤ length (list_of Part.Records (W.lists scope.now.table.now.words)) }
-    ensures { (nest : Forest) (x : Holder) (xs : List Holder) → IsScope scope.now.table.now.bytes (W.lists scope.now.table.now.words) scope.now.open_tags.now scope.now.count nest (x ∷ xs) →
+    ensures { (nest : Forest) (x : Holder) (xs : List Holder) → IsScope scope.now.table.now.bytes (W.lists scope.now.table.now.words) scope.now.open_tags.now scope.now.depth nest (x ∷ xs) →
         first ≡ x.place + 1 → (at : ℕ) → AttributesStand scope.now.table.now.bytes (records nest (first_place scope.now.table.now.bytes)) first at x.tag.attributes →
         repeated at [] x.tag.attributes ≡ [] → result ≡ first_of (offending_attributes (tags_in (x ∷ xs)) at [] x.tag.attributes) }
 {
@@ -219,7 +219,7 @@ const XMLNS: &[u8] = b"xmlns";
 /// Whether the name of the nearest tag offends, by the parts of its record.
 fn tag_name_offends<W: Words>(scope: &Scope<'_, '_, W>, tag: u32, parts: Parts) -> bool
     requires { (rs : List Token) → Shows (list_of Part.Records (W.lists scope.now.table.now.words)) rs → token_of parts ≡ record_at tag rs }
-    ensures { (nest : Forest) (x : Holder) (xs : List Holder) → IsScope scope.now.table.now.bytes (W.lists scope.now.table.now.words) scope.now.open_tags.now scope.now.count nest (x ∷ xs) →
+    ensures { (nest : Forest) (x : Holder) (xs : List Holder) → IsScope scope.now.table.now.bytes (W.lists scope.now.table.now.words) scope.now.open_tags.now scope.now.depth nest (x ∷ xs) →
         (at : ℕ) → TagStands scope.now.table.now.bytes (records nest (first_place scope.now.table.now.bytes)) tag at x.tag →
         result ≡ tag_offends (tags_in (x ∷ xs)) x.tag.name }
 {
@@ -238,7 +238,7 @@ fn tag_name_offends<W: Words>(scope: &Scope<'_, '_, W>, tag: u32, parts: Parts) 
 /// attributes and declarations are one.
 pub fn tag_offence<W: Words>(scope: &Scope<'_, '_, W>, tag: u32) -> Option<u32>
     requires { tag < length (list_of Part.Records (W.lists scope.now.table.now.words)) }
-    ensures { (nest : Forest) (x : Holder) (xs : List Holder) → IsScope scope.now.table.now.bytes (W.lists scope.now.table.now.words) scope.now.open_tags.now scope.now.count nest (x ∷ xs) →
+    ensures { (nest : Forest) (x : Holder) (xs : List Holder) → IsScope scope.now.table.now.bytes (W.lists scope.now.table.now.words) scope.now.open_tags.now scope.now.depth nest (x ∷ xs) →
         tag ≡ x.place → (at : ℕ) → TagStands scope.now.table.now.bytes (records nest (first_place scope.now.table.now.bytes)) tag at x.tag →
         repeated (attributes_place at x.tag) [] x.tag.attributes ≡ [] → result ≡ first_of (offending_tag at (tags_in xs) x.tag) }
 {

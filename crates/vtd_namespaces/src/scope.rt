@@ -15,13 +15,12 @@ use vtd_words::{Table, Words};
 /// The prefix that is always bound.
 const XML: &[u8] = b"xml";
 
-/// The tags that are open at a tag, itself included: the indexes of their records by their depth, and how many they are.
+/// The tags that are open at a tag, itself included: the indexes of their records by their depth, and the depth of the last.
 #[derive(Drop)]
 pub struct Scope<'s, 'a, W: Words> {
     pub table: &'s Table<'a, W>,
     pub open_tags: &'s [u32; 256],
-    pub count: u32,
-    ghost few: { count ≤ 256 },
+    pub depth: u8,
     ghost fits: { length ((W.lists table.now.words).records) < 2 ^ 32 },
     ghost within: { (k : ℕ) → slice_index_or open_tags.now k 0 < length ((W.lists table.now.words).records) },
 }
@@ -35,7 +34,7 @@ impl<'s, 'a, W: Words> Scope<'s, 'a, W> {
 
     /// The record of the name of the nearest declaration of a prefix, or `None` where there is none.
     pub fn declaration(&self, prefix: &[u8]) -> Option<u32>
-        ensures found { (nest : Forest) (hs : List Holder) → IsScope self.now.table.now.bytes (W.lists self.now.table.now.words) self.now.open_tags.now self.now.count nest hs →
+        ensures found { (nest : Forest) (hs : List Holder) → IsScope self.now.table.now.bytes (W.lists self.now.table.now.words) self.now.open_tags.now self.now.depth nest hs →
             (p : List ℕ) → prefix.now ≡ encode_utf8_all p → IsNearest (nodes_of self.now.table.now.bytes nest) hs p result }
         ensures declares { IfSome result (IsDeclaration self.now.table.now.bytes (W.lists self.now.table.now.words)) }
     {
@@ -43,7 +42,7 @@ impl<'s, 'a, W: Words> Scope<'s, 'a, W> {
             self.table.bytes(),
             self.table.words(),
             self.open_tags,
-            self.count,
+            self.depth,
             prefix,
         )
     }
@@ -51,7 +50,7 @@ impl<'s, 'a, W: Words> Scope<'s, 'a, W> {
     /// The URI to which a prefix is bound that is not empty, by the record of its nearest declaration; none where it is not bound.
     fn uri_by(&self, prefix: &[u8], declaration: Option<u32>) -> Uri<'a, W>
         requires { IfSome declaration (IsDeclaration self.now.table.now.bytes (W.lists self.now.table.now.words)) }
-        ensures { (nest : Forest) (hs : List Holder) → IsScope self.now.table.now.bytes (W.lists self.now.table.now.words) self.now.open_tags.now self.now.count nest hs →
+        ensures { (nest : Forest) (hs : List Holder) → IsScope self.now.table.now.bytes (W.lists self.now.table.now.words) self.now.open_tags.now self.now.depth nest hs →
             (p : List ℕ) → prefix.now ≡ encode_utf8_all p → (p ≡ [] → ⊥) → IsNearest (nodes_of self.now.table.now.bytes nest) hs p declaration → uri_value result ≡ attribute_uri p (tags_in hs) }
     {
         if prefix == XML {
@@ -65,7 +64,7 @@ impl<'s, 'a, W: Words> Scope<'s, 'a, W> {
 
     /// The URI to which a prefix is bound that is not empty; none where it is not bound.
     pub fn uri_of_prefix(&self, prefix: &[u8]) -> Uri<'a, W>
-        ensures { (nest : Forest) (hs : List Holder) → IsScope self.now.table.now.bytes (W.lists self.now.table.now.words) self.now.open_tags.now self.now.count nest hs →
+        ensures { (nest : Forest) (hs : List Holder) → IsScope self.now.table.now.bytes (W.lists self.now.table.now.words) self.now.open_tags.now self.now.depth nest hs →
             (p : List ℕ) → prefix.now ≡ encode_utf8_all p → (p ≡ [] → ⊥) → uri_value result ≡ attribute_uri p (tags_in hs) }
     {
         self.uri_by(prefix, self.declaration(prefix))
@@ -75,7 +74,7 @@ impl<'s, 'a, W: Words> Scope<'s, 'a, W> {
     /// of the first.
     pub fn bound_alike(&self, one: &[u8], declaration: Option<u32>, other: &[u8]) -> bool
         requires { IfSome declaration (IsDeclaration self.now.table.now.bytes (W.lists self.now.table.now.words)) }
-        ensures { (nest : Forest) (hs : List Holder) → IsScope self.now.table.now.bytes (W.lists self.now.table.now.words) self.now.open_tags.now self.now.count nest hs →
+        ensures { (nest : Forest) (hs : List Holder) → IsScope self.now.table.now.bytes (W.lists self.now.table.now.words) self.now.open_tags.now self.now.depth nest hs →
             (p q : List ℕ) → one.now ≡ encode_utf8_all p → other.now ≡ encode_utf8_all q → (p ≡ [] → ⊥) → (q ≡ [] → ⊥) → IsNearest (nodes_of self.now.table.now.bytes nest) hs p declaration →
             result ≡ same_uri (attribute_uri p (tags_in hs)) (attribute_uri q (tags_in hs)) }
     {
@@ -85,7 +84,7 @@ impl<'s, 'a, W: Words> Scope<'s, 'a, W> {
     /// Whether a prefix is bound (Namespaces in XML 1.0, section 5, constraint 'Prefix Declared'): the empty one needs no
     /// binding, and `xml` always has one.
     pub fn is_bound(&self, prefix: &[u8]) -> bool
-        ensures { (nest : Forest) (hs : List Holder) → IsScope self.now.table.now.bytes (W.lists self.now.table.now.words) self.now.open_tags.now self.now.count nest hs →
+        ensures { (nest : Forest) (hs : List Holder) → IsScope self.now.table.now.bytes (W.lists self.now.table.now.words) self.now.open_tags.now self.now.depth nest hs →
             (p : List ℕ) → prefix.now ≡ encode_utf8_all p → result ≡ is_bound p (tags_in hs) }
     {
         if prefix.is_empty() {

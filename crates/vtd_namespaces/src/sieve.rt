@@ -41,9 +41,9 @@ fn note_name<W: Words>(
     prefix_len: u32,
 ) -> bool
     requires prefix { 0 < prefix_len }
-    ensures new { (nest : Forest) (hs : List Holder) → IsScope scope.now.table.now.bytes (W.lists scope.now.table.now.words) scope.now.open_tags.now scope.now.count nest hs →
+    ensures new { (nest : Forest) (hs : List Holder) → IsScope scope.now.table.now.bytes (W.lists scope.now.table.now.words) scope.now.open_tags.now scope.now.depth nest hs →
         (a : Attribute) → IsWritten name.now prefix_len a → result ≡ not (is_taken filter.old.slots (key_of (tags_in hs) a)) }
-    ensures noted { (nest : Forest) (hs : List Holder) → IsScope scope.now.table.now.bytes (W.lists scope.now.table.now.words) scope.now.open_tags.now scope.now.count nest hs →
+    ensures noted { (nest : Forest) (hs : List Holder) → IsScope scope.now.table.now.bytes (W.lists scope.now.table.now.words) scope.now.open_tags.now scope.now.depth nest hs →
         (a : Attribute) → IsWritten name.now prefix_len a → is_taken filter.new.slots (key_of (tags_in hs) a) ≡ true }
     ensures kept { (key : List ℕ) → is_taken filter.old.slots key ≡ true → is_taken filter.new.slots key ≡ true }
 {
@@ -54,9 +54,9 @@ fn note_name<W: Words>(
 /// Notes an attribute of the nearest tag, where it is one with a prefix and no declaration; true only where no attribute that
 /// was noted before has its expanded name.
 pub fn note_attribute<W: Words>(scope: &Scope<'_, '_, W>, filter: &mut Filter, parts: Parts) -> bool
-    ensures new { (nest : Forest) (hs : List Holder) → IsScope scope.now.table.now.bytes (W.lists scope.now.table.now.words) scope.now.open_tags.now scope.now.count nest hs →
+    ensures new { (nest : Forest) (hs : List Holder) → IsScope scope.now.table.now.bytes (W.lists scope.now.table.now.words) scope.now.open_tags.now scope.now.depth nest hs →
         (a : Attribute) → parts.token ≡ name_token a.name → IsNameRecord scope.now.table.now.bytes (token_of parts) a.name → result ≡ true → is_taken filter.old.slots (key_of (tags_in hs) a) ≡ false }
-    ensures noted { (nest : Forest) (hs : List Holder) → IsScope scope.now.table.now.bytes (W.lists scope.now.table.now.words) scope.now.open_tags.now scope.now.count nest hs →
+    ensures noted { (nest : Forest) (hs : List Holder) → IsScope scope.now.table.now.bytes (W.lists scope.now.table.now.words) scope.now.open_tags.now scope.now.depth nest hs →
         (a : Attribute) → parts.token ≡ name_token a.name → IsNameRecord scope.now.table.now.bytes (token_of parts) a.name → IsNoted (tags_in hs) filter.new.slots a }
     ensures kept { (key : List ℕ) → is_taken filter.old.slots key ≡ true → is_taken filter.new.slots key ≡ true }
 {

@@ -273,6 +273,165 @@ fn defaults_and_layers(rt: HostRuntime) -> Result<(), Fail> {
     Ok(())
 }
 
+#[test]
+fn colons_and_prefixes(rt: HostRuntime) -> Result<(), Fail> {
+    let colon_first = checked(b"<:a/>", &[0xdff0_0000_0000_0000, 0x0000_0002_0000_0001]);
+    assert_eq!(rt; colon_first, Err(DocFault::Namespace { at: 1 }));
+    let colon_last = checked(
+        b"<a: xmlns:a=\"u\"/>",
+        &[
+            0xdff0_0000_0000_0000,
+            0x0000_0802_0000_0001,
+            0x3000_2807_0000_0004,
+            0x4000_0001_0000_000d,
+        ],
+    );
+    assert_eq!(rt; colon_last, Err(DocFault::Namespace { at: 1 }));
+    let no_prefix = checked(
+        b"<a xmlns:=\"u\"/>",
+        &[
+            0xdff0_0000_0000_0000,
+            0x0000_0001_0000_0001,
+            0x3000_2806_0000_0003,
+            0x4000_0001_0000_000b,
+        ],
+    );
+    assert_eq!(rt; no_prefix, Err(DocFault::Namespace { at: 3 }));
+    let two_colons_in_attribute = checked(
+        b"<a xmlns:p=\"u\" p:b:c=\"1\"/>",
+        &[
+            0xdff0_0000_0000_0000,
+            0x0000_0001_0000_0001,
+            0x3000_2807_0000_0003,
+            0x4000_0001_0000_000c,
+            0x2000_0805_0000_000f,
+            0x4000_0001_0000_0016,
+        ],
+    );
+    assert_eq!(rt;
+        two_colons_in_attribute,
+        Err(DocFault::Namespace { at: 15 })
+    );
+    let unbound_attribute = checked(
+        b"<a p:b=\"1\"/>",
+        &[
+            0xdff0_0000_0000_0000,
+            0x0000_0001_0000_0001,
+            0x2000_0803_0000_0003,
+            0x4000_0001_0000_0008,
+        ],
+    );
+    assert_eq!(rt; unbound_attribute, Err(DocFault::Namespace { at: 3 }));
+    let xml_attribute = checked(
+        b"<a xml:b=\"1\"/>",
+        &[
+            0xdff0_0000_0000_0000,
+            0x0000_0001_0000_0001,
+            0x2000_1805_0000_0003,
+            0x4000_0001_0000_000a,
+        ],
+    );
+    assert_eq!(rt; xml_attribute, Ok(()));
+    let xml_as_default = checked(
+        b"<a xmlns=\"http://www.w3.org/XML/1998/namespace\"/>",
+        &[
+            0xdff0_0000_0000_0000,
+            0x0000_0001_0000_0001,
+            0x3000_0005_0000_0003,
+            0x4000_0024_0000_000a,
+        ],
+    );
+    assert_eq!(rt; xml_as_default, Err(DocFault::Namespace { at: 3 }));
+    let prefix_of_xmlns = checked(
+        b"<a xmlns:p=\"http://www.w3.org/2000/xmlns/\"/>",
+        &[
+            0xdff0_0000_0000_0000,
+            0x0000_0001_0000_0001,
+            0x3000_2807_0000_0003,
+            0x4000_001d_0000_000c,
+        ],
+    );
+    assert_eq!(rt; prefix_of_xmlns, Err(DocFault::Namespace { at: 3 }));
+    Ok(())
+}
+
+/// The elements `bad` and `good` are those of Namespaces in XML 1.0, section 6.3.
+#[test]
+fn scopes(rt: HostRuntime) -> Result<(), Fail> {
+    let bad = checked(
+        b"<x xmlns:n1=\"http://www.w3.org\" xmlns:n2=\"http://www.w3.org\"><bad n1:a=\"1\" n2:a=\"2\"/></x>",
+        &[
+            0xdff0_0000_0000_0000,
+            0x0000_0001_0000_0001,
+            0x3000_2808_0000_0003,
+            0x4000_0011_0000_000d,
+            0x3000_2808_0000_0020,
+            0x4000_0011_0000_002a,
+            0x0010_0003_0000_003e,
+            0x2010_1004_0000_0042,
+            0x4010_0001_0000_0048,
+            0x2010_1004_0000_004b,
+            0x4010_0001_0000_0051,
+        ],
+    );
+    assert_eq!(rt; bad, Err(DocFault::Namespace { at: 75 }));
+    let good = checked(
+        b"<x xmlns:n1=\"http://www.w3.org\" xmlns=\"http://www.w3.org\"><good a=\"1\" b=\"2\"/><good a=\"1\" n1:a=\"2\"/></x>",
+        &[
+            0xdff0_0000_0000_0000,
+            0x0000_0001_0000_0001,
+            0x3000_2808_0000_0003,
+            0x4000_0011_0000_000d,
+            0x3000_0005_0000_0020,
+            0x4000_0011_0000_0027,
+            0x0010_0004_0000_003b,
+            0x2010_0001_0000_0040,
+            0x4010_0001_0000_0043,
+            0x2010_0001_0000_0046,
+            0x4010_0001_0000_0049,
+            0x0010_0004_0000_004e,
+            0x2010_0001_0000_0053,
+            0x4010_0001_0000_0056,
+            0x2010_1004_0000_0059,
+            0x4010_0001_0000_005f,
+        ],
+    );
+    assert_eq!(rt; good, Ok(()));
+    let undeclared = checked(
+        b"<p:a xmlns:p=\"u\"><b xmlns:p=\"\"/></p:a>",
+        &[
+            0xdff0_0000_0000_0000,
+            0x0000_0803_0000_0001,
+            0x3000_2807_0000_0005,
+            0x4000_0001_0000_000e,
+            0x0010_0001_0000_0012,
+            0x3010_2807_0000_0014,
+            0x4010_0000_0000_001d,
+        ],
+    );
+    assert_eq!(rt; undeclared, Err(DocFault::Namespace { at: 20 }));
+    let rebound = checked(
+        b"<a xmlns:p=\"u\" xmlns:q=\"v\"><b xmlns:q=\"u\" p:x=\"1\" q:x=\"2\"/></a>",
+        &[
+            0xdff0_0000_0000_0000,
+            0x0000_0001_0000_0001,
+            0x3000_2807_0000_0003,
+            0x4000_0001_0000_000c,
+            0x3000_2807_0000_000f,
+            0x4000_0001_0000_0018,
+            0x0010_0001_0000_001c,
+            0x3010_2807_0000_001e,
+            0x4010_0001_0000_0027,
+            0x2010_0803_0000_002a,
+            0x4010_0001_0000_002f,
+            0x2010_0803_0000_0032,
+            0x4010_0001_0000_0037,
+        ],
+    );
+    assert_eq!(rt; rebound, Err(DocFault::Namespace { at: 50 }));
+    Ok(())
+}
+
 /// Whether a node has a prefix, a local part and a URI, which is empty for none.
 fn is_called<W: Words>(table: &Table<'_, W>, node: Node, name: (&str, &str, &str)) -> bool
     requires node { IsNodeOf table.now.bytes (W.lists table.now.words) node }

@@ -39,7 +39,7 @@ fn element_offence<W: Words>(
     let scope = Scope {
         table,
         open_tags,
-        count: depth as u32 + 1,
+        depth,
     };
     tag_offence(&scope, at)
 }

@@ -1,4 +1,4 @@
-use Rattle.std.proofs.Common.{◌≡◌, ℕ, List, length}
+use Rattle.std.proofs.Common.{◌≡◌, ℕ, ◌+◌, List, length}
 use Rattle.std.specs.Prelude.{encode_utf8_all}
 use Rattle.xml_model.specs.Nest.{Forest}
 use Rattle.xml_model.specs.Tree.{Holder}
@@ -7,7 +7,7 @@ use Rattle.vtd_namespaces.specs.Scope.{Chain, Opened}
 use Rattle.vtd_namespaces.proofs.DeclarationLemmas.{Left}
 use Rattle.vtd_namespaces.proofs.declarations.declaration_for.Given as goal
 
-abbrev pub invariant-loop-depth : goal.invariant-loop-depth
-invariant-loop-depth g l =
-    (nest : Forest) → IsNestOf l.bytes (g.W.Words.lists l.words) nest → (hs : List Holder) → Chain (nodes_of l.bytes nest) hs → Opened l.open_tags hs → length hs ≡ l.count →
-    (p : List ℕ) → l.prefix ≡ encode_utf8_all p → Left (nodes_of l.bytes nest) l.open_tags hs p l.depth
+abbrev pub invariant-loop-level : goal.invariant-loop-level
+invariant-loop-level g l =
+    (nest : Forest) → IsNestOf l.bytes (g.W.Words.lists l.words) nest → (hs : List Holder) → Chain (nodes_of l.bytes nest) hs → Opened l.open_tags hs → length hs ≡ l.depth + 1 →
+    (p : List ℕ) → l.prefix ≡ encode_utf8_all p → Left (nodes_of l.bytes nest) l.open_tags hs p l.level

@@ -14,7 +14,7 @@ abbrev pub invariant-loop-parts : goal.invariant-loop-parts
 invariant-loop-parts g l = record {
   room : l.first + 2 * l.number ≤ length (g.W.Words.lists l.scope.table.now.words).records;
   bound : l.first + 2 * l.number < 2 ^ 32;
-  inspected : (nest : Forest) (x : Holder) (xs : List Holder) → IsScope l.scope.table.now.bytes (g.W.Words.lists l.scope.table.now.words) l.scope.open_tags.now l.scope.count nest (x ∷ xs) → l.first ≡ x.place + 1 →
+  inspected : (nest : Forest) (x : Holder) (xs : List Holder) → IsScope l.scope.table.now.bytes (g.W.Words.lists l.scope.table.now.words) l.scope.open_tags.now l.scope.depth nest (x ∷ xs) → l.first ≡ x.place + 1 →
       (at : ℕ) → AttributesStand l.scope.table.now.bytes (records nest (first_place l.scope.table.now.bytes)) l.first at x.tag.attributes → repeated at [] x.tag.attributes ≡ [] →
       Inspected l.scope.table.now.bytes (records nest (first_place l.scope.table.now.bytes)) l.first l.number at (tags_in (x ∷ xs)) x.tag.attributes;
 }
