@@ -1,6 +1,7 @@
 #!/usr/bin/env bash
 # Writes a document of about so many megabytes to standard output: bench/document.sh KIND [MEGABYTES], 100 if no number is given.
-# The kinds: orders (a short element with an attribute inside another), text (long texts), attributes (many in each tag), accented
+# The kinds: orders (a short element with an attribute inside another), text (long texts), references (long texts with a reference
+# in each 105 bytes), returns (long texts in lines of 104 bytes that end with CR LF), attributes (many in each tag), accented
 # (texts that are not ASCII), elements (densest in elements: <b/>), records (densest in records: <b/>x), deep (elements 250 deep).
 # Hard ones, for the checks of names: prefixed (20 attributes with prefixes in each tag), scopes (1,000 declarations in the root
 # element, and a prefixed name in each of its children), names (one tag of that many attributes), declarations (one tag of as many
@@ -33,6 +34,14 @@ case $kind in
     text)
         words='The quick brown fox jumps over the lazy dog, and then it goes home and sleeps until the evening comes. '
         repeated '<book>' "<p>$words$words$words$words$words$words$words$words$words$words</p>" '</book>'
+        ;;
+    references)
+        words='The quick brown fox jumps over the lazy dog, and then it goes home &amp; sleeps until the evening comes. '
+        repeated '<book>' "<p>$words$words$words$words$words$words$words$words$words$words</p>" '</book>'
+        ;;
+    returns) # a bar stands for the line feed, since `repeated` takes line feeds away
+        line='The quick brown fox jumps over the lazy dog, and then it goes home and sleeps until the evening comes.'$'\r|'
+        repeated '<book>' "<p>$line$line$line$line$line$line$line$line$line$line</p>" '</book>' | tr '|' '\n'
         ;;
     attributes)
         repeated '<rows>' '<row id="1024" name="a name" colour="dark green" width="120" height="80" state="open" owner="somebody"/>' '</rows>'
