@@ -3,7 +3,7 @@ use Rattle.std.proofs.Common.{◌≡◌, ℕ, ◌+◌, ◌<◌, ◌≤◌, Bool,
 use Rattle.std.specs.Prelude.{codes, ◌&&◌, ◌==◌, not, nat_lt, nat_le}
 use Rattle.std.specs.List.{list_all, prefix_len}
 use Rattle.std.proofs.Math.Numerals.{one-add}
-use Rattle.std.proofs.lemmas.Bool.{cases_Bool, and_parts, and_from, false≢true, eqb-true, not-false, false_from_ne_true, true_from_ne_false, or_cases, ltb-true, leb-true}
+use Rattle.std.proofs.lemmas.Bool.{cases_Bool, and_parts, and_from, false≢true, eqb-true, not-false, eq-eqb, false_from_ne_true, true_from_ne_false, or_cases, ltb-true, leb-true}
 use Rattle.std.proofs.lemmas.List.{length-append, get_or-drop}
 use Rattle.std.proofs.lemmas.Str.{encodes-append, encode_ascii, char_from_byte}
 use lib.Utf8.{encode, encodes}
@@ -13,12 +13,12 @@ use Rattle.xml_chars.proofs.Points.{stop_run, encode_pos}
 use Rattle.xml_chars.proofs.StandLemmas.{size-append}
 use Rattle.vtd_builder.specs.declared.tags.AttributeCut.{AttributeCut}
 use Rattle.std.specs.Char.{is_digit}
-use Rattle.vtd_builder.specs.Cuts.{in_name, is_low, in_value, Placed, past_name, AttributeAt, cut_of}
+use Rattle.vtd_builder.specs.Cuts.{in_name, is_low, is_other, Placed, past_name, AttributeAt, cut_of}
 use Rattle.vtd_builder.proofs.Placed.{placed_back, placed_end}
 
 -- ---- runs of bytes
 
-full_run : (p : ℕ → Bool) (xs : List ℕ) (b : ℕ) (rest : List ℕ) → prefix_len p xs ≡ length xs → p b ≡ false → prefix_len p (xs ++ b ∷ rest) ≡ length xs
+pub full_run : (p : ℕ → Bool) (xs : List ℕ) (b : ℕ) (rest : List ℕ) → prefix_len p xs ≡ length xs → p b ≡ false → prefix_len p (xs ++ b ∷ rest) ≡ length xs
 full_run p [] b rest e f = rw f refl
 full_run p (x ∷ xs) b rest e f = elim (cases_Bool (p x)) [
   | inl t ↦
@@ -138,7 +138,7 @@ in_name_of c h =
     let a : nat_lt 32 c ≡ true = grind (arith, high) in
     and_from _ _ (and_from _ _ (and_from _ _ a (name_stop c 47 h no_47)) (name_stop c 61 h no_61)) (name_stop c 62 h no_62)
 
-all_of : (p q : ℕ → Bool) → ((c : ℕ) → p c ≡ true → q c ≡ true) → (cs : List ℕ) → list_all p cs ≡ true → list_all q cs ≡ true
+pub all_of : (p q : ℕ → Bool) → ((c : ℕ) → p c ≡ true → q c ≡ true) → (cs : List ℕ) → list_all p cs ≡ true → list_all q cs ≡ true
 all_of p q f [] h = refl
 all_of p q f (c ∷ cs) h = let k = and_parts (p c) (list_all p cs) h in and_from _ _ (f c k.0) (all_of p q f cs k.1)
 
@@ -196,12 +196,7 @@ pub quote_ascii : (q : Quote) → quote_char q < 128
 quote_ascii Quote.single = omega arith
 quote_ascii Quote.double = omega arith
 
-no_quote : (q : Quote) → is_name_char (quote_char q) ≡ false
-no_quote Quote.single = no_39
-no_quote Quote.double = no_34
-
--- no quote in a value
-append_all : (p : ℕ → Bool) (v w : List ℕ) → list_all p v ≡ true → list_all p w ≡ true → list_all p (v ++ w) ≡ true
+pub append_all : (p : ℕ → Bool) (v w : List ℕ) → list_all p v ≡ true → list_all p w ≡ true → list_all p (v ++ w) ≡ true
 append_all p [] w a b = b
 append_all p (c ∷ v) w a b = let k = and_parts (p c) (list_all p v) a in and_from _ _ k.0 (append_all p v w k.1 b)
 
@@ -221,65 +216,66 @@ parted a h =
     let y = and_parts (is_white a.space) (is_name a.name) x.0 in
     record { name = y.1; left = x.1; right = w.1; space = y.0; value = v.1 }
 
--- what is true of a quote is not true of the characters that pass
-abbrev not_quote : Quote → ℕ → Bool
-not_quote q c = in_value (quote_char q) c
+-- ---- a byte that stands in no name and in no reference
 
-stop_by : (p : ℕ → Bool) (q : Quote) (c : ℕ) → p (quote_char q) ≡ false → p c ≡ true → not_quote q c ≡ true
-stop_by p q c f h = true_from_ne_false _ (λ n. false≢true (sym f ∙ ap p (sym (eqb-true c (quote_char q) (not-false (c == quote_char q) n))) ∙ h))
+-- what is false of a byte is true of no byte that is the same
+stop_by : (p : ℕ → Bool) (stop c : ℕ) → p stop ≡ false → p c ≡ true → is_other stop c ≡ true
+stop_by p stop c f h = true_from_ne_false _ (λ n. false≢true (sym f ∙ ap p (sym (eqb-true c stop (not-false (c == stop) n))) ∙ h))
 
-digit_10 : (q : Quote) → is_digit (quote_char q) 10 ≡ false
-digit_10 Quote.single = refl
-digit_10 Quote.double = refl
+-- the byte is ASCII, and stands in no reference
+pub record Apart (stop : ℕ) : Type 0 where
+  pub low : stop < 128
+  pub name : is_name_char stop ≡ false
+  pub digit : is_digit stop 10 ≡ false
+  pub hexadecimal_digit : is_digit stop 16 ≡ false
+  pub entity_mark : list_all (is_other stop) (codes "&") ≡ true
+  pub decimal_mark : list_all (is_other stop) (codes "&#") ≡ true
+  pub hexadecimal_mark : list_all (is_other stop) (codes "&#x") ≡ true
+  pub last : list_all (is_other stop) (codes ";") ≡ true
 
-digit_16 : (q : Quote) → is_digit (quote_char q) 16 ≡ false
-digit_16 Quote.single = refl
-digit_16 Quote.double = refl
-
-mark_amp : (q : Quote) → list_all (not_quote q) (codes "&") ≡ true
-mark_amp Quote.single = refl
-mark_amp Quote.double = refl
-
-mark_decimal : (q : Quote) → list_all (not_quote q) (codes "&#") ≡ true
-mark_decimal Quote.single = refl
-mark_decimal Quote.double = refl
-
-mark_hexadecimal : (q : Quote) → list_all (not_quote q) (codes "&#x") ≡ true
-mark_hexadecimal Quote.single = refl
-mark_hexadecimal Quote.double = refl
-
-mark_end : (q : Quote) → list_all (not_quote q) (codes ";") ≡ true
-mark_end Quote.single = refl
-mark_end Quote.double = refl
+quote_apart : (q : Quote) → Apart (quote_char q)
+quote_apart Quote.single = record { low = omega arith; name = no_39; digit = refl; hexadecimal_digit = refl; entity_mark = refl; decimal_mark = refl; hexadecimal_mark = refl; last = refl }
+quote_apart Quote.double = record { low = omega arith; name = no_34; digit = refl; hexadecimal_digit = refl; entity_mark = refl; decimal_mark = refl; hexadecimal_mark = refl; last = refl }
 
 digits_of : (base : ℕ) (ds : List ℕ) → is_number base ds ≡ true → list_all (λ c. is_digit c base) ds ≡ true
 digits_of base [] h = absurd (false≢true h)
 digits_of base (d ∷ ds) h = (and_parts (list_all (λ c. is_digit c base) (d ∷ ds)) (is_char (number_of base (d ∷ ds))) h).0
 
-in_mark : (q : Quote) (front middle : List ℕ) → list_all (not_quote q) front ≡ true → list_all (not_quote q) middle ≡ true → list_all (not_quote q) (front ++ middle ++ codes ";") ≡ true
-in_mark q front middle a b = append_all (not_quote q) (front ++ middle) (codes ";") (append_all (not_quote q) front middle a b) (mark_end q)
+in_reference : (stop : ℕ) (front middle : List ℕ) → Apart stop → list_all (is_other stop) front ≡ true → list_all (is_other stop) middle ≡ true → list_all (is_other stop) (front ++ middle ++ codes ";") ≡ true
+in_reference stop front middle k a b = append_all (is_other stop) (front ++ middle) (codes ";") (append_all (is_other stop) front middle a b) k.last
 
-piece_value : (q : Quote) (p : Piece) → meets_piece (λ c. c == quote_char q) p ≡ true → list_all (not_quote q) (written_piece p) ≡ true
-piece_value q (literal c) h = and_from _ _ (and_parts (is_char c && not (c == 60) && not (c == 38)) (not (c == quote_char q)) h).1 refl
-piece_value q (entity n) h = in_mark q (codes "&") n (mark_amp q) (all_of is_name_char (not_quote q) (λ c k. stop_by is_name_char q c (no_quote q) k) n (name_chars n h))
-piece_value q (decimal ds) h = in_mark q (codes "&#") ds (mark_decimal q) (all_of (λ c. is_digit c 10) (not_quote q) (λ c k. stop_by (λ c. is_digit c 10) q c (digit_10 q) k) ds (digits_of 10 ds h))
-piece_value q (hexadecimal ds) h = in_mark q (codes "&#x") ds (mark_hexadecimal q) (all_of (λ c. is_digit c 16) (not_quote q) (λ c k. stop_by (λ c. is_digit c 16) q c (digit_16 q) k) ds (digits_of 16 ds h))
+pub name_other : (stop : ℕ) (n : List ℕ) → is_name_char stop ≡ false → is_name n ≡ true → list_all (is_other stop) n ≡ true
+name_other stop n f h = all_of is_name_char (is_other stop) (λ c k. stop_by is_name_char stop c f k) n (name_chars n h)
 
-pieces_value : (q : Quote) (ps : List Piece) → list_all (meets_piece (λ c. c == quote_char q)) ps ≡ true → list_all (not_quote q) (written_pieces ps) ≡ true
-pieces_value q [] h = refl
-pieces_value q (p ∷ ps) h =
-    let k = and_parts (meets_piece (λ c. c == quote_char q) p) (list_all (meets_piece (λ c. c == quote_char q)) ps) h in
-    append_all (not_quote q) (written_piece p) (written_pieces ps) (piece_value q p k.0) (pieces_value q ps k.1)
+piece_other : (stop : ℕ) (stops : ℕ → Bool) → Apart stop → ((c : ℕ) → meets_piece stops (literal c) ≡ true → is_other stop c ≡ true) → (p : Piece) → meets_piece stops p ≡ true → list_all (is_other stop) (written_piece p) ≡ true
+piece_other stop stops k f (literal c) h = and_from _ _ (f c h) refl
+piece_other stop stops k f (entity n) h = in_reference stop (codes "&") n k k.entity_mark (name_other stop n k.name h)
+piece_other stop stops k f (decimal ds) h = in_reference stop (codes "&#") ds k k.decimal_mark (all_of (λ c. is_digit c 10) (is_other stop) (λ c d. stop_by (λ c. is_digit c 10) stop c k.digit d) ds (digits_of 10 ds h))
+piece_other stop stops k f (hexadecimal ds) h =
+    in_reference stop (codes "&#x") ds k k.hexadecimal_mark (all_of (λ c. is_digit c 16) (is_other stop) (λ c d. stop_by (λ c. is_digit c 16) stop c k.hexadecimal_digit d) ds (digits_of 16 ds h))
 
-value_low : (q : Quote) (b : ℕ) → not_quote q b ≡ false → b < 128
-value_low q b h = omega (arith, eqb-true b (quote_char q) (not-false (b == quote_char q) h), quote_ascii q)
+-- pieces lack a byte that no literal of them is
+pub pieces_other : (stop : ℕ) (stops : ℕ → Bool) → Apart stop → ((c : ℕ) → meets_piece stops (literal c) ≡ true → is_other stop c ≡ true) → (ps : List Piece) → list_all (meets_piece stops) ps ≡ true
+    → list_all (is_other stop) (written_pieces ps) ≡ true
+pieces_other stop stops k f [] h = refl
+pieces_other stop stops k f (p ∷ ps) h =
+    let q = and_parts (meets_piece stops p) (list_all (meets_piece stops) ps) h in
+    append_all (is_other stop) (written_piece p) (written_pieces ps) (piece_other stop stops k f p q.0) (pieces_other stop stops k f ps q.1)
 
-quote_stops : (q : Quote) (w : List ℕ) → Stops (not_quote q) (quote_char q ∷ w)
-quote_stops q w = stops_at (not_quote q) (quote_char q) w (quote_ascii q) (same q)
-  where
-    same : (q : Quote) → not_quote q (quote_char q) ≡ false
-    same Quote.single = refl
-    same Quote.double = refl
+other_low : (stop b : ℕ) → stop < 128 → is_other stop b ≡ false → b < 128
+other_low stop b l h = omega (arith, eqb-true b stop (not-false (b == stop) h), l)
+
+-- characters that are all other are so as bytes
+pub other_bytes : (stop : ℕ) (cs : List ℕ) → stop < 128 → list_all (is_other stop) cs ≡ true → prefix_len (is_other stop) (encodes cs) ≡ length (encodes cs)
+other_bytes stop cs l h = passed_bytes (is_other stop) (λ b k. other_low stop b l k) cs h
+
+-- the next such byte stands behind them
+pub other_run : (bytes : List ℕ) (at stop : ℕ) (cs w : List ℕ) → stop < 128 → list_all (is_other stop) cs ≡ true → Placed bytes at (cs ++ (stop ∷ w)) → prefix_len (is_other stop) (drop at bytes) ≡ size cs
+other_run bytes at stop cs w l h k = run_to (is_other stop) bytes at cs (stop ∷ w) (other_bytes stop cs l h) k (stops_at (is_other stop) stop w l (ap not (eq-eqb stop stop refl)))
+
+value_other : (q : Quote) (ps : List Piece) → list_all (meets_piece (λ c. c == quote_char q)) ps ≡ true → list_all (is_other (quote_char q)) (written_pieces ps) ≡ true
+value_other q ps h =
+    pieces_other (quote_char q) (λ c. c == quote_char q) (quote_apart q) (λ c k. (and_parts (is_char c && not (c == 60) && not (c == 38)) (not (c == quote_char q)) k).1) ps h
 
 pub one_byte : (c : ℕ) → c < 128 → size (c ∷ []) ≡ 1
 unfolding size
@@ -295,7 +291,7 @@ pub record CutFacts (bytes : List ℕ) (at : ℕ) (a : Attribute) : Type 0 where
   pub left : prefix_len is_low (drop (at + size a.name) bytes) ≡ size a.left
   pub right : prefix_len is_low (drop (at + size a.name + size a.left + 1) bytes) ≡ size a.right
   pub quote : get_or bytes (at + size a.name + size a.left + 1 + size a.right) 0 ≡ quote_char a.quote
-  pub value : prefix_len (in_value (quote_char a.quote)) (drop (at + size a.name + size a.left + 1 + size a.right + 1) bytes) ≡ size (written_pieces a.value)
+  pub value : prefix_len (is_other (quote_char a.quote)) (drop (at + size a.name + size a.left + 1 + size a.right + 1) bytes) ≡ size (written_pieces a.value)
   pub before : size (before_value a) ≡ size a.name + size a.left + 1 + size a.right + 1
   pub end : at + size a.name + size a.left + 1 + size a.right + 1 + size (written_pieces a.value) + 1 ≤ length bytes
 
@@ -326,8 +322,7 @@ cut_facts bytes at a k =
       left = space_run bytes n a.left (codes "=" ++ r1) h.left p1 (equals_ends r1);
       right = space_run bytes (l + 1) a.right (q ∷ r2) h.right p3 (quote_ends a.quote r2);
       quote = first_byte bytes e q r2 (quote_ascii a.quote) p4;
-      value = run_to (not_quote a.quote) bytes (e + 1) (written_pieces a.value) (q ∷ [])
-          (passed_bytes (not_quote a.quote) (value_low a.quote) (written_pieces a.value) (pieces_value a.quote a.value h.value)) p5 (quote_stops a.quote []);
+      value = other_run bytes (e + 1) q (written_pieces a.value) [] (quote_ascii a.quote) (value_other a.quote a.value h.value) p5;
       before = omega (arith, b1, b2, b3, b4, s1, s2);
       end = omega (arith, last, s1);
     }
@@ -342,12 +337,12 @@ pub cut_quote : (bytes : List ℕ) (at : ℕ) (a : Attribute) (e q : ℕ) → Cu
 cut_quote bytes at a e q f h k =
     k ∙ ap (λ (m : ℕ). m + 1 + prefix_len is_low (drop (m + 1) bytes)) h ∙ ap (λ (m : ℕ). at + size a.name + size a.left + 1 + m) f.right
 
-pub cut_value : (bytes : List ℕ) (at : ℕ) (a : Attribute) (q b v : ℕ) → CutFacts bytes at a → q ≡ at + size a.name + size a.left + 1 + size a.right → b ≡ get_or bytes q 0 → v ≡ q + 1 + prefix_len (in_value b) (drop (q + 1) bytes)
+pub cut_value : (bytes : List ℕ) (at : ℕ) (a : Attribute) (q b v : ℕ) → CutFacts bytes at a → q ≡ at + size a.name + size a.left + 1 + size a.right → b ≡ get_or bytes q 0 → v ≡ q + 1 + prefix_len (is_other b) (drop (q + 1) bytes)
     → v ≡ at + size (before_value a) + size (written_pieces a.value)
 cut_value bytes at a q b v f h g k =
     let c : b ≡ quote_char a.quote = g ∙ ap (λ (m : ℕ). get_or bytes m 0) h ∙ f.quote in
     let w : v ≡ at + size a.name + size a.left + 1 + size a.right + 1 + size (written_pieces a.value) =
-    k ∙ ap₂ (λ (m c : ℕ). m + 1 + prefix_len (in_value c) (drop (m + 1) bytes)) h c ∙ ap (λ (m : ℕ). at + size a.name + size a.left + 1 + size a.right + 1 + m) f.value in
+    k ∙ ap₂ (λ (m c : ℕ). m + 1 + prefix_len (is_other c) (drop (m + 1) bytes)) h c ∙ ap (λ (m : ℕ). at + size a.name + size a.left + 1 + size a.right + 1 + m) f.value in
     omega (arith, w, f.before)
 
 abbrev pub cut_by : ℕ → ℕ → ℕ → ℕ → ℕ → AttributeCut

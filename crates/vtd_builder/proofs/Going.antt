@@ -21,11 +21,9 @@ use Rattle.xml_chars.proofs.StandLemmas.{front_stands}
 use Rattle.xml_items.proofs.SpanLemmas.{spelled}
 use Rattle.vtd_builder.proofs.Recorded.{item_placed}
 use Rattle.vtd_builder.proofs.Placed.{placed_end}
-use Rattle.xml_items.specs.Shown.{item_kind}
 use Rattle.xml_acceptance.specs.Machine.{item_tokens, level_after, items_tokens}
 use Rattle.xml_acceptance.proofs.Tokens.{tokens_whole}
 use Rattle.vtd_builder.specs.Offered.{CanOffer, record_words, Outcome, outcome, offer}
-use Rattle.vtd_builder.specs.Found.{level_by}
 use Rattle.vtd_builder.proofs.InParts.{Test, Offers, can_first, offers_more, offers_stopped, offers_all}
 use Rattle.vtd_builder.proofs.Counted.{begun_meets, item_long, items_few, items_rise}
 
@@ -72,18 +70,6 @@ can_all bytes nest small a =
     }
 
 -- ---- one item
-
-pub level_is : (i : Item) (level : ℕ) → level_after i level ≡ level_by (item_kind i) level
-level_is (leaf (Leaf.text x)) level = refl
-level_is (leaf (Leaf.cdata x)) level = refl
-level_is (leaf (Leaf.comment x)) level = refl
-level_is (leaf (Leaf.instruction x)) level = refl
-level_is (leaf (Leaf.declaration x)) level = refl
-level_is (leaf (Leaf.doctype x)) level = refl
-level_is (start_tag t) level = omega arith
-level_is (empty_tag t) level = refl
-level_is (end_tag name space) zero = refl
-level_is (end_tag name space) (suc n) = omega arith
 
 -- a start tag's own record bounds the elements that stand open
 pub level_low : (i : Item) (level at count : ℕ) → CanOffer count (item_tokens level at i) → level ≤ 256 → level_after i level ≤ 256

@@ -8,4 +8,5 @@ pub mod Counted
 pub mod Going
 pub mod Refused
 pub mod TagFacts
-pub mod TagMarks
+pub mod Beginnings
+pub mod Passing

@@ -4,7 +4,7 @@ use Rattle.std.specs.Prelude.{codes, ◌&&◌, ◌==◌}
 use Rattle.std.specs.List.{list_all, prefix_len}
 use Rattle.std.proofs.lemmas.Bool.{and_parts, false≢true, eqb-true, eq-eqb}
 use Rattle.xml_model.specs.Chars.{size, is_space, is_white, is_name, is_blank}
-use Rattle.xml_model.specs.Items.{Attribute, Tag, Item, leaf, start_tag, empty_tag, end_tag, written, written_tag, written_attribute, written_attributes, meets, meets_tag, meets_attribute, spelling, begins_at}
+use Rattle.xml_model.specs.Items.{Attribute, Tag, Leaf, text, cdata, declaration, doctype, Item, leaf, start_tag, empty_tag, end_tag, written, written_tag, written_attribute, written_attributes, meets, meets_tag, meets_attribute, spelling, begins_at}
 use Rattle.xml_model.specs.Records.{Token, word, attributes_tokens}
 use Rattle.xml_model.specs.declared.Span.{Span}
 use Rattle.vtd_builder.specs.Offered.{outcome, offer, CanOffer}
@@ -12,10 +12,12 @@ use Rattle.vtd_builder.proofs.InParts.{Test, offer_ok, offer_err, offer_count, c
 use lib.Utf8.{encode}
 use Rattle.xml_chars.specs.Places.{span_from}
 use Rattle.xml_chars.proofs.StandLemmas.{size-append}
+use Rattle.xml_items.specs.Shown.{leaf_kind, item_kind}
+use Rattle.vtd_builder.specs.declared.offers.Beginning.TheVariants as beginnings
 use Rattle.xml_items.proofs.SpanLemmas.{spelled, size_1}
 use Rattle.xml_acceptance.specs.Machine.{item_tokens, level_after}
 use Rattle.vtd_builder.specs.Found.{IsWithin, named_span}
-use Rattle.vtd_builder.specs.Cuts.{in_name, is_close, Placed, past_name, AttributesAt, is_tag_item, IsPast}
+use Rattle.vtd_builder.specs.Cuts.{in_name, is_close, Placed, past_name, AttributesAt, beginning_of, IsPast}
 use Rattle.vtd_builder.proofs.Placed.{placed_front, placed_back, placed_as, placed_span}
 use Rattle.vtd_builder.proofs.Recorded.{named_is, item_placed}
 use Rattle.vtd_builder.proofs.Counted.{begun_meets}
@@ -111,10 +113,18 @@ size_slash : size (codes "/>") ≡ 2
 unfolding size encode
 size_slash = refl
 
-pub tag_facts : (i : Item) (bytes : List ℕ) (at level : ℕ) → at ≤ length bytes → begins_at bytes at i ≡ true → is_tag_item i ≡ true → TagFacts bytes at level i
+no_leaf : (x : Leaf) → beginning_of (leaf_kind x) ≡ beginnings.Tag → ⊥
+no_leaf (text ps) h = cc
+no_leaf (cdata cs) h = cc
+no_leaf (Leaf.comment cs) h = cc
+no_leaf (Leaf.instruction i) h = cc
+no_leaf (declaration d) h = cc
+no_leaf (doctype d) h = cc
+
+pub tag_facts : (i : Item) (bytes : List ℕ) (at level : ℕ) → at ≤ length bytes → begins_at bytes at i ≡ true → beginning_of (item_kind i) ≡ beginnings.Tag → TagFacts bytes at level i
 unfolding meets
-tag_facts (leaf x) bytes at level within h k = absurd (false≢true k)
-tag_facts (end_tag name space) bytes at level within h k = absurd (false≢true k)
+tag_facts (leaf x) bytes at level within h k = absurd (no_leaf x k)
+tag_facts (end_tag name space) bytes at level within h k = absurd cc
 tag_facts (start_tag t) bytes at level within h k =
     let c = common bytes at level t 62 [] (begun_meets bytes at (start_tag t) h) (omega arith) refl
     (placed_as bytes at (written (start_tag t)) (codes "<" ++ (t.name ++ (written_attributes t.attributes ++ (t.space ++ codes ">")))) (start_split t.name (written_attributes t.attributes) t.space) (item_placed bytes at (start_tag t) within h)) in
@@ -193,7 +203,7 @@ pub record Named (bytes : List ℕ) (at level e : ℕ) (i : Item) : Type 0 where
   pub closing : Closing bytes at level i (e + size (written_attributes xs) + size space)
   pub inside : e + size (written_attributes xs) + size space < length bytes
 
-pub named_of : (i : Item) (bytes : List ℕ) (at level e : ℕ) → at ≤ length bytes → begins_at bytes at i ≡ true → is_tag_item i ≡ true → e ≡ at + 1 + prefix_len in_name (drop (at + 1) bytes) → Named bytes at level e i
+pub named_of : (i : Item) (bytes : List ℕ) (at level e : ℕ) → at ≤ length bytes → begins_at bytes at i ≡ true → beginning_of (item_kind i) ≡ beginnings.Tag → e ≡ at + 1 + prefix_len in_name (drop (at + 1) bytes) → Named bytes at level e i
 named_of i bytes at level e within b t h =
     let f = tag_facts i bytes at level within b t in
     let place : at + 1 + size f.tag.name ≡ e = sym (h ∙ ap (λ (m : ℕ). at + 1 + m) f.name) in

@@ -1,15 +1,19 @@
 -- Where the parts of a tag lie, told by the bytes that end them (this project's own). The tag is one of an accepted document.
-use Rattle.std.specs.Prelude.{◌≡◌, ℕ, ◌+◌, ◌≤◌, Bool, true, false, ◌&&◌, ◌||◌, ◌==◌, not, nat_le, nat_lt, slice_index, bytes_eq, Result, Ok, Err, List, [], ◌∷◌, ◌++◌, length, drop, codes, encode_utf8_all}
+use Rattle.std.specs.Prelude.{◌≡◌, ℕ, ◌+◌, ◌≤◌, Bool, true, false, cond, ◌&&◌, ◌||◌, ◌==◌, not, nat_le, nat_lt, slice_index, bytes_eq, Result, Ok, Err, List, [], ◌∷◌, ◌++◌, length, drop, codes, encode_utf8_all}
 use Rattle.std.specs.List.{list_all}
 use Rattle.xml_model.specs.Chars.{size, is_space}
-use Rattle.xml_model.specs.Items.{Item, start_tag, empty_tag, spelling, Attribute, quote_char, before_value, written_pieces, written_attributes, meets_attribute}
+use Rattle.xml_model.specs.Items.{Item, spelling, begins_at, Attribute, quote_char, before_value, written_pieces, written_attributes, meets_attribute}
 use Rattle.xml_chars.specs.Places.{span_from}
 use Rattle.xml_items.specs.declared.ItemKind.{ItemKind}
 use Rattle.xml_items.specs.declared.ItemKind.TheVariants as kinds
 use Rattle.vtd_builder.specs.declared.tags.AttributeCut.{AttributeCut}
+use Rattle.xml_items.specs.Shown.{item_kind}
+use Rattle.vtd_builder.specs.declared.offers.Beginning.{Beginning}
+use Rattle.vtd_builder.specs.declared.offers.Beginning.TheVariants as beginnings
 use Rattle.vtd_builder.specs.declared.offers.Reached.{Reached}
 use Rattle.vtd_builder.specs.declared.offers.Passed.{Passed}
-use Rattle.xml_acceptance.specs.Machine.{level_after}
+use Rattle.xml_acceptance.specs.Machine.{item_tokens, level_after}
+use Rattle.vtd_builder.specs.Offered.{CanOffer}
 
 -- no white space, and none of / = >
 abbrev pub in_name : ℕ → Bool
@@ -19,9 +23,9 @@ in_name b = nat_lt 32 b && not (b == 47) && not (b == 61) && not (b == 62)
 abbrev pub is_low : ℕ → Bool
 is_low b = nat_le b 32
 
--- no such quote
-abbrev pub in_value : ℕ → ℕ → Bool
-in_value quote b = not (b == quote)
+-- no such byte
+abbrev pub is_other : ℕ → ℕ → Bool
+is_other byte b = not (b == byte)
 
 -- the characters stand at the place, and more bytes follow
 pub record Placed (bytes : List ℕ) (at : ℕ) (cs : List ℕ) : Type 0 where
@@ -65,22 +69,23 @@ abbrev pub counted : Result Reached ℕ → Result ℕ ℕ
 counted (Ok r) = Ok r.count
 counted (Err k) = Err k
 
-abbrev pub is_mark : ℕ → Bool
-is_mark b = b == 47 || b == 33 || b == 63
+-- what an item of a kind is by its first bytes
+abbrev pub beginning_of : ItemKind → Beginning
+beginning_of kinds.Text = beginnings.Text
+beginning_of kinds.StartTag = beginnings.Tag
+beginning_of kinds.EmptyTag = beginnings.Tag
+beginning_of kinds.EndTag = beginnings.EndTag
+beginning_of _ = beginnings.Mark
 
--- a < with no such mark behind it
-abbrev pub tag_by : List ℕ → ℕ → Bool
-tag_by bytes at = slice_index bytes at == 60 && (nat_lt (at + 1) (length bytes) && not (is_mark (slice_index bytes (at + 1))))
+-- the same by its first two bytes: a < begins all but a text, and / or one of the marks ! and ? follows it but in a tag
+abbrev pub beginning_by : ℕ → ℕ → Beginning
+beginning_by first second = cond (first == 60) (cond (second == 47) beginnings.EndTag (cond (second == 33 || second == 63) beginnings.Mark beginnings.Tag)) beginnings.Text
 
-abbrev pub is_tag : ItemKind → Bool
-is_tag kinds.StartTag = true
-is_tag kinds.EmptyTag = true
-is_tag _ = false
-
-abbrev pub is_tag_item : Item → Bool
-is_tag_item (start_tag t) = true
-is_tag_item (empty_tag t) = true
-is_tag_item _ = false
+-- an item begins at a place that is such by its first bytes, and its records can be offered
+pub record BeginsAs (bytes : List ℕ) (at level count : ℕ) (beginning : Beginning) (i : Item) : Type 0 where
+  pub begins : begins_at bytes at i ≡ true
+  pub kind : beginning_of (item_kind i) ≡ beginning
+  pub can : CanOffer count (item_tokens level at i)
 
 -- what was passed is an item that begins at a place, with so many elements open round it
 pub record IsPast (at level : ℕ) (i : Item) (p : Passed) : Type 0 where

@@ -4,8 +4,6 @@ use Rattle.xml_model.specs.declared.Span.{Span}
 use Rattle.xml_model.specs.Chars.{prefix_of}
 use Rattle.xml_model.specs.Items.{Item, begins_at}
 use Rattle.xml_model.specs.Records.{Token, name_token}
-use Rattle.xml_items.specs.declared.ItemKind.{ItemKind}
-use Rattle.xml_items.specs.declared.ItemKind.TheVariants as kinds
 use Rattle.xml_items.specs.declared.Item.{Item as ItemShown}
 use Rattle.xml_items.specs.declared.AttributeItem.{AttributeItem}
 use Rattle.xml_items.specs.Shown.{item_shown}
@@ -37,12 +35,6 @@ part_found depth a = plain_span 9 depth a.name ∷ plain_span 10 depth a.value �
 abbrev pub parts_found : ℕ → List AttributeItem → List Token
 parts_found depth [] = []
 parts_found depth (a ∷ others) = part_found depth a ++ parts_found depth others
-
--- how many elements stand open behind an item of a kind
-abbrev pub level_by : ItemKind → ℕ → ℕ
-level_by kinds.StartTag level = level + 1
-level_by kinds.EndTag level = level - 1
-level_by _ level = level
 
 -- the item is found where it begins
 pub record ShowsItem (bytes : List ℕ) (found : ItemShown) (i : Item) : Type 0 where

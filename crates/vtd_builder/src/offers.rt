@@ -1,24 +1,25 @@
 //! The records of one item, offered to a sink in order. Each function is told how many records came before and answers
 //! how many there are then, or as an error the number of the record that the sink refused.
 
-ghost use Rattle.std.specs.Prelude.{◌≡◌, ℕ, List, IfOk, ◌+◌, ◌-◌, ◌<◌, ◌≤◌, ◌^◌, [], ◌∷◌, length, map, true, false};
+ghost use Rattle.std.specs.Prelude.{◌≡◌, ℕ, List, IfOk, ◌+◌, ◌-◌, ◌<◌, ◌≤◌, ◌^◌, [], ◌∷◌, length, map, slice_index, true};
 ghost use Rattle.std.specs.List.{AllByRecursion};
 ghost use Rattle.std.specs.Str.{IsUtf8, IsCharBoundary};
 ghost use Rattle.xml_model.specs.Items.{Item as ModelItem, begins_at};
 ghost use Rattle.xml_model.specs.Records.{word, depth_at};
 ghost use Rattle.vtd_words.specs.Packed.{fits, token_of};
 ghost use Rattle.xml_items.specs.AttributeList.{attributes_left};
+ghost use Rattle.xml_items.specs.Shown.{item_kind};
 ghost use Rattle.xml_acceptance.specs.Machine.{item_tokens};
 ghost use Rattle.vtd_builder.specs.Offered.{offer, outcome, CanOffer};
 ghost use Rattle.xml_model.specs.Chars.{size};
 ghost use Rattle.xml_model.specs.Items.{Attribute, written_attributes};
 ghost use Rattle.xml_model.specs.Records.{attributes_tokens};
-ghost use Rattle.vtd_builder.specs.Cuts.{AttributesAt, closes_tag, counted, is_mark, is_tag, tag_by, is_tag_item, IsPast, passed_count};
-ghost use Rattle.vtd_builder.specs.Found.{bytes_of, IsWithin, plain_span, named_span, attribute_found, part_found, parts_found, level_by, ShowsItem, AreOrdered, HasPlaces};
+ghost use Rattle.vtd_builder.specs.Cuts.{AttributesAt, closes_tag, counted, beginning_of, beginning_by, BeginsAs, IsPast, passed_count};
+ghost use Rattle.vtd_builder.specs.Found.{bytes_of, IsWithin, plain_span, named_span, attribute_found, part_found, parts_found, ShowsItem, AreOrdered, HasPlaces};
 
 use crate::names::{name_token, prefix_len};
 use crate::sink::RecordSink;
-use crate::tags::{attribute_cut, past_name, past_space};
+use crate::tags::{attribute_cut, next_byte, past_name, past_space};
 use vtd_words::{Parts, pack};
 use xml_items::{AttributeItem, Attributes, Item, ItemKind, next_item};
 use xml_model::Span;
@@ -100,6 +101,17 @@ fn offer_attribute<R: RecordSink>(
     let name = name_parts(bytes, token, depth, attribute.name);
     let count = offer(name, count, into)?;
     offer(plain_parts(4, depth, attribute.value), count, into)
+}
+
+/// What an item is by its first bytes.
+#[derive(Clone, Copy, Debug, PartialEq, Eq)]
+enum Beginning {
+    Text,
+    /// A start tag or an empty tag.
+    Tag,
+    EndTag,
+    /// A comment, a CDATA section, an instruction, the XML declaration or a DOCTYPE.
+    Mark,
 }
 
 /// How many records there were, and a place.
@@ -214,7 +226,10 @@ fn depth_of(level: u32) -> u8
     requires { level ≤ 256 }
     ensures { result ≡ depth_at level }
 {
-    if level == 0 { 255 } else { (level - 1) as u8 }
+    match level {
+        0 => 255,
+        _ => (level - 1) as u8,
+    }
 }
 
 /// Offers the records of the tag that begins at a place, with so many elements open round it.
@@ -227,10 +242,10 @@ pub fn offer_tag<R: RecordSink>(
 ) -> Result<Passed, u32>
     requires size { length bytes.now < 2 ^ 30 }
     requires place { at ≤ length bytes.now }
-    requires tag { (i : ModelItem) × (begins_at bytes.now at i ≡ true) × (is_tag_item i ≡ true) × CanOffer count (item_tokens level at i) }
-    ensures outcome { (i : ModelItem) → begins_at bytes.now at i ≡ true → is_tag_item i ≡ true → CanOffer count (item_tokens level at i) →
+    requires tag { (i : ModelItem) × BeginsAs bytes.now at level count Beginning.Tag i }
+    ensures outcome { (i : ModelItem) → BeginsAs bytes.now at level count Beginning.Tag i →
         outcome (R.taken into.new) (passed_count result) ≡ offer (R.refuses into.old) (R.taken into.old) count (map word (item_tokens level at i)) }
-    ensures passed { (i : ModelItem) → begins_at bytes.now at i ≡ true → is_tag_item i ≡ true → CanOffer count (item_tokens level at i) → IfOk result (IsPast at level i) }
+    ensures passed { (i : ModelItem) → BeginsAs bytes.now at level count Beginning.Tag i → IfOk result (IsPast at level i) }
     ensures rest { R.rest into.new ≡ R.rest into.old }
     ensures test { R.refuses into.new ≡ R.refuses into.old }
 {
@@ -255,8 +270,61 @@ pub fn offer_tag<R: RecordSink>(
     })
 }
 
-/// Offers the records of an item that `next_item` answers and that is no tag, with so many elements open round it.
-fn offer_other<R: RecordSink>(
+/// Offers the record of the text that begins at a place, with so many elements open round it; outside of all elements a text
+/// has none.
+#[inline(always)]
+fn offer_text<R: RecordSink>(
+    bytes: &[u8],
+    at: u32,
+    level: u32,
+    count: u32,
+    into: &mut R,
+) -> Result<Passed, u32>
+    requires size { length bytes.now < 2 ^ 30 }
+    requires place { at ≤ length bytes.now }
+    requires level { level ≤ 256 }
+    requires text { (i : ModelItem) × BeginsAs bytes.now at level count Beginning.Text i }
+    ensures outcome { (i : ModelItem) → BeginsAs bytes.now at level count Beginning.Text i →
+        outcome (R.taken into.new) (passed_count result) ≡ offer (R.refuses into.old) (R.taken into.old) count (map word (item_tokens level at i)) }
+    ensures passed { (i : ModelItem) → BeginsAs bytes.now at level count Beginning.Text i → IfOk result (IsPast at level i) }
+    ensures rest { R.rest into.new ≡ R.rest into.old }
+    ensures test { R.refuses into.new ≡ R.refuses into.old }
+{
+    let end = next_byte(bytes, at, b'<');
+    if level == 0 {
+        return Ok(Passed {
+            count,
+            at: end,
+            level,
+        });
+    }
+    let text = plain_parts(5, depth_of(level), Span { start: at, end });
+    let count = offer(text, count, into)?;
+    Ok(Passed {
+        count,
+        at: end,
+        level,
+    })
+}
+
+/// Passes the end tag that begins at a place, which has no record, with so many elements open round it.
+#[inline(always)]
+fn past_end_tag(bytes: &[u8], at: u32, level: u32, count: u32) -> Passed
+    requires size { length bytes.now < 2 ^ 30 }
+    requires place { at ≤ length bytes.now }
+    requires tag { (i : ModelItem) × BeginsAs bytes.now at level count Beginning.EndTag i }
+    ensures count { result.count ≡ count }
+    ensures passed { (i : ModelItem) → BeginsAs bytes.now at level count Beginning.EndTag i → IsPast at level i result }
+{
+    Passed {
+        count,
+        at: next_byte(bytes, at + 2, b'>') + 1,
+        level: level.saturating_sub(1),
+    }
+}
+
+/// Offers the records of an item that `next_item` answers and that begins with a mark, with so many elements open round it.
+fn offer_marked<R: RecordSink>(
     bytes: &[u8],
     item: Item,
     level: u32,
@@ -267,7 +335,7 @@ fn offer_other<R: RecordSink>(
     requires size { length bytes.now < 2 ^ 30 }
     requires start { item.span.start ≤ length bytes.now }
     requires level { level ≤ 256 }
-    requires kind { is_tag item.kind ≡ false }
+    requires kind { beginning_of item.kind ≡ Beginning.Mark }
     requires item { (i : ModelItem) × ShowsItem bytes.now item i × CanOffer count (item_tokens level item.span.start i) }
     ensures outcome { (i : ModelItem) → ShowsItem bytes.now item i →
         outcome (R.taken into.new) result ≡ offer (R.refuses into.old) (R.taken into.old) count (map word (item_tokens level item.span.start i)) }
@@ -276,13 +344,8 @@ fn offer_other<R: RecordSink>(
 {
     let depth = depth_of(level);
     match item.kind {
-        ItemKind::StartTag | ItemKind::EmptyTag => unreachable!(),
-        ItemKind::EndTag => Ok(count),
-        ItemKind::Text => {
-            if level == 0 {
-                return Ok(count);
-            }
-            offer(plain_parts(5, depth, item.content), count, into)
+        ItemKind::Text | ItemKind::StartTag | ItemKind::EmptyTag | ItemKind::EndTag => {
+            unreachable!()
         }
         ItemKind::Comment => offer(plain_parts(6, depth, item.content), count, into),
         ItemKind::Cdata => offer(plain_parts(11, depth, item.content), count, into),
@@ -292,52 +355,69 @@ fn offer_other<R: RecordSink>(
     }
 }
 
-/// How many elements stand open behind an item.
-#[inline(always)]
-fn level_after(kind: ItemKind, level: u32) -> u32
-    requires { level ≤ 256 }
-    ensures { result ≡ level_by kind level }
+/// Offers the records of the item that begins at a place with a mark, with so many elements open round it. Such items are
+/// few, so they are read again.
+#[inline(never)]
+fn offer_mark<R: RecordSink>(
+    bytes: &[u8],
+    at: u32,
+    level: u32,
+    count: u32,
+    into: &mut R,
+) -> Result<Passed, u32>
+    requires utf8 { IsUtf8 bytes.now }
+    requires size { length bytes.now < 2 ^ 30 }
+    requires place { IsCharBoundary bytes.now at }
+    requires inside { at < length bytes.now }
+    requires level { level ≤ 256 }
+    requires item { (i : ModelItem) × BeginsAs bytes.now at level count Beginning.Mark i }
+    ensures outcome { (i : ModelItem) → BeginsAs bytes.now at level count Beginning.Mark i →
+        outcome (R.taken into.new) (passed_count result) ≡ offer (R.refuses into.old) (R.taken into.old) count (map word (item_tokens level at i)) }
+    ensures passed { (i : ModelItem) → BeginsAs bytes.now at level count Beginning.Mark i → IfOk result (IsPast at level i) }
+    ensures rest { R.rest into.new ≡ R.rest into.old }
+    ensures test { R.refuses into.new ≡ R.refuses into.old }
 {
-    match kind {
-        ItemKind::StartTag => level + 1,
-        ItemKind::EndTag => level.saturating_sub(1),
-        _ => level,
+    let Ok(Some(item)) = next_item(bytes, at) else {
+        unreachable!()
+    };
+    let count = offer_marked(bytes, item, level, count, into)?;
+    Ok(Passed {
+        count,
+        at: item.span.end,
+        level,
+    })
+}
+
+/// What an item is by its first two bytes.
+#[inline(always)]
+fn beginning_by(first: u8, second: u8) -> Beginning
+    ensures { result ≡ beginning_by first second }
+{
+    match (first, second) {
+        (b'<', b'/') => Beginning::EndTag,
+        (b'<', b'!' | b'?') => Beginning::Mark,
+        (b'<', _) => Beginning::Tag,
+        _ => Beginning::Text,
     }
 }
 
-/// Whether the byte behind a `<` tells that no start tag and no empty tag begins there.
+/// The byte at a place, or 0 behind the end.
 #[inline(always)]
-fn is_mark(byte: u8) -> bool
-    ensures { result ≡ is_mark byte }
-{
-    byte == b'/' || byte == b'!' || byte == b'?'
-}
-
-/// Whether a `<` stands at the place, and no mark behind it.
-#[inline(always)]
-fn opens_tag(bytes: &[u8], at: u32) -> bool
-    requires size { length bytes.now < 2 ^ 30 }
-    requires place { at < length bytes.now }
-    ensures { result ≡ tag_by bytes.now at }
+fn byte_at(bytes: &[u8], at: u32) -> u8
+    ensures { result ≡ slice_index bytes.now at }
 {
     let at = at as usize;
-    if bytes[at] != b'<' {
-        return false;
-    }
-    if at + 1 >= bytes.len() {
-        return false;
-    }
-    !is_mark(bytes[at + 1])
+    if at < bytes.len() { bytes[at] } else { 0 }
 }
 
-/// Whether the item at a place is a start tag or an empty tag, by its first two bytes.
+/// What the item at a place is, by its first two bytes.
 #[inline(always)]
-fn begins_tag(bytes: &[u8], at: u32) -> bool
+fn beginning_at(bytes: &[u8], at: u32) -> Beginning
     requires size { length bytes.now < 2 ^ 30 }
     requires place { at < length bytes.now }
-    ensures { (i : ModelItem) → begins_at bytes.now at i ≡ true → result ≡ is_tag_item i }
+    ensures { (i : ModelItem) → begins_at bytes.now at i ≡ true → result ≡ beginning_of (item_kind i) }
 {
-    opens_tag(bytes, at)
+    beginning_by(byte_at(bytes, at), byte_at(bytes, at + 1))
 }
 
 /// Offers the records of the item at a place, with so many elements open round it.
@@ -360,16 +440,10 @@ pub fn offer_item<R: RecordSink>(
     ensures rest { R.rest into.new ≡ R.rest into.old }
     ensures test { R.refuses into.new ≡ R.refuses into.old }
 {
-    if begins_tag(bytes, at) {
-        return offer_tag(bytes, at, level, count, into);
+    match beginning_at(bytes, at) {
+        Beginning::Text => offer_text(bytes, at, level, count, into),
+        Beginning::Tag => offer_tag(bytes, at, level, count, into),
+        Beginning::EndTag => Ok(past_end_tag(bytes, at, level, count)),
+        Beginning::Mark => offer_mark(bytes, at, level, count, into),
     }
-    let Ok(Some(item)) = next_item(bytes, at) else {
-        unreachable!()
-    };
-    let count = offer_other(bytes, item, level, count, into)?;
-    Ok(Passed {
-        count,
-        at: item.span.end,
-        level: level_after(item.kind, level),
-    })
 }
