@@ -21,7 +21,7 @@ use Rattle.vtd_program.specs.declared.commands.Command.TheVariants.{Skip, Elemen
 use Rattle.vtd_program.specs.declared.running.Status.{Status}
 use Rattle.vtd_program.specs.declared.running.Status.TheVariants as statuses
 use Rattle.vtd_program.specs.Lines.{lines, command}
-use Rattle.vtd_program.specs.Meaning.{Outcome, Means, MeansName, MeansFile, MeansDocument, too_long, unfit, accepted, document_name, document_limit, script_limit, listed_in, fault_words, scripted, carried_out, step, refused, refused_line, usage_line, SendsAll, SendsFront, SendsAs, EndsUnfit, EndsAs, Ran, RanScript, Carries, CarriesTo, IsBuilt, ReadsDocument, IsFront, IsEnd, IsMeant, RanExactly, DocumentCause}
+use Rattle.vtd_program.specs.Meaning.{Outcome, Means, MeansName, MeansFile, MeansDocument, too_long, unfit, accepted, document_name, document_limit, script_limit, listed_in, fault_words, scripted, carried_out, step, refused, refused_line, usage_line, SendsAll, SendsFront, SendsAs, EndsUnfit, EndsAs, Ran, RanScript, Carries, CarriesTo, IsBuilt, ReadsDocument, IsFront, IsKnown, IsMeant, RanExactly, DocumentCause}
 use Rattle.vtd_program.specs.declared.running.NoDocument.{NoDocument}
 use Rattle.vtd_program.specs.declared.running.NoDocument.TheVariants as no
 
@@ -144,14 +144,14 @@ ends_unread m script left statuses.WriteFault r h = absurd h
 ends_unread m script left statuses.FileFault r h = absurd h
 ends_unread m script left statuses.NoMemory r h = (no_output m, refl)
 
-no_end : (status : Status) → EndsEmpty status → IsEnd status → ⊥
-no_end statuses.Done h e = h
-no_end statuses.Refused h e = h
-no_end statuses.Usage h e = h
-no_end statuses.ReadFault h e = e
-no_end statuses.WriteFault h e = e
-no_end statuses.FileFault h e = e
-no_end statuses.NoMemory h e = e
+not_known : (status : Status) → EndsEmpty status → IsKnown status → ⊥
+not_known statuses.Done h k = h
+not_known statuses.Refused h k = h
+not_known statuses.Usage h k = h
+not_known statuses.ReadFault h k = h
+not_known statuses.WriteFault h k = h
+not_known statuses.FileFault h k = k
+not_known statuses.NoMemory h k = k
 
 same_taken : (before : List ℕ) (o : Option (List ℕ)) → o ≡ Some before → o ≡ Some (before ++ [])
 same_taken before o e = e ∙ ap (λ (xs : List ℕ). Some xs) (sym (append-nil before))
@@ -223,7 +223,7 @@ means_accepted bytes script m l nest p (accepted b s h other q) = (other, q, ref
 pub ran_empty : (words : List (List ℕ)) (files : NameMap) (script out err : List ℕ) (left_now out_now err_now : Option (List ℕ)) (status : Status) → left_now ≡ Some script → out_now ≡ Some out → err_now ≡ Some err → EndsEmpty status
     → Ran words files script out err left_now out_now err_now status
 ran_empty words files script out err l o e status el eo ee s =
-    record { out = []; err = []; left = script; out_taken = same_taken out o eo; err_taken = same_taken err e ee; script_left = el; means = λ i. absurd (no_end status s i); ends = λ m h. ends_empty m script status s }
+    record { out = []; err = []; left = script; out_taken = same_taken out o eo; err_taken = same_taken err e ee; script_left = el; means = λ i. absurd (not_known status s i); ends = λ m h. ends_empty m script status s }
 
 pub ran_refused : (words : List (List ℕ)) (files : NameMap) (text script out err : List ℕ) (left_now out_before out_now err_now : Option (List ℕ)) (faults_before faults : ℕ) (status : Status)
     → Means words files script (refused text false script) → ((m : Outcome) → Means words files script m → m ≡ refused text false script) → left_now ≡ Some script → out_before ≡ Some out → err_now ≡ Some err
@@ -382,6 +382,13 @@ no_run_without_meaning None files script none = none _ refl
 no_run_without_meaning (Some name) files script none = none_file (files name) script none
 
 -- ---- exactly the meaning
+
+-- the statuses of a run that was not cut short
+abbrev pub IsEnd : Status → Type 0
+IsEnd statuses.Done = Unit {0}
+IsEnd statuses.Refused = Unit {0}
+IsEnd statuses.Usage = Unit {0}
+IsEnd _ = ⊥
 
 made_exact : {words : List (List ℕ)} {files : NameMap} {script out err : List ℕ} {left_now out_now err_now : Option (List ℕ)} {status : Status} (r : Ran words files script out err left_now out_now err_now status)
     (m : (o : Outcome) × Means words files script o) → IsMeant m.0 r.out r.err r.left status → RanExactly words files script out err left_now out_now err_now status

@@ -156,12 +156,11 @@ EndsAs m script out err left statuses.WriteFault = IsFront out m.out × IsFront 
 EndsAs m script out err left statuses.FileFault = (out ≡ []) × (err ≡ []) × (left ≡ script)
 EndsAs m script out err left statuses.NoMemory = IsFront out m.out × (err ≡ [])
 
--- the statuses of a run that was not cut short
-abbrev pub IsEnd : Status → Type 0
-IsEnd statuses.Done = Unit {0}
-IsEnd statuses.Refused = Unit {0}
-IsEnd statuses.Usage = Unit {0}
-IsEnd _ = ⊥
+-- the statuses that come only where it is known what the run means: the words are not of the form, or the document was read
+abbrev pub IsKnown : Status → Type 0
+IsKnown statuses.FileFault = ⊥
+IsKnown statuses.NoMemory = ⊥
+IsKnown _ = Unit {0}
 
 -- a run over objects that tell their bytes: what was taken in it, what is left of the script, and how it ends
 pub record Ran (words : List (List ℕ)) (files : NameMap) (script out_before err_before : List ℕ) (left_after out_after err_after : Option (List ℕ)) (status : Status) : Type 0 where
@@ -171,7 +170,7 @@ pub record Ran (words : List (List ℕ)) (files : NameMap) (script out_before er
   pub out_taken : out_after ≡ Some (out_before ++ out)
   pub err_taken : err_after ≡ Some (err_before ++ err)
   pub script_left : left_after ≡ Some left
-  pub means : IsEnd status → (m : Outcome) × Means words files script m
+  pub means : IsKnown status → (m : Outcome) × Means words files script m
   pub ends : (m : Outcome) → Means words files script m → EndsAs m script out err left status
 
 -- a run that leaves exactly what the words, the files and the script mean

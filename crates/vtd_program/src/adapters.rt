@@ -8,7 +8,7 @@ use std::io::{Read, Write};
 use std::rt::Files as Runtime;
 use vtd_outside::{Failed, Files, Sink, Source};
 
-/// The bytes of a reader of the system, standard input in `main`.
+/// The bytes of a reader of the system, standard input in `main`. Each read that fails counts as a fault.
 #[derive(Drop)]
 pub struct Input<R> {
     inner: R,
@@ -73,7 +73,7 @@ impl<W: Write> Sink for Output<W> {
     }
 }
 
-/// The files of the system.
+/// The files of the system. One at a time is read, and none is written; each call that fails counts as a fault.
 #[derive(Drop)]
 pub struct SystemFiles<'r, R: Runtime> {
     rt: &'r R,

@@ -5,8 +5,8 @@ ghost use Rattle.vtd_program.specs.Lines.{IsLine, EndsLine, IsUnended, IsBeforeR
 
 use memchr::memchr;
 
-/// A line of a script: its bytes from `start` to `end`, and where the next line begins. The line end belongs to
-/// neither.
+/// A line of a script: its bytes are those from `start` to `end`, without the line end, and the next line begins at
+/// `next`.
 #[derive(Clone, Copy, Debug, PartialEq, Eq)]
 pub struct Line {
     pub start: u32,
@@ -21,7 +21,7 @@ pub enum Command {
     Skip,
     /// The list of all elements.
     Elements,
-    /// What no command is.
+    /// Something that is no command.
     Unknown,
 }
 
@@ -49,7 +49,7 @@ fn before_return(script: &[u8], from: usize, end: usize) -> usize
     }
 }
 
-/// The line that begins at `at`, or `None` exactly at the end of the script.
+/// The first line of what stands from `at` on, or `None` exactly at the end of the script.
 pub fn next_line(script: &[u8], at: u32) -> Option<Line>
     requires place { at ≤ length script.now }
     requires size { length script.now ≤ 16777216 }

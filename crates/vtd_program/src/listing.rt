@@ -65,6 +65,9 @@ fn span_lines(alloc: Global, spans: &[Span]) -> Result<Vec<u8>, NoMemory>
 
 /// The lines of the command `elements`: how many elements the document has, and the start and the length of each, in
 /// document order.
+///
+/// # Errors
+/// `NoMemory` where the memory for the lines was not to be had.
 pub fn element_lines(alloc: Global, doc: &Doc) -> Result<Vec<u8>, NoMemory>
     ensures { IfOk result (λ lines. (nest : Forest) → IsNavOf doc.now.bytes doc.now.words nest → lines.items ≡ listed nest (first_place doc.now.bytes)) }
 {
@@ -117,7 +120,10 @@ fn fault_place(fault: DocFault) -> u32
     }
 }
 
-/// The line of a document that is refused.
+/// The line of a document that is refused: `refused`, the words of the fault, and its place.
+///
+/// # Errors
+/// `NoMemory` where the memory for the line was not to be had.
 #[tactic(auto, unfolding(crate::specs::Meaning::fault_words))]
 pub fn fault_line(alloc: Global, fault: DocFault) -> Result<Vec<u8>, NoMemory>
     ensures { IfOk result (λ line. line.items ≡ refused_line (fault_words fault)) }

@@ -2,9 +2,9 @@
 #![tactic(auto)]
 
 mod adapters;
-mod commands;
+pub mod commands;
 mod listing;
-mod running;
+pub mod running;
 mod spans;
 #[cfg(test)]
 mod tests;

@@ -26,17 +26,17 @@ const SCRIPT_LIMIT: u32 = 16_777_216;
 pub enum Status {
     /// Every command was carried out.
     Done,
-    /// The document, the script or a command was refused.
+    /// The document, the script or a command was refused, and one line said so.
     Refused,
-    /// The words are not of the form.
+    /// The words are not of the form, and the usage line was sent.
     Usage,
-    /// The script could not be read.
+    /// The script could not be read to its end.
     ReadFault,
-    /// A line could not be sent.
+    /// What was to be sent could not be, or only a front of it.
     WriteFault,
-    /// A file could not be read, or is not there.
+    /// The document is not there, or could not be read.
     FileFault,
-    /// Memory was not to be had.
+    /// There was no memory.
     NoMemory,
 }
 
@@ -163,13 +163,17 @@ fn carry_out<K: Sink>(alloc: Global, doc: &Doc, script: &[u8], out: &mut K) -> S
 
 /// Runs the program: reads the document that the words name, then the script, and carries out its commands in turn.
 ///
-/// `words` are those behind the program's name. Where they are not of the form `DOC`, `err` takes the usage line. A
-/// document or a command that is refused prints one line on `out`; the files stay.
+/// `words` are those behind the program's name. Where they are not one word that does not begin with `-`, `err` takes
+/// the usage line. A document, a script or a command that is refused prints one line on `out`. No file may be being
+/// written at the call; the files stay as they are.
+///
+/// What is meant, `Means` of `specs/Meaning.antt` says. Where the objects tell their bytes, `Done`, `Refused` and
+/// `Usage` come only with exactly what is meant, and at every other status the output is a front of it.
 ///
 /// # Errors
-/// `ReadFault` only where the count of faults of `script` rose in this call, `WriteFault` only where that of `out` did,
-/// or of `err` where the words are not of the form, `FileFault` only where the name is not there or the proper count of
-/// `files` rose. `NoMemory` may come at any time. The output is then a front of what the run means.
+/// `ReadFault` only where the count of faults of `script` rose in this call; `WriteFault` only where that of `out` did,
+/// or that of `err` where the words are not of the form; `FileFault` only where the name is told not to be there or the
+/// proper count of `files` rose. `NoMemory` may come at any time.
 pub fn run<F: Files, S: Source, K: Sink, E: Sink>(
     alloc: Global,
     words: &[String],

@@ -245,3 +245,133 @@ fn adapters(rt: HostRuntime) -> Result<(), Fail> {
     assert!(rt; files.begin_read("there is no such file").is_err());
     Ok(())
 }
+
+/// A document of 195 bytes with items of all nine kinds.
+const ALL_KINDS: &[u8] = b"<?xml version=\"1.0\" encoding=\"UTF-8\"?>
+<!DOCTYPE a [<!ELEMENT a ANY>]>
+<!-- all kinds of items -->
+<?go on?>
+<a xmlns:n=\"u\" b=\"1\" c='&lt;'>caf\xc3\xa9 &amp; &#65;<![CDATA[ <x> & ]]><n:e d=\"2\"/>end</a>
+";
+
+/// Its elements.
+const ALL_KINDS_LISTED: &str = "nodes 2\nelement 109 85\nelement 175 12\n";
+
+/// What the line of a refused document has before the place.
+const REFUSALS: [&str; 11] = [
+    "refused utf8 ",
+    "refused syntax ",
+    "refused entity ",
+    "refused encoding ",
+    "refused nesting ",
+    "refused depth ",
+    "refused width token ",
+    "refused width name ",
+    "refused width prefix ",
+    "refused twice ",
+    "refused namespace ",
+];
+
+/// Bytes that end or begin something, and bytes that are no text.
+const TELLING: &[u8] = b"<>&;\"'/!?[]-=:# \t\n\rabnx019\0\x7f\x80\xbf\xc3\xef\xf0\xff";
+
+/// The document with one byte changed.
+fn changed(alloc: Global, place: usize, byte: u8) -> Result<Vec<u8>, AllocError> {
+    let mut doc = ALL_KINDS.to_vec(alloc)?;
+    if let Some(slot) = doc.get_mut(place) {
+        *slot = byte;
+    }
+    Ok(doc)
+}
+
+/// The number that stands alone between a front and an end.
+fn number_in(text: &str, front: &str, end: &str) -> Option<usize> {
+    let digits = text.strip_prefix(front)?.strip_suffix(end)?;
+    digits.parse::<usize>().ok()
+}
+
+/// Whether an answer is one refusal of a document, at a place within it.
+fn is_refusal(answer: &str, length: usize) -> bool {
+    for front in REFUSALS {
+        if let Some(at) = number_in(answer, front, "\n") {
+            return at <= length;
+        }
+    }
+    false
+}
+
+/// Whether an answer has as many lines of elements as its first line says.
+fn is_listing(answer: &str) -> bool {
+    let Some((first, lines)) = answer.split_once("\n") else {
+        return false;
+    };
+    number_in(first, "nodes ", "") == Some(lines.matches("element ").count())
+        && lines.matches("\n").count() == lines.matches("element ").count()
+}
+
+/// Whether a run over a document of this length was answered by name.
+fn is_named(got: &Answer, length: usize) -> bool {
+    let Ok(answer) = str::from_utf8(got.out.taken()) else {
+        return false;
+    };
+    match got.status {
+        Status::Done => is_listing(answer),
+        Status::Refused => is_refusal(answer, length),
+        _ => false,
+    }
+}
+
+/// The first telling byte that has no named answer in a place of the document.
+fn unnamed_at(alloc: Global, place: usize) -> Result<Option<u8>, Fail> {
+    for byte in TELLING {
+        let doc = changed(alloc, place, *byte)?;
+        let got = run_over(alloc, &["doc"], &doc, "elements", NO_FAULT)?;
+        if !is_named(&got, doc.len()) {
+            return Ok(Some(*byte));
+        }
+    }
+    Ok(None)
+}
+
+#[test]
+fn every_changed_byte(rt: HostRuntime) -> Result<(), Fail> {
+    for place in 0..ALL_KINDS.len() {
+        assert_eq!(rt; unnamed_at(rt.alloc(), place)?, None, "at {place}");
+    }
+    Ok(())
+}
+
+#[test]
+fn changed_bytes(rt: HostRuntime) -> Result<(), Fail> {
+    let rows = [
+        (0, b'x', "refused nesting 0\n"),
+        (15, b'2', "refused syntax 0\n"),
+        (30, b'V', "refused encoding 30\n"),
+        (49, b'b', ALL_KINDS_LISTED),
+        (94, b'-', "refused syntax 71\n"),
+        (101, b' ', "refused syntax 99\n"),
+        (109, b'>', "refused nesting 108\n"),
+        (112, b'y', "refused namespace 112\n"),
+        (118, b'm', "refused namespace 176\n"),
+        (124, b'c', "refused twice 130\n"),
+        (134, b'x', "refused entity 133\n"),
+        (139, b'<', "refused syntax 139\n"),
+        (141, b'\0', "refused syntax 139\n"),
+        (142, b'x', "refused utf8 143\n"),
+        (143, b'x', "refused utf8 142\n"),
+        (152, b'q', "refused entity 151\n"),
+        (170, b'<', ALL_KINDS_LISTED),
+        (172, b'x', "refused syntax 156\n"),
+        (176, b'm', "refused namespace 176\n"),
+        (185, b' ', "refused nesting 190\n"),
+        (191, b'b', "refused nesting 195\n"),
+        (192, b'b', "refused nesting 190\n"),
+        (194, b'x', "refused nesting 194\n"),
+    ];
+    for (place, byte, out) in rows {
+        let doc = changed(rt.alloc(), place, byte)?;
+        let got = run_over(rt.alloc(), &["doc"], &doc, "elements", NO_FAULT)?;
+        assert_eq!(rt; got.out.taken(), out.as_bytes(), "at {place}");
+    }
+    Ok(())
+}
