@@ -11,7 +11,7 @@ use Rattle.std.specs.Result.{IsErrAnd}
 use Rattle.std.proofs.lemmas.Result.{err_from_is_err_and}
 use Rattle.xpath_tokens.specs.declared.Fault.{Fault}
 use Rattle.xpath_tokens.specs.declared.Fault.TheVariants.{Syntax, NoMemory}
-use Rattle.xpath_tokens.specs.Words.{is_ncname_start, is_ncname_char, word_len, IsFound}
+use Rattle.xpath_tokens.specs.Words.{is_ncname_start, is_ncname_char, word_length, IsFound}
 use Rattle.xpath_tokens.specs.Reading.{token_of}
 use Rattle.xpath_tokens.proofs.Runs.{and_parts, ncname_cons, ncname_nil}
 use Rattle.xpath_tokens.proofs.Reading.{is_read, read_is}
@@ -178,18 +178,18 @@ none_list : (cs : List ℕ) → length cs ≡ 0 → cs ≡ []
 none_list [] h = refl
 none_list (c ∷ cs) h = absurd (omega arith)
 
-pub is_longest : (cs : List ℕ) → word_len cs ≤ length cs → IsLongest (take (word_len cs) cs) (drop (word_len cs) cs)
+pub is_longest : (cs : List ℕ) → word_length cs ≤ length cs → IsLongest (take (word_length cs) cs) (drop (word_length cs) cs)
 is_longest cs h beyond behind e w =
     let n = no_longer behind w in
-    let s : (take (word_len cs) cs ++ beyond) ++ behind ≡ cs = append_assoc (take (word_len cs) cs) beyond behind ∙ ap (λ x. take (word_len cs) cs ++ x) (sym e) ∙ take-append-drop (word_len cs) cs in
-    let m : length (take (word_len cs) cs ++ beyond) ≤ word_len cs = subst (λ x. length (take (word_len cs) cs ++ beyond) ≤ word_len x) s n in
-    let l = length-append (take (word_len cs) cs) beyond in
-    let t = length-take (word_len cs) cs in
+    let s : (take (word_length cs) cs ++ beyond) ++ behind ≡ cs = append_assoc (take (word_length cs) cs) beyond behind ∙ ap (λ x. take (word_length cs) cs ++ x) (sym e) ∙ take-append-drop (word_length cs) cs in
+    let m : length (take (word_length cs) cs ++ beyond) ≤ word_length cs = subst (λ x. length (take (word_length cs) cs ++ beyond) ≤ word_length x) s n in
+    let l = length-append (take (word_length cs) cs) beyond in
+    let t = length-take (word_length cs) cs in
     none_list beyond (omega (arith, m, l, t, h))
 
-pub word_next : {after : Bool} (cs : List ℕ) {t : Token} {ts : List Token} → word_len cs ≢ 0 → word_len cs ≤ length cs → token_of after (take (word_len cs) cs) (drop (word_len cs) cs) ≡ Some t → Splits (closes_operand t) (drop (word_len cs) cs) ts → Splits after cs (t ∷ ts)
+pub word_next : {after : Bool} (cs : List ℕ) {t : Token} {ts : List Token} → word_length cs ≢ 0 → word_length cs ≤ length cs → token_of after (take (word_length cs) cs) (drop (word_length cs) cs) ≡ Some t → Splits (closes_operand t) (drop (word_length cs) cs) ts → Splits after cs (t ∷ ts)
 word_next {after} cs {t} {ts} n h tok d =
-    subst (λ x. Splits after x (t ∷ ts)) (take-append-drop (word_len cs) cs) (next [] (take (word_len cs) cs) (drop (word_len cs) cs) blank_nil (longest_word cs n) (is_longest cs h) (read_is (longest_word cs n) tok) d)
+    subst (λ x. Splits after x (t ∷ ts)) (take-append-drop (word_length cs) cs) (next [] (take (word_length cs) cs) (drop (word_length cs) cs) blank_nil (longest_word cs n) (is_longest cs h) (read_is (longest_word cs n) tok) d)
 
 -- two lists that begin one list: one of them begins the other
 first_parts : {A : Type 0} (us vs us' vs' : List A) → us ++ vs ≡ us' ++ vs' → ((more : List A) × (us' ≡ us ++ more)) ⊎ ((more : List A) × (us ≡ us' ++ more))
@@ -265,11 +265,11 @@ pub record First (after : Bool) (rest : List ℕ) (ts : List Token) : Type 0 whe
   pub token : Token
   pub others : List Token
   pub whole : ts ≡ token ∷ others
-  pub read : token_of after (take (word_len rest) rest) (drop (word_len rest) rest) ≡ Some token
-  pub split : Splits (closes_operand token) (drop (word_len rest) rest) others
-  pub some : word_len rest ≢ 0
+  pub read : token_of after (take (word_length rest) rest) (drop (word_length rest) rest) ≡ Some token
+  pub split : Splits (closes_operand token) (drop (word_length rest) rest) others
+  pub some : word_length rest ≢ 0
 
-pub first_token : {after : Bool} {rest : List ℕ} {ts : List Token} → behind_space rest ≡ rest → rest ≢ [] → word_len rest ≤ length rest → Splits after rest ts → First after rest ts
+pub first_token : {after : Bool} {rest : List ℕ} {ts : List Token} → behind_space rest ≡ rest → rest ≢ [] → word_length rest ≤ length rest → Splits after rest ts → First after rest ts
 first_token {after} {rest} trimmed some within d = this (canon d)
   where
     this : {ts : List Token} → Canon after rest ts → First after rest ts
@@ -277,23 +277,23 @@ first_token {after} {rest} trimmed some within d = this (canon d)
     this (starts w r {t} {ts} e is longest tok d) =
         let h : rest ≡ w ++ r = sym trimmed ∙ e in
         let n = no_longer r is in
-        let m : length w ≤ word_len rest = subst (λ x. length w ≤ word_len x) (sym h) n in
-        let positive : word_len rest ≢ 0 = λ z. word_some is (none_list w (omega (arith, m, z))) in
-        let k : take (word_len rest) rest ++ drop (word_len rest) rest ≡ w ++ r = take-append-drop (word_len rest) rest ∙ h in
-        let ew = same_words (take (word_len rest) rest) (drop (word_len rest) rest) w r (longest_word rest positive) is (is_longest rest within) longest k in
-        let er = same_rests (take (word_len rest) rest) (drop (word_len rest) rest) w r ew k in
+        let m : length w ≤ word_length rest = subst (λ x. length w ≤ word_length x) (sym h) n in
+        let positive : word_length rest ≢ 0 = λ z. word_some is (none_list w (omega (arith, m, z))) in
+        let k : take (word_length rest) rest ++ drop (word_length rest) rest ≡ w ++ r = take-append-drop (word_length rest) rest ∙ h in
+        let ew = same_words (take (word_length rest) rest) (drop (word_length rest) rest) w r (longest_word rest positive) is (is_longest rest within) longest k in
+        let er = same_rests (take (word_length rest) rest) (drop (word_length rest) rest) w r ew k in
         record {
           token = t;
           others = ts;
           whole = refl;
-          read = ap (λ x. token_of after x (drop (word_len rest) rest)) ew ∙ ap (token_of after w) er ∙ is_read tok;
+          read = ap (λ x. token_of after x (drop (word_length rest) rest)) ew ∙ ap (token_of after w) er ∙ is_read tok;
           split = subst (λ x. Splits (closes_operand t) x ts) (sym er) d;
           some = positive;
         }
 
-pub lexed_on : {text : List ℕ} {found : List Token} {after : Bool} {rest : List ℕ} (t : Token) → Lexed text found after rest → rest ≢ [] → word_len rest ≢ 0 → word_len rest ≤ length rest → token_of after (take (word_len rest) rest) (drop (word_len rest) rest) ≡ Some t → Lexed text (found ++ t ∷ []) (closes_operand t) (behind_space (drop (word_len rest) rest))
+pub lexed_on : {text : List ℕ} {found : List Token} {after : Bool} {rest : List ℕ} (t : Token) → Lexed text found after rest → rest ≢ [] → word_length rest ≢ 0 → word_length rest ≤ length rest → token_of after (take (word_length rest) rest) (drop (word_length rest) rest) ≡ Some t → Lexed text (found ++ t ∷ []) (closes_operand t) (behind_space (drop (word_length rest) rest))
 lexed_on {text} {found} {after} {rest} t l some n within tok = record {
-  sound = λ ts d. subst (Splits false text) (sym (append_assoc found (t ∷ []) ts)) (l.sound (t ∷ ts) (word_next rest n within tok (unskip (drop (word_len rest) rest) d)));
+  sound = λ ts d. subst (Splits false text) (sym (append_assoc found (t ∷ []) ts)) (l.sound (t ∷ ts) (word_next rest n within tok (unskip (drop (word_length rest) rest) d)));
   only = λ us d.
       let x = l.only us d in
       let f = first_token l.trimmed some within x.2 in
@@ -301,15 +301,15 @@ lexed_on {text} {found} {after} {rest} t l some n within tok = record {
       let e : f.token ≡ t = cc in (
         f.others,
         x.1 ∙ ap (λ z. found ++ z) (f.whole ∙ ap (λ z. z ∷ f.others) e) ∙ sym (append_assoc found (t ∷ []) f.others),
-        subst (λ z. Splits (closes_operand z) (behind_space (drop (word_len rest) rest)) f.others) e (skip f.split),
+        subst (λ z. Splits (closes_operand z) (behind_space (drop (word_length rest) rest)) f.others) e (skip f.split),
       );
-  trimmed = behind_twice (drop (word_len rest) rest);
+  trimmed = behind_twice (drop (word_length rest) rest);
 }
 
-pub lexed_no_word : {text : List ℕ} {found : List Token} {after : Bool} {rest : List ℕ} → Lexed text found after rest → rest ≢ [] → word_len rest ≡ 0 → (ts : List Token) → Splits false text ts → ⊥
+pub lexed_no_word : {text : List ℕ} {found : List Token} {after : Bool} {rest : List ℕ} → Lexed text found after rest → rest ≢ [] → word_length rest ≡ 0 → (ts : List Token) → Splits false text ts → ⊥
 lexed_no_word l some z ts d = let x = l.only ts d in (first_token l.trimmed some (omega arith) x.2).some z
 
-pub lexed_no_token : {text : List ℕ} {found : List Token} {after : Bool} {rest : List ℕ} → Lexed text found after rest → rest ≢ [] → word_len rest ≤ length rest → token_of after (take (word_len rest) rest) (drop (word_len rest) rest) ≡ None → (ts : List Token) → Splits false text ts → ⊥
+pub lexed_no_token : {text : List ℕ} {found : List Token} {after : Bool} {rest : List ℕ} → Lexed text found after rest → rest ≢ [] → word_length rest ≤ length rest → token_of after (take (word_length rest) rest) (drop (word_length rest) rest) ≡ None → (ts : List Token) → Splits false text ts → ⊥
 lexed_no_token l some within no' ts d = let x = l.only ts d in let f = first_token l.trimmed some within x.2 in let r = f.read in cc
 
 pub lexed_end : {text : List ℕ} {found : List Token} {after : Bool} {rest : List ℕ} → Lexed text found after rest → rest ≡ [] → Splits false text found
