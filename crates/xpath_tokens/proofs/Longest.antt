@@ -57,17 +57,17 @@ qname_word cs n = this (ncname_length cs) (drop (ncname_length cs) cs) refl refl
     this (suc a) [] e h k = subst (λ x. IsQName (take x cs)) (sym (joined_length-suc a [])) (plain (name_at cs a e))
     this (suc a) (c ∷ rest) e h k = subst (λ x. IsQName (take x cs)) (sym (joined_length-suc a (c ∷ rest))) (local a c rest (c == 58) e h refl)
 
-plus_ge : (n m : ℕ) → n ≤ plus_local n m
-plus_ge n zero = omega arith
-plus_ge n (suc m) = rw (plus_local-suc n m) (omega arith)
+plus_at_least : (n m : ℕ) → n ≤ plus_local n m
+plus_at_least n zero = omega arith
+plus_at_least n (suc m) = rw (plus_local-suc n m) (omega arith)
 
-joined_ge : (n : ℕ) (cs : List ℕ) → n ≤ joined_length n cs
-joined_ge zero cs = omega arith
-joined_ge (suc n) [] = rw (joined_length-suc n []) (omega arith)
-joined_ge (suc n) (c ∷ cs) = rw (joined_length-suc n (c ∷ cs)) (this (c == 58))
+joined_at_least : (n : ℕ) (cs : List ℕ) → n ≤ joined_length n cs
+joined_at_least zero cs = omega arith
+joined_at_least (suc n) [] = rw (joined_length-suc n []) (omega arith)
+joined_at_least (suc n) (c ∷ cs) = rw (joined_length-suc n (c ∷ cs)) (this (c == 58))
   where
     this : (b : Bool) → suc n ≤ cond b (plus_local (suc n) (ncname_length cs)) (suc n)
-    this true = plus_ge (suc n) (ncname_length cs)
+    this true = plus_at_least (suc n) (ncname_length cs)
     this false = omega arith
 
 joined_some : (n m : ℕ) (cs : List ℕ) → 0 < n → 0 < m → m ≤ ncname_length cs → n + 1 + m ≤ joined_length n (58 ∷ cs)
@@ -78,12 +78,12 @@ joined_some (suc n) m cs h k l = rw (joined_length-suc n (58 ∷ cs)) (this (ncn
     this zero l = absurd (omega arith)
     this (suc x) l = rw (plus_local-suc (suc n) x) (omega arith)
 
-pub qname_ge : {w : List ℕ} (vs : List ℕ) → IsQName w → length w ≤ qname_length (w ++ vs)
-qname_ge {w} vs (plain h) =
+pub qname_at_least : {w : List ℕ} (vs : List ℕ) → IsQName w → length w ≤ qname_length (w ++ vs)
+qname_at_least {w} vs (plain h) =
     let a = ncname_length-append w vs h in
-    let b = joined_ge (ncname_length (w ++ vs)) (drop (ncname_length (w ++ vs)) (w ++ vs)) in
+    let b = joined_at_least (ncname_length (w ++ vs)) (drop (ncname_length (w ++ vs)) (w ++ vs)) in
     omega arith
-qname_ge vs (prefixed p n h k) =
+qname_at_least vs (prefixed p n h k) =
     let s : (p ++ 58 ∷ n) ++ vs ≡ p ++ 58 ∷ (n ++ vs) = append_assoc p (58 ∷ n) vs in
     let a = ncname_length-colon p (n ++ vs) h in
     let d : drop (ncname_length (p ++ 58 ∷ (n ++ vs))) (p ++ 58 ∷ (n ++ vs)) ≡ 58 ∷ (n ++ vs) = ap (λ x. drop x (p ++ 58 ∷ (n ++ vs))) a ∙ drop_at p (58 ∷ (n ++ vs)) (length p) refl in
@@ -115,8 +115,8 @@ star_some : (n : ℕ) (vs : List ℕ) → 0 < n → star_length n (58 ∷ 42 ∷
 star_some zero vs h = absurd (omega arith)
 star_some (suc n) vs h = star_length-suc n (58 ∷ 42 ∷ vs)
 
-pub any_in_ge : (p vs : List ℕ) → is_ncname p ≡ true → length (p ++ 58 ∷ 42 ∷ []) ≤ any_in_length ((p ++ 58 ∷ 42 ∷ []) ++ vs)
-any_in_ge p vs h =
+pub any_in_at_least : (p vs : List ℕ) → is_ncname p ≡ true → length (p ++ 58 ∷ 42 ∷ []) ≤ any_in_length ((p ++ 58 ∷ 42 ∷ []) ++ vs)
+any_in_at_least p vs h =
     let s : (p ++ 58 ∷ 42 ∷ []) ++ vs ≡ p ++ 58 ∷ (42 ∷ vs) = append_assoc p (58 ∷ 42 ∷ []) vs in
     let a = ncname_length-colon p (42 ∷ vs) h in
     let d : drop (ncname_length (p ++ 58 ∷ 42 ∷ vs)) (p ++ 58 ∷ 42 ∷ vs) ≡ 58 ∷ 42 ∷ vs = ap (λ x. drop x (p ++ 58 ∷ 42 ∷ vs)) a ∙ drop_at p (58 ∷ 42 ∷ vs) (length p) refl in
@@ -158,9 +158,9 @@ number_word cs n = this (run is_decimal_digit cs) (drop (run is_decimal_digit cs
     this a [] e h k = alone a e k
     this a (c ∷ rest) e h k = point a c rest (c == 46) e h refl k
 
-point_ge : (n : ℕ) (cs : List ℕ) → n ≤ point_length n cs
-point_ge n [] = omega arith
-point_ge n (c ∷ cs) = this (c == 46)
+point_at_least : (n : ℕ) (cs : List ℕ) → n ≤ point_length n cs
+point_at_least n [] = omega arith
+point_at_least n (c ∷ cs) = this (c == 46)
   where
     both : (n m : ℕ) → n ≤ with_point n m
     both zero m = omega arith
@@ -170,34 +170,34 @@ point_ge n (c ∷ cs) = this (c == 46)
     this true = both n (run is_decimal_digit cs)
     this false = omega arith
 
-with_point_ge : (n m k : ℕ) → 0 < n + m → m ≤ k → n + 1 + m ≤ with_point n k
-with_point_ge zero m zero h l = absurd (omega arith)
-with_point_ge zero m (suc k) h l = rw (with_point-zero k) (omega arith)
-with_point_ge (suc n) m k h l = rw (with_point-suc n k) (omega arith)
+with_point_at_least : (n m k : ℕ) → 0 < n + m → m ≤ k → n + 1 + m ≤ with_point n k
+with_point_at_least zero m zero h l = absurd (omega arith)
+with_point_at_least zero m (suc k) h l = rw (with_point-zero k) (omega arith)
+with_point_at_least (suc n) m k h l = rw (with_point-suc n k) (omega arith)
 
 digits_some : (ds : List ℕ) → are_digits ds ≡ true → (list_all is_decimal_digit ds ≡ true) × (0 < length ds)
 digits_some [] h = absurd cc
 digits_some (d ∷ ds) h = (h, omega arith)
 
-pub number_ge : {w : List ℕ} (vs : List ℕ) → IsNumber w → length w ≤ number_length (w ++ vs)
-number_ge {w} vs (whole h) =
+pub number_at_least : {w : List ℕ} (vs : List ℕ) → IsNumber w → length w ≤ number_length (w ++ vs)
+number_at_least {w} vs (whole h) =
     let a = run-append is_decimal_digit w vs (digits_some w h).0 in
-    let b = point_ge (run is_decimal_digit (w ++ vs)) (drop (run is_decimal_digit (w ++ vs)) (w ++ vs)) in
+    let b = point_at_least (run is_decimal_digit (w ++ vs)) (drop (run is_decimal_digit (w ++ vs)) (w ++ vs)) in
     omega arith
-number_ge vs (pointed ds es h k) =
+number_at_least vs (pointed ds es h k) =
     let s : (ds ++ 46 ∷ es) ++ vs ≡ ds ++ 46 ∷ (es ++ vs) = append_assoc ds (46 ∷ es) vs in
     let a = run-stop is_decimal_digit ds 46 (es ++ vs) (digits_some ds h).0 refl in
     let d : drop (run is_decimal_digit (ds ++ 46 ∷ (es ++ vs))) (ds ++ 46 ∷ (es ++ vs)) ≡ 46 ∷ (es ++ vs) = ap (λ x. drop x (ds ++ 46 ∷ (es ++ vs))) a ∙ drop_at ds (46 ∷ (es ++ vs)) (length ds) refl in
     let m = run-append is_decimal_digit es vs k in
     let some = (digits_some ds h).1 in
-    let b = with_point_ge (length ds) (length es) (run is_decimal_digit (es ++ vs)) (omega arith) (omega arith) in
+    let b = with_point_at_least (length ds) (length es) (run is_decimal_digit (es ++ vs)) (omega arith) (omega arith) in
     let e : number_length ((ds ++ 46 ∷ es) ++ vs) ≡ with_point (length ds) (run is_decimal_digit (es ++ vs)) = ap number_length s ∙ ap (λ x. point_length x (drop (run is_decimal_digit (ds ++ 46 ∷ (es ++ vs))) (ds ++ 46 ∷ (es ++ vs)))) a ∙ ap (point_length (length ds)) d in
     let l = length-append ds (46 ∷ es) in
     rw e (omega arith)
-number_ge vs (behind_point {es} h) =
+number_at_least vs (behind_point {es} h) =
     let m = run-append is_decimal_digit es vs (digits_some es h).0 in
     let some = (digits_some es h).1 in
-    let b = with_point_ge 0 (length es) (run is_decimal_digit (es ++ vs)) (omega arith) (omega arith) in
+    let b = with_point_at_least 0 (length es) (run is_decimal_digit (es ++ vs)) (omega arith) (omega arith) in
     omega arith
 
 -- literals
@@ -244,8 +244,8 @@ literal_word (q ∷ cs) n = this (is_quote q) (nat_lt (run (is_other q) cs) (len
         subst IsWord (sym (ap (λ x. take x (q ∷ cs)) z ∙ ap (λ x. q ∷ x) (take_past (run (is_other q) cs) 0 cs s.1 q w)))
         (literal q (take (run (is_other q) cs) cs) e (others q (take (run (is_other q) cs) cs) (run-all (is_other q) cs)))
 
-pub literal_ge : (q : ℕ) (t vs : List ℕ) → is_quote q ≡ true → list_any (λ c. c == q) t ≡ false → length (q ∷ (t ++ q ∷ [])) ≤ literal_length ((q ∷ (t ++ q ∷ [])) ++ vs)
-literal_ge q t vs h k =
+pub literal_at_least : (q : ℕ) (t vs : List ℕ) → is_quote q ≡ true → list_any (λ c. c == q) t ≡ false → length (q ∷ (t ++ q ∷ [])) ≤ literal_length ((q ∷ (t ++ q ∷ [])) ++ vs)
+literal_at_least q t vs h k =
     let s : (t ++ q ∷ []) ++ vs ≡ t ++ q ∷ vs = append_assoc t (q ∷ []) vs in
     let o : is_other q q ≡ false = ap not (eq-eqb q q refl) in
     let a = run-stop (is_other q) t q vs (others_back q t k) o in
@@ -277,12 +277,12 @@ qname_some : {w : List ℕ} → IsQName w → 0 < length w
 qname_some {w} (plain h) = ncname_some w h
 qname_some (prefixed p n h k) = let l = length-append p (58 ∷ n) in omega arith
 
-dollar_ge : (n m : ℕ) → 0 < n → n ≤ m → suc n ≤ dollar_length m
-dollar_ge n zero h k = absurd (omega arith)
-dollar_ge n (suc m) h k = rw (dollar_length-suc m) (omega arith)
+dollar_at_least : (n m : ℕ) → 0 < n → n ≤ m → suc n ≤ dollar_length m
+dollar_at_least n zero h k = absurd (omega arith)
+dollar_at_least n (suc m) h k = rw (dollar_length-suc m) (omega arith)
 
-pub variable_ge : {w : List ℕ} (vs : List ℕ) → IsQName w → length (36 ∷ w) ≤ variable_length ((36 ∷ w) ++ vs)
-variable_ge {w} vs q = dollar_ge (length w) (qname_length (w ++ vs)) (qname_some q) (qname_ge vs q)
+pub variable_at_least : {w : List ℕ} (vs : List ℕ) → IsQName w → length (36 ∷ w) ≤ variable_length ((36 ∷ w) ++ vs)
+variable_at_least {w} vs q = dollar_at_least (length w) (qname_length (w ++ vs)) (qname_some q) (qname_at_least vs q)
 
 -- symbols
 pub symbol_word : (cs : List ℕ) → symbol_length cs ≢ 0 → IsWord (take (symbol_length cs) cs)
@@ -299,17 +299,17 @@ symbol_word (c ∷ d ∷ cs) n = this (is_pair c d) (is_single c) refl refl n
     this false true f g k = symbol g
     this false false f g k = absurd (k refl)
 
-pub symbol_ge : (w vs : List ℕ) → is_symbol w ≡ true → length w ≤ symbol_length (w ++ vs)
-symbol_ge [] vs h = absurd cc
-symbol_ge (c ∷ []) [] h = rw h (omega arith)
-symbol_ge (c ∷ []) (d ∷ vs) h = this (is_pair c d) (is_single c) h
+pub symbol_at_least : (w vs : List ℕ) → is_symbol w ≡ true → length w ≤ symbol_length (w ++ vs)
+symbol_at_least [] vs h = absurd cc
+symbol_at_least (c ∷ []) [] h = rw h (omega arith)
+symbol_at_least (c ∷ []) (d ∷ vs) h = this (is_pair c d) (is_single c) h
   where
     this : (b e : Bool) → e ≡ true → 1 ≤ cond b 2 (cond e 1 0)
     this true e k = omega arith
     this false true k = omega arith
     this false false k = absurd cc
-symbol_ge (c ∷ d ∷ []) vs h = rw h (omega arith)
-symbol_ge (c ∷ d ∷ e ∷ w) vs h = absurd cc
+symbol_at_least (c ∷ d ∷ []) vs h = rw h (omega arith)
+symbol_at_least (c ∷ d ∷ e ∷ w) vs h = absurd cc
 
 -- the longest of them
 max_is : (a b : ℕ) → (max a b ≡ a) ⊎ (max a b ≡ b)
@@ -334,9 +334,9 @@ longest_word cs n =
     n
 
 pub no_longer : {w : List ℕ} (vs : List ℕ) → IsWord w → length w ≤ word_length (w ++ vs)
-no_longer {w} vs (symbol h) = let g = symbol_ge w vs h in omega arith
-no_longer vs (name q) = let g = qname_ge vs q in omega arith
-no_longer vs (any_in p h) = let g = any_in_ge p vs h in omega arith
-no_longer vs (literal q t h k) = let g = literal_ge q t vs h k in omega arith
-no_longer vs (number h) = let g = number_ge vs h in omega arith
-no_longer vs (variable q) = let g = variable_ge vs q in omega arith
+no_longer {w} vs (symbol h) = let g = symbol_at_least w vs h in omega arith
+no_longer vs (name q) = let g = qname_at_least vs q in omega arith
+no_longer vs (any_in p h) = let g = any_in_at_least p vs h in omega arith
+no_longer vs (literal q t h k) = let g = literal_at_least q t vs h k in omega arith
+no_longer vs (number h) = let g = number_at_least vs h in omega arith
+no_longer vs (variable q) = let g = variable_at_least vs q in omega arith

@@ -150,13 +150,13 @@ behind_twice (c ∷ cs) = this (behind_twice cs) (is_space c) refl
     this i false e = kept c cs e
 
 -- what a split is behind the white space at the front
-pub data Canon (after : Bool) (cs : List ℕ) : List Token → Type 0 where
-  ended : behind_space cs ≡ [] → Canon after cs []
-  starts : (w rest : List ℕ) {t : Token} {ts : List Token} → behind_space cs ≡ w ++ rest → IsWord w → IsLongest w rest → IsToken after rest w t → Splits (closes_operand t) rest ts → Canon after cs (t ∷ ts)
+pub data Canonical (after : Bool) (cs : List ℕ) : List Token → Type 0 where
+  ended : behind_space cs ≡ [] → Canonical after cs []
+  starts : (w rest : List ℕ) {t : Token} {ts : List Token} → behind_space cs ≡ w ++ rest → IsWord w → IsLongest w rest → IsToken after rest w t → Splits (closes_operand t) rest ts → Canonical after cs (t ∷ ts)
 
-pub canon : {after : Bool} {cs : List ℕ} {ts : List Token} → Splits after cs ts → Canon after cs ts
-canon {cs = cs} (done h) = ended (blank_none cs h)
-canon (next space w rest blank is longest tok d) = starts w rest (blank_skip space (w ++ rest) blank (word_kept rest is)) is longest tok d
+pub canonical : {after : Bool} {cs : List ℕ} {ts : List Token} → Splits after cs ts → Canonical after cs ts
+canonical {cs = cs} (done h) = ended (blank_none cs h)
+canonical (next space w rest blank is longest tok d) = starts w rest (blank_skip space (w ++ rest) blank (word_kept rest is)) is longest tok d
 
 unskip_at : {after : Bool} {cs : List ℕ} {ts : List Token} (before : List ℕ) → is_blank before ≡ true → Splits after cs ts → Splits after (before ++ cs) ts
 unskip_at {cs = cs} before b (done h) = done (blank-append before cs b h)
@@ -167,9 +167,9 @@ pub unskip : {after : Bool} (cs : List ℕ) {ts : List Token} → Splits after (
 unskip {after} cs {ts} d = let b = blank_split cs in subst (λ x. Splits after x ts) (sym b.whole) (unskip_at b.space b.blank d)
 
 pub skip : {after : Bool} {cs : List ℕ} {ts : List Token} → Splits after cs ts → Splits after (behind_space cs) ts
-skip {after} {cs} d = this (canon d)
+skip {after} {cs} d = this (canonical d)
   where
-    this : {ts : List Token} → Canon after cs ts → Splits after (behind_space cs) ts
+    this : {ts : List Token} → Canonical after cs ts → Splits after (behind_space cs) ts
     this (ended h) = subst (λ x. Splits after x []) (sym h) (done blank_nil)
     this (starts w rest {t} {ts} e is longest tok d) = subst (λ x. Splits after x (t ∷ ts)) (sym e) (next [] w rest blank_nil is longest tok d)
 
@@ -220,22 +220,22 @@ pub same_rests : (w r w' r' : List ℕ) → w ≡ w' → w ++ r ≡ w' ++ r' →
 same_rests w r w' r' e h = append_cancel_left w' r r' (ap (λ z. z ++ r) (sym e) ∙ h)
 
 pub one_split : {after : Bool} {cs : List ℕ} {ts us : List Token} → Splits after cs ts → Splits after cs us → ts ≡ us
-one_split {after} {cs} (done h) e = this (canon e)
+one_split {after} {cs} (done h) e = this (canonical e)
   where
-    this : {us : List Token} → Canon after cs us → [] ≡ us
+    this : {us : List Token} → Canonical after cs us → [] ≡ us
     this (ended k) = refl
     this (starts w rest k is longest tok d) = let z = blank_none cs h in absurd (word_some is (nothing w rest (sym k ∙ z)))
       where
         nothing : (w rest : List ℕ) → w ++ rest ≡ [] → w ≡ []
         nothing [] rest h = refl
         nothing (c ∷ w) rest h = absurd cc
-one_split {after} (next space w rest {t} {ts} blank is longest tok d) e = this (λ us f. one_split d f) (canon e)
+one_split {after} (next space w rest {t} {ts} blank is longest tok d) e = this (λ us f. one_split d f) (canonical e)
   where
     nothing : (w rest : List ℕ) → w ++ rest ≡ [] → w ≡ []
     nothing [] rest h = refl
     nothing (c ∷ w) rest h = absurd cc
 
-    this : ((us : List Token) → Splits (closes_operand t) rest us → ts ≡ us) → {us : List Token} → Canon after (space ++ (w ++ rest)) us → t ∷ ts ≡ us
+    this : ((us : List Token) → Splits (closes_operand t) rest us → ts ≡ us) → {us : List Token} → Canonical after (space ++ (w ++ rest)) us → t ∷ ts ≡ us
     this only (ended k) = absurd (word_some is (nothing w rest (sym (blank_skip space (w ++ rest) blank (word_kept rest is)) ∙ k)))
     this only (starts w' rest' {t = t'} {ts = ts'} k is' longest' tok' d') =
         let h : w ++ rest ≡ w' ++ rest' = sym (blank_skip space (w ++ rest) blank (word_kept rest is)) ∙ k in
@@ -270,9 +270,9 @@ pub record First (after : Bool) (rest : List ℕ) (ts : List Token) : Type 0 whe
   pub some : word_length rest ≢ 0
 
 pub first_token : {after : Bool} {rest : List ℕ} {ts : List Token} → behind_space rest ≡ rest → rest ≢ [] → word_length rest ≤ length rest → Splits after rest ts → First after rest ts
-first_token {after} {rest} trimmed some within d = this (canon d)
+first_token {after} {rest} trimmed some within d = this (canonical d)
   where
-    this : {ts : List Token} → Canon after rest ts → First after rest ts
+    this : {ts : List Token} → Canonical after rest ts → First after rest ts
     this (ended h) = absurd (some (sym trimmed ∙ h))
     this (starts w r {t} {ts} e is longest tok d) =
         let h : rest ≡ w ++ r = sym trimmed ∙ e in
