@@ -39,7 +39,7 @@ pub fn closes_operand(token: &Token) -> bool
     )
 }
 
-/// The bracket, point, `@`, comma or `::` that a word is (XPath 1.0, production 28).
+/// The bracket, point, two points, `@`, comma or `::` that a word is (XPath 1.0, production 28); None where it is none.
 fn delimiter(word: &[char]) -> Option<Token>
     ensures { result ≡ find_named delimiters word.now }
 {
@@ -66,7 +66,7 @@ fn delimiter(word: &[char]) -> Option<Token>
     }
 }
 
-/// The operator that a word of signs other than `*` is (XPath 1.0, production 32).
+/// The operator of signs other than `*` that a word is (XPath 1.0, production 32); None where it is none.
 fn operator_sign(word: &[char]) -> Option<Token>
     ensures { result ≡ find_named operator_signs word.now }
 {
@@ -97,7 +97,7 @@ fn operator_sign(word: &[char]) -> Option<Token>
     }
 }
 
-/// The token that a symbol other than `*` is.
+/// The token that a symbol other than `*` is; None where a word is no such symbol.
 fn fixed_token(word: &[char]) -> Option<Token>
     ensures { result ≡ fixed_token word.now }
 {
@@ -107,7 +107,7 @@ fn fixed_token(word: &[char]) -> Option<Token>
     }
 }
 
-/// The operator of that name (XPath 1.0, production 33).
+/// The operator of that name (XPath 1.0, production 33); None where there is none.
 fn operator_name(word: &[char]) -> Option<Token>
     ensures { result ≡ find_named operator_names word.now }
 {
@@ -124,7 +124,7 @@ fn operator_name(word: &[char]) -> Option<Token>
     }
 }
 
-/// The node type of that name (XPath 1.0, production 38).
+/// The node type of that name (XPath 1.0, production 38); None where there is none.
 fn node_type(word: &[char]) -> Option<NodeType>
     ensures { result ≡ find_named node_types word.now }
 {
@@ -141,7 +141,7 @@ fn node_type(word: &[char]) -> Option<NodeType>
     }
 }
 
-/// The axis of that name (XPath 1.0, production 6).
+/// The axis of that name (XPath 1.0, production 6); None where there is none.
 fn axis_name(word: &[char]) -> Option<StepAxis>
     ensures { result ≡ find_named axis_names word.now }
 {
@@ -300,7 +300,7 @@ fn prefix_token(alloc: Global, word: &[char]) -> Result<Token, Fault>
     Ok(Token::AnyIn(text_of(alloc, prefix)?))
 }
 
-/// The kinds of words, which the first characters show.
+/// The kinds of words (XPath 1.0, productions 28 to 37).
 #[derive(Clone, Copy, Debug, PartialEq, Eq)]
 pub enum WordKind {
     /// A bracket, a point or two, `@`, `,`, `::`, `*`, or an operator of signs.
@@ -352,7 +352,7 @@ fn tail(chars: &[char]) -> &[char]
     }
 }
 
-/// The token that a symbol is, behind an operand or not.
+/// The token that a symbol is, behind an operand or not; None where a word is no symbol.
 fn symbol_token(after: bool, word: &[char]) -> Option<Token>
     ensures { result ≡ symbol_token after word.now }
 {

@@ -12,8 +12,7 @@ use xml_chars::{is_name_char, is_name_start};
 pub fn is_space(c: char) -> bool
     ensures { result ≡ is_space c }
 {
-    let code = c as u32;
-    code == 0x20 || (0x9 <= code && code <= 0xA) || code == 0xD
+    matches!(c, ' ' | '\t'..='\n' | '\r')
 }
 
 /// Whether the character is a digit of a number (XPath 1.0, production 31).
