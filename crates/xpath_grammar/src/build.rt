@@ -44,7 +44,7 @@ pub fn negated_times(alloc: Global, count: usize, part: Expr) -> Result<Expr, Fa
     Ok(all)
 }
 
-/// The path that goes its steps from an expression (XPath 1.0, production 19).
+/// The path of these steps from the nodes of an expression (XPath 1.0, production 19).
 pub fn from(alloc: Global, start: Expr, steps: Steps) -> Result<Expr, Fault>
     ensures { Gives result (λ e. tree_of e ≡ from_tree (tree_of start) (walk_of steps)) }
 {
@@ -140,7 +140,7 @@ pub fn behind_slash(alloc: Global, token: &Token, steps: Steps) -> Result<Steps,
     }
 }
 
-/// The path of these steps behind `//` at its front (XPath 1.0, production 10).
+/// The path that begins with `//`, before these steps (XPath 1.0, production 10).
 pub fn deep(alloc: Global, steps: Steps) -> Result<Expr, Fault>
     ensures { Gives result (λ e. tree_of e ≡ path_tree true (any_depth (walk_of steps))) }
 {

@@ -79,7 +79,7 @@ fn scan_next(scan: NumberScan, c: char) -> NumberScan
     }
 }
 
-/// What is known of a whole number.
+/// What is known of a number at its end.
 fn scan_number(text: &str) -> NumberScan
     ensures { result ≡ fold scan_next scan_start (chars text.now) }
 {

@@ -38,7 +38,7 @@ pub struct Signature {
     pub answer: ValueType,
 }
 
-/// A function of any values.
+/// The signature of a function whose arguments are of any type.
 fn takes(least: u8, most: u8, answer: ValueType) -> Signature
     ensures { result ≡ takes least most answer }
 {
@@ -50,7 +50,7 @@ fn takes(least: u8, most: u8, answer: ValueType) -> Signature
     }
 }
 
-/// A function whose first argument is to be a node-set.
+/// The signature of a function whose first argument is to be a node-set.
 fn takes_nodes(least: u8, most: u8, answer: ValueType) -> Signature
     ensures { result ≡ takes_nodes least most answer }
 {
@@ -62,7 +62,7 @@ fn takes_nodes(least: u8, most: u8, answer: ValueType) -> Signature
     }
 }
 
-/// A function of any values, of which it takes any number from the least on.
+/// The signature of a function of any number of arguments from the least on, of any type.
 fn takes_many(least: u8, answer: ValueType) -> Signature
     ensures { result ≡ takes_many least answer }
 {

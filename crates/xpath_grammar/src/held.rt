@@ -27,7 +27,7 @@ impl Model for Binding {
     ghost view = { λ b. (b.prefix, b.uri) };
 }
 
-/// Whether a prefix may be bound to a URI (Namespaces in XML 1.0, section 3).
+/// Whether a prefix may be bound to a URI: a name without a colon other than `xml` and `xmlns`, to a URI that is not empty.
 pub fn can_bind(prefix: &str, uri: &str) -> bool
     ensures { result ≡ can_bind (chars prefix.now) (chars uri.now) }
 {

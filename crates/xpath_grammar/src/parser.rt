@@ -21,19 +21,19 @@ use xpath_tokens::{Fault, StepAxis, Token};
 /// The forms of an expression with an operator between two parts.
 #[derive(Clone, Copy, PartialEq, Eq, Debug)]
 pub enum Binary {
-    /// XPath 1.0, production 21.
+    /// `or` (XPath 1.0, production 21).
     Or,
-    /// XPath 1.0, production 22.
+    /// `and` (XPath 1.0, production 22).
     And,
-    /// XPath 1.0, production 23.
+    /// `=` and `!=` (XPath 1.0, production 23).
     Equality,
-    /// XPath 1.0, production 24.
+    /// `<`, `>`, `<=` and `>=` (XPath 1.0, production 24).
     Relational,
-    /// XPath 1.0, production 25.
+    /// `+` and `-` (XPath 1.0, production 25).
     Additive,
-    /// XPath 1.0, production 26.
+    /// `*`, `div` and `mod` (XPath 1.0, production 26).
     Multiplicative,
-    /// XPath 1.0, production 18.
+    /// `|` (XPath 1.0, production 18).
     Union,
 }
 

@@ -13,7 +13,7 @@ use xpath_tokens::StepAxis;
 
 /// What stands behind the part at the front of an expression.
 pub enum Tail<'a> {
-    /// There is nothing that can be refused.
+    /// Nothing stands there.
     Nothing,
     /// Another operand, of which nodes are needed or not.
     Operand(bool, &'a Expr),

@@ -7,8 +7,8 @@ ghost use Rattle.xpath_grammar.specs.Cutting.{rank, is_minus, leading_minuses, G
 use std::alloc::Global;
 use xpath_tokens::{Comparison, Fault, Operator, Token};
 
-/// How tight a token binds its operands where it stands outside all brackets; 20 where it binds none. `after` says that
-/// the token before it ends an operand.
+/// How tightly a token binds where it stands outside all brackets, or 20 where no list is cut at it. `after` says that the
+/// token before it ends an operand.
 pub fn rank(after: bool, token: &Token) -> u8
     ensures { result ≡ rank after token.now }
 {

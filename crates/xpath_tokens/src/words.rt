@@ -12,7 +12,7 @@ use xml_chars::{is_name_char, is_name_start};
 pub fn is_space(c: char) -> bool
     ensures { result ≡ is_space c }
 {
-    matches!(c, ' ' | '\t'..='\n' | '\r')
+    matches!(c, ' ' | '\t' | '\n' | '\r')
 }
 
 /// Whether the character is a digit of a number (XPath 1.0, production 31).
