@@ -8,7 +8,7 @@ use Rattle.xpath_tokens.specs.declared.Operator.TheVariants.{Subtract}
 use Rattle.xpath_tokens.specs.declared.StepAxis.{StepAxis}
 use Rattle.xpath_tokens.specs.declared.NodeType.TheVariants as kind
 use Rattle.xpath_grammar.specs.declared.expr.StepTest.{StepTest}
-use Rattle.xpath_grammar.specs.Grammar.{Symbol, OrExpr, AndExpr, EqualityExpr, RelationalExpr, AdditiveExpr, MultExpr, UnaryExpr, UnionExpr, PathExpr, FilterExpr, PrimaryExpr, Arguments, LocationPath, RelPath, StepPart, Predicates, Predicate, Phrase, IsAdditive, plus, minus, IsEquality, equal, unequal, IsRelational, less, greater, at_most, at_least, IsMult, times, divided, modulo, Derives, or_one, or_more, and_one, and_more, equality_one, equality_more, relational_one, relational_more, additive_one, additive_more, mult_one, mult_more, unary_one, unary_minus, union_one, union_more, path_location, path_filter, path_slash, path_slash_slash, filter_one, filter_more, primary_bracket, primary_variable, primary_literal, primary_number, call_none, call_some, arguments_one, arguments_more, location_rel, location_root, location_slash, location_slash_slash, rel_one, rel_slash, rel_slash_slash, step, step_dot, step_dots, IsAxis, axis_name, axis_at, axis_child, IsTest, test_any, test_any_in, test_named, test_kind, test_target, predicates_none, predicates_more, predicate, ends, behind, depth, ended, Stands}
+use Rattle.xpath_grammar.specs.Grammar.{Symbol, OrExpr, AndExpr, EqualityExpr, RelationalExpr, AdditiveExpr, MultiplicativeExpr, UnaryExpr, UnionExpr, PathExpr, FilterExpr, PrimaryExpr, Arguments, LocationPath, RelativeLocationPath, StepPart, Predicates, Predicate, Phrase, IsAdditive, plus, minus, IsEquality, equal, unequal, IsRelational, less, greater, at_most, at_least, IsMultiplicative, times, divided, modulo, Derives, or_one, or_more, and_one, and_more, equality_one, equality_more, relational_one, relational_more, additive_one, additive_more, multiplicative_one, multiplicative_more, unary_one, unary_minus, union_one, union_more, path_location, path_filter, path_slash, path_slash_slash, filter_one, filter_more, primary_bracket, primary_variable, primary_literal, primary_number, call_none, call_some, arguments_one, arguments_more, location_relative, location_root, location_slash, location_slash_slash, relative_one, relative_slash, relative_slash_slash, step, step_dot, step_dots, IsAxis, axis_name, axis_at, axis_child, IsTest, test_any, test_any_in, test_named, test_kind, test_target, predicates_none, predicates_more, predicate, ends, behind, depth, ended, Stands}
 use Rattle.xpath_grammar.specs.Cutting.{rank, Free}
 
 pub depth-append : (d : ℕ) (us vs : List Token) → depth d (us ++ vs) ≡ depth (depth d us) vs
@@ -85,12 +85,12 @@ least AndExpr = 2
 least EqualityExpr = 3
 least RelationalExpr = 4
 least AdditiveExpr = 5
-least MultExpr = 6
+least MultiplicativeExpr = 6
 least UnaryExpr = 7
 least UnionExpr = 8
 least PathExpr = 9
 least LocationPath = 9
-least RelPath = 9
+least RelativeLocationPath = 9
 least StepPart = 10
 least FilterExpr = 10
 least Predicates = 10
@@ -111,10 +111,10 @@ pub rank_additive : {op : Operator} → IsAdditive op → rank true (Arithmetic 
 rank_additive plus = refl
 rank_additive minus = refl
 
-pub rank_mult : (b : Bool) {op : Operator} → IsMult op → rank b (Arithmetic op) ≡ 6
-rank_mult b times = refl
-rank_mult b divided = refl
-rank_mult b modulo = refl
+pub rank_multiplicative : (b : Bool) {op : Operator} → IsMultiplicative op → rank b (Arithmetic op) ≡ 6
+rank_multiplicative b times = refl
+rank_multiplicative b divided = refl
+rank_multiplicative b modulo = refl
 
 -- the axis part of a step before something
 axis_ahead : {us ts : List Token} {a : StepAxis} → IsAxis us a → ((b : Bool) → Clean 10 b ts) → (b : Bool) → Clean 10 b (us ++ ts)
@@ -143,8 +143,8 @@ clean (relational_one d) b h = weaker (omega arith) (clean d b h)
 clean (relational_more {how} is c d) b h = between (Compare how) (clean c b h) (clean d false refl) refl (λ d. refl) (rw (rank_relational true is) (omega arith)) (omega arith)
 clean (additive_one d) b h = weaker (omega arith) (clean d b h)
 clean (additive_more {op} is c d) b h = between (Arithmetic op) (clean c b h) (clean d false refl) refl (λ d. refl) (rw (rank_additive is) (omega arith)) (omega arith)
-clean (mult_one d) b h = weaker (omega arith) (clean d b h)
-clean (mult_more {op} is c d) b h = between (Arithmetic op) (clean c b h) (clean d false refl) refl (λ d. refl) (rw (rank_mult true is) (omega arith)) (omega arith)
+clean (multiplicative_one d) b h = weaker (omega arith) (clean d b h)
+clean (multiplicative_more {op} is c d) b h = between (Arithmetic op) (clean c b h) (clean d false refl) refl (λ d. refl) (rw (rank_multiplicative true is) (omega arith)) (omega arith)
 clean (unary_one d) b h = weaker (omega arith) (clean d b tt)
 clean (unary_minus d) b h = rw h (ahead (Arithmetic Subtract) false (omega arith) (λ d. refl) (clean d false refl))
 clean (union_one d) b h = weaker (omega arith) (clean d b tt)
@@ -163,13 +163,13 @@ clean (call_none {f}) b h = ahead (Function f) b (omega arith) (λ d. refl) (bra
 clean (call_some {f} d) b h = ahead (Function f) b (omega arith) (λ d. refl) (round_bracket (omega arith) (clean d false refl))
 clean (arguments_one d) b h = weaker (omega arith) (clean d b h)
 clean (arguments_more c d) b h = between Comma (clean c b h) (clean d false refl) refl (λ d. refl) (omega arith) (omega arith)
-clean (location_rel d) b h = clean d b tt
+clean (location_relative d) b h = clean d b tt
 clean location_root b h = alone Slash b (omega arith) (λ d. refl) refl
 clean (location_slash d) b h = ahead Slash b (omega arith) (λ d. refl) (clean d true tt)
 clean (location_slash_slash d) b h = ahead SlashSlash b (omega arith) (λ d. refl) (clean d false tt)
-clean (rel_one d) b h = weaker (omega arith) (clean d b tt)
-clean (rel_slash c d) b h = between Slash (clean c b tt) (clean d true tt) refl (λ d. refl) (omega arith) (omega arith)
-clean (rel_slash_slash c d) b h = between SlashSlash (clean c b tt) (clean d false tt) refl (λ d. refl) (omega arith) (omega arith)
+clean (relative_one d) b h = weaker (omega arith) (clean d b tt)
+clean (relative_slash c d) b h = between Slash (clean c b tt) (clean d true tt) refl (λ d. refl) (omega arith) (omega arith)
+clean (relative_slash_slash c d) b h = between SlashSlash (clean c b tt) (clean d false tt) refl (λ d. refl) (omega arith) (omega arith)
 clean (step us vs ws axis test d) b h = let k = clean d true refl in axis_ahead axis (λ b. both (test_clean test b) k) b
 clean step_dot b h = alone Dot b (omega arith) (λ d. refl) refl
 clean step_dots b h = alone DotDot b (omega arith) (λ d. refl) refl

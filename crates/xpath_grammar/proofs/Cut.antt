@@ -3,9 +3,9 @@ use Rattle.std.proofs.Common.{◌≡◌, ◌≢◌, ℕ, zero, suc, ◌<◌, Lis
 use Rattle.std.proofs.lemmas.Bool.{eq-eqb, eqb-true}
 use Rattle.xpath_tokens.specs.declared.Token.{Token}
 use Rattle.xpath_tokens.specs.declared.Token.TheVariants.{Comma, Or, And, Compare, Arithmetic, Bar, Slash, SlashSlash}
-use Rattle.xpath_grammar.specs.Grammar.{Stands, Phrase, Derives, or_one, or_more, and_one, and_more, equality_one, equality_more, relational_one, relational_more, additive_one, additive_more, mult_one, mult_more, union_one, union_more, arguments_one, arguments_more, rel_one, rel_slash, rel_slash_slash, ends, behind, depth, ended}
-use Rattle.xpath_grammar.specs.Cutting.{rank, IsOther, Free, Level, OrLevel, AndLevel, EqualityLevel, RelationalLevel, AdditiveLevel, MultLevel, UnionLevel, RelLevel, ArgumentLevel, symbol, operand, rank_of, single, combined, Cuts}
-use Rattle.xpath_grammar.proofs.Clean.{Clean, clean, least, rank_equality, rank_relational, rank_additive, rank_mult}
+use Rattle.xpath_grammar.specs.Grammar.{Stands, Phrase, Derives, or_one, or_more, and_one, and_more, equality_one, equality_more, relational_one, relational_more, additive_one, additive_more, multiplicative_one, multiplicative_more, union_one, union_more, arguments_one, arguments_more, relative_one, relative_slash, relative_slash_slash, ends, behind, depth, ended}
+use Rattle.xpath_grammar.specs.Cutting.{rank, IsOther, Free, Level, OrLevel, AndLevel, EqualityLevel, RelationalLevel, AdditiveLevel, MultiplicativeLevel, UnionLevel, RelativeLevel, ArgumentLevel, symbol, operand, rank_of, single, combined, Cuts}
+use Rattle.xpath_grammar.proofs.Clean.{Clean, clean, least, rank_equality, rank_relational, rank_additive, rank_multiplicative}
 
 pub data Cut : Type 0 where
   cut : List Token → Token → List Token → Cut
@@ -95,13 +95,13 @@ level_cases RelationalLevel (relational_one d) = inl (record { part = _; derived
 level_cases RelationalLevel (relational_more {how} is c d) = inr (parts RelationalLevel (Compare how) c d refl refl (rank_relational true is) refl (omega arith))
 level_cases AdditiveLevel (additive_one d) = inl (record { part = _; derived = d; value = refl })
 level_cases AdditiveLevel (additive_more {op} is c d) = inr (parts AdditiveLevel (Arithmetic op) c d refl refl (rank_additive is) refl (omega arith))
-level_cases MultLevel (mult_one d) = inl (record { part = _; derived = d; value = refl })
-level_cases MultLevel (mult_more {op} is c d) = inr (parts MultLevel (Arithmetic op) c d refl refl (rank_mult true is) refl (omega arith))
+level_cases MultiplicativeLevel (multiplicative_one d) = inl (record { part = _; derived = d; value = refl })
+level_cases MultiplicativeLevel (multiplicative_more {op} is c d) = inr (parts MultiplicativeLevel (Arithmetic op) c d refl refl (rank_multiplicative true is) refl (omega arith))
 level_cases UnionLevel (union_one d) = inl (record { part = _; derived = d; value = refl })
 level_cases UnionLevel (union_more c d) = inr (parts UnionLevel Bar c d tt tt refl refl (omega arith))
-level_cases RelLevel (rel_one d) = inl (record { part = _; derived = d; value = refl })
-level_cases RelLevel (rel_slash c d) = inr (parts RelLevel Slash c d tt tt refl refl (omega arith))
-level_cases RelLevel (rel_slash_slash c d) = inr (parts RelLevel SlashSlash c d tt tt refl refl (omega arith))
+level_cases RelativeLevel (relative_one d) = inl (record { part = _; derived = d; value = refl })
+level_cases RelativeLevel (relative_slash c d) = inr (parts RelativeLevel Slash c d tt tt refl refl (omega arith))
+level_cases RelativeLevel (relative_slash_slash c d) = inr (parts RelativeLevel SlashSlash c d tt tt refl refl (omega arith))
 level_cases ArgumentLevel (arguments_one d) = inl (record { part = _; derived = d; value = refl })
 level_cases ArgumentLevel (arguments_more c d) = inr (parts ArgumentLevel Comma c d refl refl refl refl (omega arith))
 
@@ -111,9 +111,9 @@ stands_operand AndLevel = refl
 stands_operand EqualityLevel = refl
 stands_operand RelationalLevel = refl
 stands_operand AdditiveLevel = refl
-stands_operand MultLevel = refl
+stands_operand MultiplicativeLevel = refl
 stands_operand UnionLevel = tt
-stands_operand RelLevel = tt
+stands_operand RelativeLevel = tt
 stands_operand ArgumentLevel = refl
 
 rank_below : (l : Level) → rank_of l < least (operand l)
@@ -122,9 +122,9 @@ rank_below AndLevel = omega arith
 rank_below EqualityLevel = omega arith
 rank_below RelationalLevel = omega arith
 rank_below AdditiveLevel = omega arith
-rank_below MultLevel = omega arith
+rank_below MultiplicativeLevel = omega arith
 rank_below UnionLevel = omega arith
-rank_below RelLevel = omega arith
+rank_below RelativeLevel = omega arith
 rank_below ArgumentLevel = omega arith
 
 -- where no operator of the level stands outside all brackets there is one part

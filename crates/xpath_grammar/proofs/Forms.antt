@@ -12,7 +12,7 @@ use Rattle.xpath_tokens.specs.declared.NodeType.TheVariants as kind
 use Rattle.xpath_grammar.specs.declared.expr.StepTest.{StepTest}
 use Rattle.xpath_grammar.specs.declared.expr.StepTest.TheVariants as test
 use Rattle.xpath_grammar.specs.Tree.{Tree, Trees, Walk, negate, path, from, literal, number, variable, call, none, stop, go}
-use Rattle.xpath_grammar.specs.Grammar.{Symbol, OrExpr, UnaryExpr, UnionExpr, PathExpr, FilterExpr, PrimaryExpr, Arguments, LocationPath, RelPath, StepPart, Predicates, Predicate, Phrase, expr, exprs, filtered, walk, snoc, filter_tree, any_depth, Derives, unary_one, unary_minus, path_location, path_filter, path_slash, path_slash_slash, filter_one, filter_more, primary_bracket, primary_variable, primary_literal, primary_number, call_none, call_some, location_rel, location_root, location_slash, location_slash_slash, rel_one, rel_slash, rel_slash_slash, step, step_dot, step_dots, IsAxis, axis_name, axis_at, axis_child, IsTest, test_any, test_any_in, test_named, test_kind, test_target, kind_test, predicates_none, predicates_more, predicate, ends, behind, depth, ended}
+use Rattle.xpath_grammar.specs.Grammar.{Symbol, OrExpr, UnaryExpr, UnionExpr, PathExpr, FilterExpr, PrimaryExpr, Arguments, LocationPath, RelativeLocationPath, StepPart, Predicates, Predicate, Phrase, expr, exprs, filtered, walk, appended, filter_tree, any_depth, Derives, unary_one, unary_minus, path_location, path_filter, path_slash, path_slash_slash, filter_one, filter_more, primary_bracket, primary_variable, primary_literal, primary_number, call_none, call_some, location_relative, location_root, location_slash, location_slash_slash, relative_one, relative_slash, relative_slash_slash, step, step_dot, step_dots, IsAxis, axis_name, axis_at, axis_child, IsTest, test_any, test_any_in, test_named, test_kind, test_target, kind_test, predicates_none, predicates_more, predicate, ends, behind, depth, ended}
 use Rattle.xpath_grammar.specs.Cutting.{rank, Free, behind_slash}
 use Rattle.xpath_grammar.specs.Shape.{starts_primary, first, axis_of, behind_axis, test_of, behind_test, dot_axis}
 use Rattle.xpath_grammar.proofs.Clean.{clean, Free-append}
@@ -75,7 +75,7 @@ abbrev pub Starts : Symbol → List Token → Type 0
 Starts PrimaryExpr ts = first starts_primary ts ≡ true
 Starts FilterExpr ts = first starts_primary ts ≡ true
 Starts LocationPath ts = first starts_primary ts ≡ false
-Starts RelPath ts = first starts_step ts ≡ true
+Starts RelativeLocationPath ts = first starts_step ts ≡ true
 Starts StepPart ts = first starts_step ts ≡ true
 Starts _ ts = Unit {0}
 
@@ -100,13 +100,13 @@ starts primary_literal = refl
 starts primary_number = refl
 starts call_none = refl
 starts (call_some d) = refl
-starts (location_rel {ts} d) = no_primary_first ts (starts d)
+starts (location_relative {ts} d) = no_primary_first ts (starts d)
 starts location_root = refl
 starts (location_slash d) = refl
 starts (location_slash_slash d) = refl
-starts (rel_one d) = starts d
-starts (rel_slash {us} {vs} c d) = first-append starts_step us (Slash ∷ vs) (starts c)
-starts (rel_slash_slash {us} {vs} c d) = first-append starts_step us (SlashSlash ∷ vs) (starts c)
+starts (relative_one d) = starts d
+starts (relative_slash {us} {vs} c d) = first-append starts_step us (Slash ∷ vs) (starts c)
+starts (relative_slash_slash {us} {vs} c d) = first-append starts_step us (SlashSlash ∷ vs) (starts c)
 starts (step us vs ws a t d) = starts_axis (vs ++ ws) a (starts_test ws t)
 starts step_dot = refl
 starts step_dots = refl
@@ -141,7 +141,7 @@ pub record Fromed (ts : List Token) (e : Phrase) : Type 0 where
   pub predicates : Trees
   pub steps : Walk
   pub left : Derives FilterExpr front (filtered start predicates)
-  pub right : Derives RelPath rest (walk steps)
+  pub right : Derives RelativeLocationPath rest (walk steps)
   pub whole : ts ≡ front ++ token ∷ rest
   pub cuts : first_cut 9 0 false (front ++ token ∷ rest) ≡ Some (cut front token rest)
   pub value : e ≡ expr (from (filter_tree start predicates) (behind_slash token steps))
@@ -199,7 +199,7 @@ pub record Filtered (ts : List Token) (e : Phrase) : Type 0 where
   pub left : Derives FilterExpr front (filtered start predicates)
   pub right : Derives Predicate rest (expr part)
   pub whole : ts ≡ front ++ rest
-  pub value : e ≡ filtered start (snoc predicates part)
+  pub value : e ≡ filtered start (appended predicates part)
 
 pub record OnePrimary (ts : List Token) (e : Phrase) : Type 0 where
   pub part : Tree
@@ -218,7 +218,7 @@ pub record More (ts : List Token) (e : Phrase) : Type 0 where
   pub left : Derives Predicates front (exprs predicates)
   pub right : Derives Predicate rest (expr part)
   pub whole : ts ≡ front ++ rest
-  pub value : e ≡ exprs (snoc predicates part)
+  pub value : e ≡ exprs (appended predicates part)
 
 pub predicates_cases : {ts : List Token} {e : Phrase} → Derives Predicates ts e → ((ts ≡ []) × (e ≡ exprs none)) ⊎ More ts e
 predicates_cases predicates_none = inl (refl, refl)
@@ -283,32 +283,32 @@ primary_name {n} {us} d = go d refl
     go call_none h = cc
     go (call_some d) h = cc
 
-pub no_rel : {e : Phrase} → Derives RelPath [] e → ⊥
-no_rel d = let h = starts d in cc
+pub no_relative : {e : Phrase} → Derives RelativeLocationPath [] e → ⊥
+no_relative d = let h = starts d in cc
 
-pub rel_first : {t : Token} {us : List Token} {e : Phrase} → Derives RelPath (t ∷ us) e → starts_step t ≡ true
-rel_first d = starts d
+pub relative_first : {t : Token} {us : List Token} {e : Phrase} → Derives RelativeLocationPath (t ∷ us) e → starts_step t ≡ true
+relative_first d = starts d
 
-pub location_first : {us : List Token} {e : Phrase} → Derives LocationPath (Slash ∷ us) e → ((us ≡ []) × (e ≡ expr (path true stop))) ⊎ ((w : Walk) × Derives RelPath us (walk w) × (e ≡ expr (path true w)))
+pub location_first : {us : List Token} {e : Phrase} → Derives LocationPath (Slash ∷ us) e → ((us ≡ []) × (e ≡ expr (path true stop))) ⊎ ((w : Walk) × Derives RelativeLocationPath us (walk w) × (e ≡ expr (path true w)))
 location_first {us} d = go d refl
   where
-    go : {ts : List Token} {e : Phrase} → Derives LocationPath ts e → ts ≡ Slash ∷ us → ((us ≡ []) × (e ≡ expr (path true stop))) ⊎ ((w : Walk) × Derives RelPath us (walk w) × (e ≡ expr (path true w)))
-    go (location_rel {w} d) h = let k = rel_first (subst (λ x. Derives RelPath x (walk w)) h d) in absurd cc
+    go : {ts : List Token} {e : Phrase} → Derives LocationPath ts e → ts ≡ Slash ∷ us → ((us ≡ []) × (e ≡ expr (path true stop))) ⊎ ((w : Walk) × Derives RelativeLocationPath us (walk w) × (e ≡ expr (path true w)))
+    go (location_relative {w} d) h = let k = relative_first (subst (λ x. Derives RelativeLocationPath x (walk w)) h d) in absurd cc
     go location_root h = inl (cc, refl)
-    go (location_slash {ts} {w} d) h = let e : ts ≡ us = cc in inr (w, subst (λ x. Derives RelPath x (walk w)) e d, refl)
+    go (location_slash {ts} {w} d) h = let e : ts ≡ us = cc in inr (w, subst (λ x. Derives RelativeLocationPath x (walk w)) e d, refl)
     go (location_slash_slash d) h = cc
 
-pub location_second : {us : List Token} {e : Phrase} → Derives LocationPath (SlashSlash ∷ us) e → (w : Walk) × Derives RelPath us (walk w) × (e ≡ expr (path true (any_depth w)))
+pub location_second : {us : List Token} {e : Phrase} → Derives LocationPath (SlashSlash ∷ us) e → (w : Walk) × Derives RelativeLocationPath us (walk w) × (e ≡ expr (path true (any_depth w)))
 location_second {us} d = go d refl
   where
-    go : {ts : List Token} {e : Phrase} → Derives LocationPath ts e → ts ≡ SlashSlash ∷ us → (w : Walk) × Derives RelPath us (walk w) × (e ≡ expr (path true (any_depth w)))
-    go (location_rel {w} d) h = let k = rel_first (subst (λ x. Derives RelPath x (walk w)) h d) in absurd cc
+    go : {ts : List Token} {e : Phrase} → Derives LocationPath ts e → ts ≡ SlashSlash ∷ us → (w : Walk) × Derives RelativeLocationPath us (walk w) × (e ≡ expr (path true (any_depth w)))
+    go (location_relative {w} d) h = let k = relative_first (subst (λ x. Derives RelativeLocationPath x (walk w)) h d) in absurd cc
     go location_root h = cc
     go (location_slash d) h = cc
-    go (location_slash_slash {ts} {w} d) h = let e : ts ≡ us = cc in (w, subst (λ x. Derives RelPath x (walk w)) e d, refl)
+    go (location_slash_slash {ts} {w} d) h = let e : ts ≡ us = cc in (w, subst (λ x. Derives RelativeLocationPath x (walk w)) e d, refl)
 
-pub location_other : {ts : List Token} {e : Phrase} → Derives LocationPath ts e → first starts_step ts ≡ true → (w : Walk) × Derives RelPath ts (walk w) × (e ≡ expr (path false w))
-location_other (location_rel d) h = (_, d, refl)
+pub location_other : {ts : List Token} {e : Phrase} → Derives LocationPath ts e → first starts_step ts ≡ true → (w : Walk) × Derives RelativeLocationPath ts (walk w) × (e ≡ expr (path false w))
+location_other (location_relative d) h = (_, d, refl)
 location_other location_root h = cc
 location_other (location_slash d) h = cc
 location_other (location_slash_slash d) h = cc

@@ -82,12 +82,12 @@ pub record Popped (k : ℕ) (ts : List Token) (is : List ℕ) (i : ℕ) : Type 0
   pub last : CutsAt k ts i
   pub others : AreCuts k (take i ts) is
 
-no_snoc : (is : List ℕ) (i : ℕ) → is ++ i ∷ [] ≡ [] → ⊥
-no_snoc [] i h = cc
-no_snoc (j ∷ is) i h = cc
+no_appended : (is : List ℕ) (i : ℕ) → is ++ i ∷ [] ≡ [] → ⊥
+no_appended [] i h = cc
+no_appended (j ∷ is) i h = cc
 
 pub cuts_pop : {k : ℕ} {ts : List Token} {xs : List ℕ} (is : List ℕ) (i : ℕ) → AreCuts k ts xs → xs ≡ is ++ i ∷ [] → Popped k ts is i
-cuts_pop is i (no_more f) h = absurd (no_snoc is i (sym h))
+cuts_pop is i (no_more f) h = absurd (no_appended is i (sym h))
 cuts_pop {k} {ts} is i (further_cut js j c a) h =
     let e : j ≡ i = same_last js is j i h in
     let f : js ≡ is = append_cancel_right js is (i ∷ []) (ap (λ z. js ++ z ∷ []) (sym e) ∙ h) in
@@ -104,7 +104,7 @@ popped_none n xs ys z h k =
 
 pub cuts_none : {k : ℕ} {ts : List Token} {xs : List ℕ} → AreCuts k ts xs → xs ≡ [] → Free k 0 false ts
 cuts_none (no_more f) h = f
-cuts_none (further_cut is i c a) h = absurd (no_snoc is i h)
+cuts_none (further_cut is i c a) h = absurd (no_appended is i h)
 
 -- one more token of a list
 pub front_more : (ts : List Token) (i : ℕ) (t : Token) → i < length ts → t ≡ get_or ts i t → take (i + 1) ts ≡ take i ts ++ t ∷ []

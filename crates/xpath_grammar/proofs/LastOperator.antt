@@ -3,10 +3,10 @@ use Rattle.std.proofs.Common.{◌≡◌, ◌≢◌, ℕ, ◌≤◌, Bool, true, 
 use Rattle.xpath_tokens.specs.declared.Token.{Token}
 use Rattle.xpath_tokens.specs.declared.Token.TheVariants.{Or, And, Compare, Arithmetic, Bar, Slash, SlashSlash, Comma}
 use Rattle.xpath_tokens.specs.declared.Operator.TheVariants.{Subtract}
-use Rattle.xpath_grammar.specs.Grammar.{Symbol, OrExpr, AndExpr, EqualityExpr, RelationalExpr, AdditiveExpr, MultExpr, UnionExpr, RelPath, Derives, Phrase, plus, minus, ends, behind, depth, ended}
-use Rattle.xpath_grammar.specs.Cutting.{OrLevel, AndLevel, EqualityLevel, RelationalLevel, AdditiveLevel, MultLevel, UnionLevel, RelLevel, ArgumentLevel, rank, Free, IsOther, Cuts}
-use Rattle.xpath_grammar.specs.Laws.{IsForm, by_or, by_and, by_equality, by_relational, by_additive, by_mult, by_bar, by_slash, by_slash_slash, by_comma, IsLastOperator, IsSlash, one, two, IsFirstSlash}
-use Rattle.xpath_grammar.proofs.Clean.{depth-append, ended-append, rank_equality, rank_relational, rank_additive, rank_mult}
+use Rattle.xpath_grammar.specs.Grammar.{Symbol, OrExpr, AndExpr, EqualityExpr, RelationalExpr, AdditiveExpr, MultiplicativeExpr, UnionExpr, RelativeLocationPath, Derives, Phrase, plus, minus, ends, behind, depth, ended}
+use Rattle.xpath_grammar.specs.Cutting.{OrLevel, AndLevel, EqualityLevel, RelationalLevel, AdditiveLevel, MultiplicativeLevel, UnionLevel, RelativeLevel, ArgumentLevel, rank, Free, IsOther, Cuts}
+use Rattle.xpath_grammar.specs.Laws.{IsForm, by_or, by_and, by_equality, by_relational, by_additive, by_multiplicative, by_bar, by_slash, by_slash_slash, by_comma, IsLastOperator, IsSlash, one, two, IsFirstSlash}
+use Rattle.xpath_grammar.proofs.Clean.{depth-append, ended-append, rank_equality, rank_relational, rank_additive, rank_multiplicative}
 use Rattle.xpath_grammar.proofs.Cut.{parts}
 
 -- the rank of a symbol's operators
@@ -16,9 +16,9 @@ rank_for AndExpr = 2
 rank_for EqualityExpr = 3
 rank_for RelationalExpr = 4
 rank_for AdditiveExpr = 5
-rank_for MultExpr = 6
+rank_for MultiplicativeExpr = 6
 rank_for UnionExpr = 8
-rank_for RelPath = 9
+rank_for RelativeLocationPath = 9
 rank_for _ = 0
 
 cuts_for : {s o : Symbol} {us vs : List Token} {t : Token} {x y : Phrase} → IsForm s t o → Derives s us x → Derives o vs y → Cuts (rank_for s) us t vs
@@ -28,10 +28,10 @@ cuts_for by_and c d = (parts AndLevel And c d refl refl refl refl (omega arith))
 cuts_for (by_equality {how} is) c d = (parts EqualityLevel (Compare how) c d refl refl (rank_equality true is) refl (omega arith)).cuts
 cuts_for (by_relational {how} is) c d = (parts RelationalLevel (Compare how) c d refl refl (rank_relational true is) refl (omega arith)).cuts
 cuts_for (by_additive {op} is) c d = (parts AdditiveLevel (Arithmetic op) c d refl refl (rank_additive is) refl (omega arith)).cuts
-cuts_for (by_mult {op} is) c d = (parts MultLevel (Arithmetic op) c d refl refl (rank_mult true is) refl (omega arith)).cuts
+cuts_for (by_multiplicative {op} is) c d = (parts MultiplicativeLevel (Arithmetic op) c d refl refl (rank_multiplicative true is) refl (omega arith)).cuts
 cuts_for by_bar c d = (parts UnionLevel Bar c d tt tt refl refl (omega arith)).cuts
-cuts_for by_slash c d = (parts RelLevel Slash c d tt tt refl refl (omega arith)).cuts
-cuts_for by_slash_slash c d = (parts RelLevel SlashSlash c d tt tt refl refl (omega arith)).cuts
+cuts_for by_slash c d = (parts RelativeLevel Slash c d tt tt refl refl (omega arith)).cuts
+cuts_for by_slash_slash c d = (parts RelativeLevel SlashSlash c d tt tt refl refl (omega arith)).cuts
 cuts_for by_comma c d = (parts ArgumentLevel Comma c d refl refl refl refl (omega arith)).cuts
 
 -- an operator that counts has its symbol's rank
@@ -42,7 +42,7 @@ rank_counts b (by_equality is) h = rank_equality b is
 rank_counts b (by_relational is) h = rank_relational b is
 rank_counts b (by_additive plus) h = refl
 rank_counts b (by_additive minus) h = rw (h refl) refl
-rank_counts b (by_mult is) h = rank_mult b is
+rank_counts b (by_multiplicative is) h = rank_multiplicative b is
 rank_counts b by_bar h = refl
 rank_counts b by_slash h = refl
 rank_counts b by_slash_slash h = refl
@@ -54,9 +54,9 @@ rank_small AndExpr = omega arith
 rank_small EqualityExpr = omega arith
 rank_small RelationalExpr = omega arith
 rank_small AdditiveExpr = omega arith
-rank_small MultExpr = omega arith
+rank_small MultiplicativeExpr = omega arith
 rank_small UnionExpr = omega arith
-rank_small RelPath = omega arith
+rank_small RelativeLocationPath = omega arith
 rank_small _ = omega arith
 
 counts_by : (b : Bool) (t : Token) (k : ℕ) → k ≤ 9 → rank b t ≡ k → t ≡ Arithmetic Subtract → b ≡ true

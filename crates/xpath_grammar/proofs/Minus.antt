@@ -6,7 +6,7 @@ use Rattle.xpath_tokens.specs.declared.Token.TheVariants.{Close, CloseSquare, Co
 use Rattle.xpath_tokens.specs.declared.Operator.TheVariants.{Add, Subtract, Multiply, Divide, Modulo}
 use Rattle.xpath_tokens.specs.declared.StepAxis.{StepAxis}
 use Rattle.xpath_grammar.specs.declared.expr.StepTest.{StepTest}
-use Rattle.xpath_grammar.specs.Grammar.{Stands, Symbol, Phrase, Derives, or_one, or_more, and_one, and_more, equality_one, equality_more, relational_one, relational_more, additive_one, additive_more, mult_one, mult_more, unary_one, unary_minus, union_one, union_more, path_location, path_filter, path_slash, path_slash_slash, filter_one, filter_more, primary_bracket, primary_variable, primary_literal, primary_number, call_none, call_some, arguments_one, arguments_more, location_rel, location_root, location_slash, location_slash_slash, rel_one, rel_slash, rel_slash_slash, step, step_dot, step_dots, IsAxis, axis_name, axis_at, axis_child, IsTest, test_any, test_any_in, test_named, test_kind, test_target, predicates_none, predicates_more, predicate, plus, minus, times, divided, modulo, ends, ended}
+use Rattle.xpath_grammar.specs.Grammar.{Stands, Symbol, Phrase, Derives, or_one, or_more, and_one, and_more, equality_one, equality_more, relational_one, relational_more, additive_one, additive_more, multiplicative_one, multiplicative_more, unary_one, unary_minus, union_one, union_more, path_location, path_filter, path_slash, path_slash_slash, filter_one, filter_more, primary_bracket, primary_variable, primary_literal, primary_number, call_none, call_some, arguments_one, arguments_more, location_relative, location_root, location_slash, location_slash_slash, relative_one, relative_slash, relative_slash_slash, step, step_dot, step_dots, IsAxis, axis_name, axis_at, axis_child, IsTest, test_any, test_any_in, test_named, test_kind, test_target, predicates_none, predicates_more, predicate, plus, minus, times, divided, modulo, ends, ended}
 use Rattle.xpath_grammar.specs.Laws.{minuses, flags}
 use Rattle.xpath_grammar.proofs.Clean.{clean}
 
@@ -52,10 +52,10 @@ minus_law (relational_more {us} {vs} {how = how} is c d) b h = both b us (Compar
 minus_law (additive_one d) b h = minus_law d b h
 minus_law (additive_more {us} {vs} plus c d) b h = both b us (Arithmetic Add ∷ vs) (clean c b h).last (minus_law c b h) (minus_law d false refl)
 minus_law (additive_more {us} {vs} minus c d) b h = both b us (Arithmetic Subtract ∷ vs) (clean c b h).last (minus_law c b h) (ap (λ x. true ∷ x) (minus_law d false refl))
-minus_law (mult_one d) b h = minus_law d b h
-minus_law (mult_more {us} {vs} times c d) b h = both b us (Arithmetic Multiply ∷ vs) (clean c b h).last (minus_law c b h) (minus_law d false refl)
-minus_law (mult_more {us} {vs} divided c d) b h = both b us (Arithmetic Divide ∷ vs) (clean c b h).last (minus_law c b h) (minus_law d false refl)
-minus_law (mult_more {us} {vs} modulo c d) b h = both b us (Arithmetic Modulo ∷ vs) (clean c b h).last (minus_law c b h) (minus_law d false refl)
+minus_law (multiplicative_one d) b h = minus_law d b h
+minus_law (multiplicative_more {us} {vs} times c d) b h = both b us (Arithmetic Multiply ∷ vs) (clean c b h).last (minus_law c b h) (minus_law d false refl)
+minus_law (multiplicative_more {us} {vs} divided c d) b h = both b us (Arithmetic Divide ∷ vs) (clean c b h).last (minus_law c b h) (minus_law d false refl)
+minus_law (multiplicative_more {us} {vs} modulo c d) b h = both b us (Arithmetic Modulo ∷ vs) (clean c b h).last (minus_law c b h) (minus_law d false refl)
 minus_law (unary_one d) b h = minus_law d b tt
 minus_law (unary_minus d) b h = rw h (ap (λ x. false ∷ x) (minus_law d false refl))
 minus_law (union_one d) b h = minus_law d b tt
@@ -74,13 +74,13 @@ minus_law call_none b h = refl
 minus_law (call_some {ts} d) b h = closed ts Close refl (minus_law d false refl)
 minus_law (arguments_one d) b h = minus_law d b h
 minus_law (arguments_more {us} {vs} c d) b h = both b us (Comma ∷ vs) (clean c b h).last (minus_law c b h) (minus_law d false refl)
-minus_law (location_rel d) b h = minus_law d b tt
+minus_law (location_relative d) b h = minus_law d b tt
 minus_law location_root b h = refl
 minus_law (location_slash d) b h = minus_law d true tt
 minus_law (location_slash_slash d) b h = minus_law d false tt
-minus_law (rel_one d) b h = minus_law d b tt
-minus_law (rel_slash {us} {vs} c d) b h = both b us (Slash ∷ vs) (clean c b tt).last (minus_law c b tt) (minus_law d true tt)
-minus_law (rel_slash_slash {us} {vs} c d) b h = both b us (SlashSlash ∷ vs) (clean c b tt).last (minus_law c b tt) (minus_law d false tt)
+minus_law (relative_one d) b h = minus_law d b tt
+minus_law (relative_slash {us} {vs} c d) b h = both b us (Slash ∷ vs) (clean c b tt).last (minus_law c b tt) (minus_law d true tt)
+minus_law (relative_slash_slash {us} {vs} c d) b h = both b us (SlashSlash ∷ vs) (clean c b tt).last (minus_law c b tt) (minus_law d false tt)
 minus_law (step us vs ws a t d) b h = axis_minus ws a t b ∙ minus_law d true refl
 minus_law step_dot b h = refl
 minus_law step_dots b h = refl

@@ -23,8 +23,8 @@ use Rattle.xpath_grammar.specs.declared.expr.StepTest.TheVariants as test
 use Rattle.xpath_grammar.specs.declared.parser.Binary.{Binary}
 use Rattle.xpath_grammar.specs.declared.parser.Binary.TheVariants as rust
 use Rattle.xpath_grammar.specs.Tree.{tree_of, Tree, Trees, Walk, path, from, filter, literal, number, variable, call, none, more, stop, go}
-use Rattle.xpath_grammar.specs.Grammar.{Symbol, OrExpr, UnaryExpr, UnionExpr, PathExpr, FilterExpr, PrimaryExpr, Arguments, LocationPath, RelPath, StepPart, Predicates, Phrase, expr, exprs, filtered, walk, snoc, joined, filter_tree, any_depth, IsAdditive, plus, minus, IsEquality, equal, unequal, IsRelational, less, greater, at_most, at_least, IsMult, times, divided, modulo, Derives, or_one, or_more, and_one, and_more, equality_one, equality_more, relational_one, relational_more, additive_one, additive_more, mult_one, mult_more, unary_one, unary_minus, union_one, union_more, path_location, path_filter, path_slash, path_slash_slash, filter_one, filter_more, primary_bracket, primary_variable, primary_literal, primary_number, call_none, call_some, arguments_one, arguments_more, location_rel, location_root, location_slash, location_slash_slash, rel_one, rel_slash, rel_slash_slash, step, step_dot, step_dots, predicates_none, predicates_more, predicate, ended}
-use Rattle.xpath_grammar.specs.Cutting.{rank, Free, Level, RelLevel, ArgumentLevel, symbol, operand, rank_of, combined, Cuts, CutsAt, FirstAt, behind_slash, Answers, AnswersFilter, DerivesFilter, Gives, as_expr, as_step, form, IsBinary, applied, tree_join, minus_len, negations}
+use Rattle.xpath_grammar.specs.Grammar.{Symbol, OrExpr, UnaryExpr, UnionExpr, PathExpr, FilterExpr, PrimaryExpr, Arguments, LocationPath, RelativeLocationPath, StepPart, Predicates, Phrase, expr, exprs, filtered, walk, appended, joined, filter_tree, any_depth, IsAdditive, plus, minus, IsEquality, equal, unequal, IsRelational, less, greater, at_most, at_least, IsMultiplicative, times, divided, modulo, Derives, or_one, or_more, and_one, and_more, equality_one, equality_more, relational_one, relational_more, additive_one, additive_more, multiplicative_one, multiplicative_more, unary_one, unary_minus, union_one, union_more, path_location, path_filter, path_slash, path_slash_slash, filter_one, filter_more, primary_bracket, primary_variable, primary_literal, primary_number, call_none, call_some, arguments_one, arguments_more, location_relative, location_root, location_slash, location_slash_slash, relative_one, relative_slash, relative_slash_slash, step, step_dot, step_dots, predicates_none, predicates_more, predicate, ended}
+use Rattle.xpath_grammar.specs.Cutting.{rank, Free, Level, RelativeLevel, ArgumentLevel, symbol, operand, rank_of, combined, Cuts, CutsAt, FirstAt, behind_slash, Answers, AnswersFilter, DerivesFilter, Gives, as_expr, as_step, form, IsBinary, applied, tree_join, leading_minuses, negations}
 use Rattle.xpath_grammar.specs.Shape.{starts_primary, first, NotPrimary, Relative, dot_axis, axis_of, behind_axis, test_of, behind_test, IsStepTest}
 use Rattle.xpath_grammar.proofs.Clean.{clean}
 use Rattle.xpath_grammar.proofs.Cut.{cut, no_cut, at_cut, last_cut, last_none, last_cuts}
@@ -83,7 +83,7 @@ binary_one rust.And d = and_one d
 binary_one rust.Equality d = equality_one d
 binary_one rust.Relational d = relational_one d
 binary_one rust.Additive d = additive_one d
-binary_one rust.Mult d = mult_one d
+binary_one rust.Multiplicative d = multiplicative_one d
 binary_one rust.Union d = union_one d
 
 pub data Operates : Binary → Token → Type 0 where
@@ -92,7 +92,7 @@ pub data Operates : Binary → Token → Type 0 where
   by_equality : {how : Comparison} → IsEquality how → Operates rust.Equality (Compare how)
   by_relational : {how : Comparison} → IsRelational how → Operates rust.Relational (Compare how)
   by_additive : {op : Operator} → IsAdditive op → Operates rust.Additive (Arithmetic op)
-  by_mult : {op : Operator} → IsMult op → Operates rust.Mult (Arithmetic op)
+  by_multiplicative : {op : Operator} → IsMultiplicative op → Operates rust.Multiplicative (Arithmetic op)
   by_bar : Operates rust.Union Bar
 
 -- where comparisons and arithmetic operators rank
@@ -124,11 +124,11 @@ operates_compare l b how h = let r = compare_rank b how in let low = r.0 in let 
 operates_arithmetic : (l : Binary) (b : Bool) (op : Operator) → rank b (Arithmetic op) ≡ rank_of (form l) → Operates l (Arithmetic op)
 operates_arithmetic rust.Additive b Add h = by_additive plus
 operates_arithmetic rust.Additive b Subtract h = by_additive minus
-operates_arithmetic rust.Mult b Multiply h = by_mult times
-operates_arithmetic rust.Mult b Divide h = by_mult divided
-operates_arithmetic rust.Mult b Modulo h = by_mult modulo
-operates_arithmetic rust.Mult true Subtract h = absurd (omega arith)
-operates_arithmetic rust.Mult false Subtract h = absurd (omega arith)
+operates_arithmetic rust.Multiplicative b Multiply h = by_multiplicative times
+operates_arithmetic rust.Multiplicative b Divide h = by_multiplicative divided
+operates_arithmetic rust.Multiplicative b Modulo h = by_multiplicative modulo
+operates_arithmetic rust.Multiplicative true Subtract h = absurd (omega arith)
+operates_arithmetic rust.Multiplicative false Subtract h = absurd (omega arith)
 operates_arithmetic l b op h = let r = arithmetic_rank b op in let low = r.0 in let other = r.1 in absurd (omega arith)
 
 pub operates : (l : Binary) (b : Bool) (t : Token) → rank b t ≡ rank_of (form l) → Operates l t
@@ -145,7 +145,7 @@ operates-binary by_and = tt
 operates-binary (by_equality is) = tt
 operates-binary (by_relational is) = tt
 operates-binary (by_additive is) = tt
-operates-binary (by_mult is) = tt
+operates-binary (by_multiplicative is) = tt
 operates-binary by_bar = tt
 
 pub binary_more : {l : Binary} {t : Token} {us vs : List Token} {a b : Tree} → Operates l t → Derives (symbol (form l)) us (expr a) → Derives (operand (form l)) vs (expr b) → Derives (symbol (form l)) (us ++ t ∷ vs) (combined t (expr a) (expr b))
@@ -154,7 +154,7 @@ binary_more by_and c d = and_more c d
 binary_more (by_equality is) c d = equality_more is c d
 binary_more (by_relational is) c d = relational_more is c d
 binary_more (by_additive is) c d = additive_more is c d
-binary_more (by_mult is) c d = mult_more is c d
+binary_more (by_multiplicative is) c d = multiplicative_more is c d
 binary_more by_bar c d = union_more c d
 
 pub cut_left : (l : Level) {ts : List Token} {i : ℕ} → CutsAt (rank_of l) ts i → (e : Phrase) → Derives (symbol l) ts e → (g : Phrase) × Derives (symbol l) (take i ts) g
@@ -180,21 +180,21 @@ cut_both l {ts} {i} {a} {b} t c at left right =
     subst (λ x. Derives (symbol (form l)) ts (combined x (expr a) (expr b))) e (subst (λ x. Derives (symbol (form l)) x (combined c.token (expr a) (expr b))) (sym s.whole) (binary_more op left right))
 
 -- unary expressions
-no_minus_len : (ts : List Token) → ((us : List Token) → ts ≡ Arithmetic Subtract ∷ us → ⊥) → minus_len ts ≡ 0
-no_minus_len [] h = refl
-no_minus_len (Arithmetic Subtract ∷ ts) h = absurd (h ts refl)
-no_minus_len (t ∷ ts) h = refl
+no_leading_minuses : (ts : List Token) → ((us : List Token) → ts ≡ Arithmetic Subtract ∷ us → ⊥) → leading_minuses ts ≡ 0
+no_leading_minuses [] h = refl
+no_leading_minuses (Arithmetic Subtract ∷ ts) h = absurd (h ts refl)
+no_leading_minuses (t ∷ ts) h = refl
 
-pub unary_rest : {ts : List Token} (e : Phrase) → Derives UnaryExpr ts e → (g : Phrase) × Derives UnionExpr (drop (minus_len ts) ts) g
-unary_rest {ts} e (unary_one d) = (e, subst (λ n. Derives UnionExpr (drop n ts) e) (sym (no_minus_len ts (no_minus d))) d)
+pub unary_rest : {ts : List Token} (e : Phrase) → Derives UnaryExpr ts e → (g : Phrase) × Derives UnionExpr (drop (leading_minuses ts) ts) g
+unary_rest {ts} e (unary_one d) = (e, subst (λ n. Derives UnionExpr (drop n ts) e) (sym (no_leading_minuses ts (no_minus d))) d)
 unary_rest e (unary_minus {a = a} d) = unary_rest (expr a) d
 
-pub unary_made : (ts : List Token) {a : Tree} → Derives UnionExpr (drop (minus_len ts) ts) (expr a) → Derives UnaryExpr ts (expr (negations (minus_len ts) a))
+pub unary_made : (ts : List Token) {a : Tree} → Derives UnionExpr (drop (leading_minuses ts) ts) (expr a) → Derives UnaryExpr ts (expr (negations (leading_minuses ts) a))
 unary_made [] d = unary_one d
 unary_made (Arithmetic Subtract ∷ ts) d = unary_minus (unary_made ts d)
 unary_made (t ∷ ts) d = unary_one d
 
-pub minus_within : (ts : List Token) → minus_len ts ≤ length ts
+pub minus_within : (ts : List Token) → leading_minuses ts ≤ length ts
 minus_within [] = omega arith
 minus_within (Arithmetic Subtract ∷ ts) = let h = minus_within ts in omega arith
 minus_within (t ∷ ts) = omega arith
@@ -211,32 +211,32 @@ location_only {ts} {e} h d = this (path_cases d)
         let y = ap (first starts_primary) p.whole in
         absurd cc
 
-pub absolute_rest : {ts us : List Token} → ts ≡ Slash ∷ us → us ≢ [] → (e : Phrase) → Derives PathExpr ts e → (g : Phrase) × Derives RelPath us g
+pub absolute_rest : {ts us : List Token} → ts ≡ Slash ∷ us → us ≢ [] → (e : Phrase) → Derives PathExpr ts e → (g : Phrase) × Derives RelativeLocationPath us g
 absolute_rest w ne e d =
     elim (location_first (location_only refl (subst (λ x. Derives PathExpr x e) w d))) [
       | inl k ↦ absurd (ne k.0)
       | inr k ↦ (walk k.0, k.1)
     ]
 
-pub deep_rest : {ts us : List Token} → ts ≡ SlashSlash ∷ us → (e : Phrase) → Derives PathExpr ts e → (g : Phrase) × Derives RelPath us g
+pub deep_rest : {ts us : List Token} → ts ≡ SlashSlash ∷ us → (e : Phrase) → Derives PathExpr ts e → (g : Phrase) × Derives RelativeLocationPath us g
 deep_rest w e d = let k = location_second (location_only refl (subst (λ x. Derives PathExpr x e) w d)) in (walk k.0, k.1)
 
-relative_rest : {ts : List Token} {e : Phrase} → Relative ts → Derives LocationPath ts e → (g : Phrase) × Derives RelPath ts g
-relative_rest r (location_rel d) = (_, d)
+relative_rest : {ts : List Token} {e : Phrase} → Relative ts → Derives LocationPath ts e → (g : Phrase) × Derives RelativeLocationPath ts g
+relative_rest r (location_relative d) = (_, d)
 relative_rest r location_root = absurd (r.no_slash [] refl)
 relative_rest r (location_slash d) = absurd (r.no_slash _ refl)
 relative_rest r (location_slash_slash d) = absurd (r.no_deep _ refl)
 
-pub relative_only : {ts : List Token} → Relative ts → (e : Phrase) → Derives PathExpr ts e → (g : Phrase) × Derives RelPath ts g
+pub relative_only : {ts : List Token} → Relative ts → (e : Phrase) → Derives PathExpr ts e → (g : Phrase) × Derives RelativeLocationPath ts g
 relative_only r e d = relative_rest r (location_only r.no_filter d)
 
 pub root_made : {ts : List Token} → ts ≡ Slash ∷ [] → Derives PathExpr ts (expr (path true stop))
 root_made w = rw w (path_location location_root)
 
-pub absolute_made : {ts us : List Token} {w : Walk} → ts ≡ Slash ∷ us → Derives RelPath us (walk w) → Derives PathExpr ts (expr (path true w))
+pub absolute_made : {ts us : List Token} {w : Walk} → ts ≡ Slash ∷ us → Derives RelativeLocationPath us (walk w) → Derives PathExpr ts (expr (path true w))
 absolute_made w d = rw w (path_location (location_slash d))
 
-pub deep_made : {ts us : List Token} {w : Walk} {b : Tree} → ts ≡ SlashSlash ∷ us → Derives RelPath us (walk w) → b ≡ path true (any_depth w) → Derives PathExpr ts (expr b)
+pub deep_made : {ts us : List Token} {w : Walk} {b : Tree} → ts ≡ SlashSlash ∷ us → Derives RelativeLocationPath us (walk w) → b ≡ path true (any_depth w) → Derives PathExpr ts (expr b)
 deep_made w d h = rw (w, h) (path_location (location_slash_slash d))
 
 -- paths behind an expression
@@ -265,7 +265,7 @@ pub record FromParts (ts : List Token) (i : ℕ) : Type 0 where
   pub start : Phrase
   pub steps : Phrase
   pub left : Derives FilterExpr (take i ts) start
-  pub right : Derives RelPath (drop (i + 1) ts) steps
+  pub right : Derives RelativeLocationPath (drop (i + 1) ts) steps
 
 pub from_parts : {ts : List Token} {i : ℕ} → first starts_primary ts ≡ true → FirstAt 9 ts i → (e : Phrase) → Derives PathExpr ts e → FromParts ts i
 from_parts {ts} {i} s c e d = this (path_cases d)
@@ -305,10 +305,10 @@ rank_comma b (Compare how) h = let r = compare_rank b how in let low = r.0 in le
 rank_comma b (Arithmetic op) h = let r = arithmetic_rank b op in let low = r.0 in let second = r.1 in let third = r.2 in let fourth = r.3 in absurd (omega arith)
 rank_comma b _ h = absurd (omega arith)
 
-from_token : {us vs : List Token} {a : Tree} {ps : Trees} {w : Walk} (t : Token) → (t ≡ Slash) ⊎ (t ≡ SlashSlash) → Derives FilterExpr us (filtered a ps) → Derives RelPath vs (walk w) → Derives PathExpr (us ++ t ∷ vs) (expr (from (filter_tree a ps) (behind_slash t w)))
+from_token : {us vs : List Token} {a : Tree} {ps : Trees} {w : Walk} (t : Token) → (t ≡ Slash) ⊎ (t ≡ SlashSlash) → Derives FilterExpr us (filtered a ps) → Derives RelativeLocationPath vs (walk w) → Derives PathExpr (us ++ t ∷ vs) (expr (from (filter_tree a ps) (behind_slash t w)))
 from_token t s c d = elim s [ inl e ↦ rw e (path_slash c d) | inr e ↦ rw e (path_slash_slash c d) ]
 
-pub from_made : {ts : List Token} {i : ℕ} {a b : Tree} {v w : Walk} (t : Token) → FirstAt 9 ts i → t ≡ get_or ts i t → DerivesFilter (take i ts) a → Derives RelPath (drop (i + 1) ts) (walk w) → v ≡ behind_slash t w → b ≡ from a v → Derives PathExpr ts (expr b)
+pub from_made : {ts : List Token} {i : ℕ} {a b : Tree} {v w : Walk} (t : Token) → FirstAt 9 ts i → t ≡ get_or ts i t → DerivesFilter (take i ts) a → Derives RelativeLocationPath (drop (i + 1) ts) (walk w) → v ≡ behind_slash t w → b ≡ from a v → Derives PathExpr ts (expr b)
 from_made {ts} {i} {a} {b} {v} {w} t c at left right hv hb =
     let x : take i ts ≡ c.front = ap (take i) c.whole ∙ take_cut c.front c.token c.rest i c.place in
     let y : drop (i + 1) ts ≡ c.rest = ap (drop (i + 1)) c.whole ∙ drop_cut c.front c.token c.rest i c.place in
@@ -337,7 +337,7 @@ filter_split (filter_more {us} {vs} {a} {p} {ps} c d) =
     let v = s.value in
     let ea : a ≡ s.start = cc in
     let ep : ps ≡ s.predicates = cc in
-    record { front = s.front; rest = s.rest ++ vs; start = s.start; predicates = snoc s.predicates p; left = s.left; right = predicates_more s.right d; whole = ap (λ x. x ++ vs) s.whole ∙ append_assoc s.front s.rest vs; value = ap (λ z. filtered z (snoc ps p)) ea ∙ ap (λ z. filtered s.start (snoc z p)) ep }
+    record { front = s.front; rest = s.rest ++ vs; start = s.start; predicates = appended s.predicates p; left = s.left; right = predicates_more s.right d; whole = ap (λ x. x ++ vs) s.whole ∙ append_assoc s.front s.rest vs; value = ap (λ z. filtered z (appended ps p)) ea ∙ ap (λ z. filtered s.start (appended z p)) ep }
 
 pub filter_join : {us vs : List Token} {a : Tree} {ps : Trees} → Derives PrimaryExpr us (expr a) → Derives Predicates vs (exprs ps) → Derives FilterExpr (us ++ vs) (filtered a ps)
 filter_join {us} p predicates_none = rw (append-nil us) (filter_one p)
@@ -351,15 +351,15 @@ predicates_start (predicates_more {us} {vs} c d) =
       | inr k ↦ inr (k.0 ++ vs, ap (λ x. x ++ vs) k.1)
     ]
 
-filter_snoc : (a p : Tree) (ps : Trees) → filter_tree a (snoc ps p) ≡ filter a (snoc ps p)
-filter_snoc a p none = refl
-filter_snoc a p (more q qs) = refl
+filter_appended : (a p : Tree) (ps : Trees) → filter_tree a (appended ps p) ≡ filter a (appended ps p)
+filter_appended a p none = refl
+filter_appended a p (more q qs) = refl
 
 some_predicates : {ws : List Token} {ps : Trees} (a : Tree) → Derives Predicates (OpenSquare ∷ ws) (exprs ps) → filter_tree a ps ≡ filter a ps
 some_predicates {ws} {ps} a d =
     elim (predicates_cases d) [
       | inl k ↦ let h = k.0 in absurd cc
-      | inr m ↦ let v = m.value in let e : ps ≡ snoc m.predicates m.part = cc in rw e (filter_snoc a m.part m.predicates)
+      | inr m ↦ let v = m.value in let e : ps ≡ appended m.predicates m.part = cc in rw e (filter_appended a m.part m.predicates)
     ]
 
 pub record FilterParts (ts : List Token) (i : ℕ) : Type 0 where
@@ -465,9 +465,9 @@ adds_none : (xs : Trees) → adds xs none ≡ xs
 adds_none none = refl
 adds_none (more x xs) = ap (more x) (adds_none xs)
 
-adds_snoc : (xs : Trees) (y : Tree) (zs : Trees) → adds (snoc xs y) zs ≡ adds xs (more y zs)
-adds_snoc none y zs = refl
-adds_snoc (more x xs) y zs = ap (more x) (adds_snoc xs y zs)
+adds_appended : (xs : Trees) (y : Tree) (zs : Trees) → adds (appended xs y) zs ≡ adds xs (more y zs)
+adds_appended none y zs = refl
+adds_appended (more x xs) y zs = ap (more x) (adds_appended xs y zs)
 
 joined_stop : (w : Walk) → joined w stop ≡ w
 joined_stop stop = refl
@@ -484,10 +484,10 @@ trees_begin s ts = record {
   only = λ e d. (e, d);
 }
 
-pub walks_begin : (ts : List Token) → Remaining RelPath walk (λ w. joined w stop) ts ts
+pub walks_begin : (ts : List Token) → Remaining RelativeLocationPath walk (λ w. joined w stop) ts ts
 walks_begin ts = record {
   within = omega arith;
-  sound = λ w d. subst (λ x. Derives RelPath ts (walk x)) (sym (joined_stop w)) d;
+  sound = λ w d. subst (λ x. Derives RelativeLocationPath ts (walk x)) (sym (joined_stop w)) d;
   only = λ e d. (e, d);
 }
 
@@ -501,7 +501,7 @@ arguments_on {ts} {rest} {i} {all} {all'} {a} r c d h =
     let w : take i rest ++ Comma ∷ drop (i + 1) rest ≡ rest = ap (λ x. take i rest ++ x ∷ drop (i + 1) rest) (sym comma) ∙ sym s.whole in
     record {
       within = take_within i rest r.within;
-      sound = λ es k. subst (λ x. Derives Arguments ts (exprs x)) (adds_snoc es a all ∙ ap (adds es) (sym h)) (r.sound (snoc es a) (subst (λ x. Derives Arguments x (exprs (snoc es a))) w (arguments_more k d)));
+      sound = λ es k. subst (λ x. Derives Arguments ts (exprs x)) (adds_appended es a all ∙ ap (adds es) (sym h)) (r.sound (appended es a) (subst (λ x. Derives Arguments x (exprs (appended es a))) w (arguments_more k d)));
       only = λ e k. let x = r.only e k in cut_left ArgumentLevel c x.0 x.1;
     }
 
@@ -558,7 +558,7 @@ predicates_on {ts} {rest} {us} {i} {all} {all'} {a} r c u d h =
     let w : take i rest ++ OpenSquare ∷ (us ++ CloseSquare ∷ []) ≡ rest = ap (λ x. take i rest ++ OpenSquare ∷ x) (sym u) ∙ ap (λ x. take i rest ++ x ∷ drop (i + 1) rest) (sym square) ∙ sym s.whole in
     record {
       within = take_within i rest r.within;
-      sound = λ es k. subst (λ x. Derives Predicates ts (exprs x)) (adds_snoc es a all ∙ ap (adds es) (sym h)) (r.sound (snoc es a) (subst (λ x. Derives Predicates x (exprs (snoc es a))) w (predicates_more k (predicate d))));
+      sound = λ es k. subst (λ x. Derives Predicates ts (exprs x)) (adds_appended es a all ∙ ap (adds es) (sym h)) (r.sound (appended es a) (subst (λ x. Derives Predicates x (exprs (appended es a))) w (predicates_more k (predicate d))));
       only = λ e k. let x = r.only e k in let p = predicate_parts c x.0 x.1 in (p.front, p.left);
     }
 
@@ -566,7 +566,7 @@ pub predicates_end : {ts rest : List Token} {all : Trees} → Remaining Predicat
 predicates_end r e = r.sound none (rw e predicates_none)
 
 -- relative paths
-pub relative_on : {ts rest : List Token} {i : ℕ} {all all' v : Walk} {w : Walk} (t : Token) → Remaining RelPath walk (λ x. joined x all) ts rest → CutsAt 9 rest i → t ≡ get_or rest i t → Derives StepPart (drop (i + 1) rest) (walk w) → v ≡ joined w all → all' ≡ behind_slash t v → Remaining RelPath walk (λ x. joined x all') ts (take i rest)
+pub relative_on : {ts rest : List Token} {i : ℕ} {all all' v : Walk} {w : Walk} (t : Token) → Remaining RelativeLocationPath walk (λ x. joined x all) ts rest → CutsAt 9 rest i → t ≡ get_or rest i t → Derives StepPart (drop (i + 1) rest) (walk w) → v ≡ joined w all → all' ≡ behind_slash t v → Remaining RelativeLocationPath walk (λ x. joined x all') ts (take i rest)
 relative_on {ts} {rest} {i} {all} {all'} {v} {w} t r c at d hv h =
     let s = sliced 9 rest i c in
     let e = token_at 9 rest i c t at in
@@ -576,19 +576,19 @@ relative_on {ts} {rest} {i} {all} {all'} {v} {w} t r c at d hv h =
       within = take_within i rest r.within;
       sound = λ x k. elim slash [
         | inl f ↦
-            let one = subst (λ z. Derives RelPath z (walk (joined x w))) (ap (λ y. take i rest ++ y ∷ drop (i + 1) rest) (sym f) ∙ whole) (rel_slash k d) in
+            let one = subst (λ z. Derives RelativeLocationPath z (walk (joined x w))) (ap (λ y. take i rest ++ y ∷ drop (i + 1) rest) (sym f) ∙ whole) (relative_slash k d) in
             let same : joined (joined x w) all ≡ joined x all' = joined_assoc x w all ∙ ap (joined x) (sym hv ∙ sym (h ∙ ap (λ y. behind_slash y v) f)) in
-            subst (λ z. Derives RelPath ts (walk z)) same (r.sound (joined x w) one)
+            subst (λ z. Derives RelativeLocationPath ts (walk z)) same (r.sound (joined x w) one)
         | inr f ↦
-            let one = subst (λ z. Derives RelPath z (walk (joined x (any_depth w)))) (ap (λ y. take i rest ++ y ∷ drop (i + 1) rest) (sym f) ∙ whole) (rel_slash_slash k d) in
+            let one = subst (λ z. Derives RelativeLocationPath z (walk (joined x (any_depth w)))) (ap (λ y. take i rest ++ y ∷ drop (i + 1) rest) (sym f) ∙ whole) (relative_slash_slash k d) in
             let same : joined (joined x (any_depth w)) all ≡ joined x all' = joined_assoc x (any_depth w) all ∙ ap (λ y. joined x (any_depth y)) (sym hv) ∙ ap (joined x) (sym (h ∙ ap (λ y. behind_slash y v) f)) in
-            subst (λ z. Derives RelPath ts (walk z)) same (r.sound (joined x (any_depth w)) one)
+            subst (λ z. Derives RelativeLocationPath ts (walk z)) same (r.sound (joined x (any_depth w)) one)
       ];
-      only = λ e k. let x = r.only e k in cut_left RelLevel c x.0 x.1;
+      only = λ e k. let x = r.only e k in cut_left RelativeLevel c x.0 x.1;
     }
 
-pub relative_end : {ts rest : List Token} {all b w : Walk} → Remaining RelPath walk (λ x. joined x all) ts rest → Derives StepPart rest (walk w) → b ≡ joined w all → Derives RelPath ts (walk b)
-relative_end {w = w} r d h = rw h (r.sound w (rel_one d))
+pub relative_end : {ts rest : List Token} {all b w : Walk} → Remaining RelativeLocationPath walk (λ x. joined x all) ts rest → Derives StepPart rest (walk w) → b ≡ joined w all → Derives RelativeLocationPath ts (walk b)
+relative_end {w = w} r d h = rw h (r.sound w (relative_one d))
 
 -- steps
 pub dot_made : (ts : List Token) (a : Axis) → dot_axis ts ≡ Some a → Derives StepPart ts (walk (go (Known a) test.Node none stop))

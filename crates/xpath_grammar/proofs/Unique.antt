@@ -10,13 +10,13 @@ use Rattle.xpath_tokens.specs.declared.StepAxis.TheVariants.{Known}
 use Rattle.xpath_grammar.specs.declared.expr.StepTest.{StepTest}
 use Rattle.xpath_grammar.specs.declared.expr.StepTest.TheVariants as test
 use Rattle.xpath_grammar.specs.Tree.{Tree, Trees, Walk, negate, path, from, call, none, stop, go}
-use Rattle.xpath_grammar.specs.Grammar.{Stands, Symbol, OrExpr, UnaryExpr, UnionExpr, PathExpr, FilterExpr, PrimaryExpr, Arguments, LocationPath, RelPath, StepPart, Predicates, Predicate, Phrase, expr, exprs, filtered, walk, snoc, filter_tree, any_depth, Derives, or_one, or_more, and_one, and_more, equality_one, equality_more, relational_one, relational_more, additive_one, additive_more, mult_one, mult_more, unary_one, unary_minus, union_one, union_more, path_location, path_filter, path_slash, path_slash_slash, filter_one, filter_more, primary_bracket, primary_variable, primary_literal, primary_number, call_none, call_some, arguments_one, arguments_more, location_rel, location_root, location_slash, location_slash_slash, rel_one, rel_slash, rel_slash_slash, step, step_dot, step_dots, IsAxis, IsTest, predicates_none, predicates_more, predicate, ends, behind}
-use Rattle.xpath_grammar.specs.Cutting.{rank, Level, OrLevel, AndLevel, EqualityLevel, RelationalLevel, AdditiveLevel, MultLevel, UnionLevel, RelLevel, ArgumentLevel, symbol, operand, rank_of, combined, behind_slash}
+use Rattle.xpath_grammar.specs.Grammar.{Stands, Symbol, OrExpr, UnaryExpr, UnionExpr, PathExpr, FilterExpr, PrimaryExpr, Arguments, LocationPath, RelativeLocationPath, StepPart, Predicates, Predicate, Phrase, expr, exprs, filtered, walk, appended, filter_tree, any_depth, Derives, or_one, or_more, and_one, and_more, equality_one, equality_more, relational_one, relational_more, additive_one, additive_more, multiplicative_one, multiplicative_more, unary_one, unary_minus, union_one, union_more, path_location, path_filter, path_slash, path_slash_slash, filter_one, filter_more, primary_bracket, primary_variable, primary_literal, primary_number, call_none, call_some, arguments_one, arguments_more, location_relative, location_root, location_slash, location_slash_slash, relative_one, relative_slash, relative_slash_slash, step, step_dot, step_dots, IsAxis, IsTest, predicates_none, predicates_more, predicate, ends, behind}
+use Rattle.xpath_grammar.specs.Cutting.{rank, Level, OrLevel, AndLevel, EqualityLevel, RelationalLevel, AdditiveLevel, MultiplicativeLevel, UnionLevel, RelativeLevel, ArgumentLevel, symbol, operand, rank_of, combined, behind_slash}
 use Rattle.xpath_grammar.specs.Shape.{starts_primary, first, axis_of, behind_axis, test_of, behind_test, dot_axis}
-use Rattle.xpath_grammar.proofs.Clean.{clean, least, rank_equality, rank_relational, rank_additive, rank_mult}
+use Rattle.xpath_grammar.proofs.Clean.{clean, least, rank_equality, rank_relational, rank_additive, rank_multiplicative}
 use Rattle.xpath_grammar.proofs.Cut.{last_none}
 use Rattle.xpath_grammar.proofs.Cut.{one_alone, one_cut, parts, last_none}
-use Rattle.xpath_grammar.proofs.Forms.{unary_cases, no_minus, unary_minus_cases, starts, first-append, Fromed, first_cut, first_none, PathForm, is_location, is_filter, is_from, slash_cut, path_cases, same_cuts, square_cut, predicate_cases, filter_cases, predicates_cases, primary_open, primary_call, primary_one, primary_text, primary_name, no_arguments, no_rel, location_first, location_second, location_other, StepForm, is_dot, is_dots, is_step, step_cases, axis_read, test_read, no_dots}
+use Rattle.xpath_grammar.proofs.Forms.{unary_cases, no_minus, unary_minus_cases, starts, first-append, Fromed, first_cut, first_none, PathForm, is_location, is_filter, is_from, slash_cut, path_cases, same_cuts, square_cut, predicate_cases, filter_cases, predicates_cases, primary_open, primary_call, primary_one, primary_text, primary_name, no_arguments, no_relative, location_first, location_second, location_other, StepForm, is_dot, is_dots, is_step, step_cases, axis_read, test_read, no_dots}
 
 abbrev Only : Symbol → List Token → Phrase → Type 0
 Only s ts e = (f : Phrase) → Derives s ts f → e ≡ f
@@ -54,7 +54,7 @@ one_filter {ts} {a} {ps} d only f g = this (path_cases g)
         let z = ap (first_cut 9 0 false) p.whole in
         absurd cc
 
-one_from : {us vs : List Token} {a : Tree} {ps : Trees} {w : Walk} (t : Token) → Derives FilterExpr us (filtered a ps) → rank true t ≡ 9 → Only FilterExpr us (filtered a ps) → Only RelPath vs (walk w) → Only PathExpr (us ++ t ∷ vs) (expr (from (filter_tree a ps) (behind_slash t w)))
+one_from : {us vs : List Token} {a : Tree} {ps : Trees} {w : Walk} (t : Token) → Derives FilterExpr us (filtered a ps) → rank true t ≡ 9 → Only FilterExpr us (filtered a ps) → Only RelativeLocationPath vs (walk w) → Only PathExpr (us ++ t ∷ vs) (expr (from (filter_tree a ps) (behind_slash t w)))
 one_from {us} {vs} {a} {ps} {w} t d r only only' f g = this (path_cases g)
   where
     this : PathForm (us ++ t ∷ vs) f → expr (from (filter_tree a ps) (behind_slash t w)) ≡ f
@@ -71,7 +71,7 @@ one_from {us} {vs} {a} {ps} {w} t d r only only' f g = this (path_cases g)
         let token : p.token ≡ t = cc in
         let rest : p.rest ≡ vs = cc in
         let h = only (filtered p.start p.predicates) (subst (λ x. Derives FilterExpr x (filtered p.start p.predicates)) front p.left) in
-        let h' = only' (walk p.steps) (subst (λ x. Derives RelPath x (walk p.steps)) rest p.right) in
+        let h' = only' (walk p.steps) (subst (λ x. Derives RelativeLocationPath x (walk p.steps)) rest p.right) in
         let start : a ≡ p.start = cc in
         let predicates : ps ≡ p.predicates = cc in
         let steps : w ≡ p.steps = cc in
@@ -90,7 +90,7 @@ one_primary {ts} {a} d only f g =
           absurd cc
     ]
 
-one_more : {us vs : List Token} {a p : Tree} {ps : Trees} → Derives FilterExpr us (filtered a ps) → Derives Predicate vs (expr p) → Only FilterExpr us (filtered a ps) → Only Predicate vs (expr p) → Only FilterExpr (us ++ vs) (filtered a (snoc ps p))
+one_more : {us vs : List Token} {a p : Tree} {ps : Trees} → Derives FilterExpr us (filtered a ps) → Derives Predicate vs (expr p) → Only FilterExpr us (filtered a ps) → Only Predicate vs (expr p) → Only FilterExpr (us ++ vs) (filtered a (appended ps p))
 one_more {us} {vs} {a} {p} {ps} c d only only' f g =
     elim (filter_cases g) [
       | inl o ↦
@@ -154,7 +154,7 @@ one_none f g =
           absurd cc
     ]
 
-one_more_predicate : {us vs : List Token} {p : Tree} {ps : Trees} → Derives Predicates us (exprs ps) → Derives Predicate vs (expr p) → Only Predicates us (exprs ps) → Only Predicate vs (expr p) → Only Predicates (us ++ vs) (exprs (snoc ps p))
+one_more_predicate : {us vs : List Token} {p : Tree} {ps : Trees} → Derives Predicates us (exprs ps) → Derives Predicate vs (expr p) → Only Predicates us (exprs ps) → Only Predicate vs (expr p) → Only Predicates (us ++ vs) (exprs (appended ps p))
 one_more_predicate {us} {vs} {p} {ps} c d only only' f g =
     elim (predicates_cases g) [
       | inl k ↦
@@ -173,24 +173,24 @@ one_more_predicate {us} {vs} {p} {ps} c d only only' f g =
           rw (e1, e2) (sym v)
     ]
 
-one_rel : {ts : List Token} {w : Walk} → Derives RelPath ts (walk w) → Only RelPath ts (walk w) → Only LocationPath ts (expr (path false w))
-one_rel d only f g =
+one_relative : {ts : List Token} {w : Walk} → Derives RelativeLocationPath ts (walk w) → Only RelativeLocationPath ts (walk w) → Only LocationPath ts (expr (path false w))
+one_relative d only f g =
     let k = location_other g (starts d) in
     let h = only (walk k.0) k.1 in
     let v = k.2 in
     cc
 
-one_slash : (ts : List Token) (w : Walk) → Derives RelPath ts (walk w) → Only RelPath ts (walk w) → Only LocationPath (Slash ∷ ts) (expr (path true w))
+one_slash : (ts : List Token) (w : Walk) → Derives RelativeLocationPath ts (walk w) → Only RelativeLocationPath ts (walk w) → Only LocationPath (Slash ∷ ts) (expr (path true w))
 one_slash ts w d only f g =
     elim (location_first g) [
-      | inl k ↦ absurd (no_rel (subst (λ x. Derives RelPath x (walk w)) k.0 d))
+      | inl k ↦ absurd (no_relative (subst (λ x. Derives RelativeLocationPath x (walk w)) k.0 d))
       | inr k ↦ let h = only (walk k.0) k.1 in let v = k.2 in cc
     ]
 
 one_root : Only LocationPath (Slash ∷ []) (expr (path true stop))
-one_root f g = elim (location_first g) [ inl k ↦ sym k.1 | inr k ↦ absurd (no_rel k.1) ]
+one_root f g = elim (location_first g) [ inl k ↦ sym k.1 | inr k ↦ absurd (no_relative k.1) ]
 
-one_slash_slash : (ts : List Token) (w : Walk) → Only RelPath ts (walk w) → Only LocationPath (SlashSlash ∷ ts) (expr (path true (any_depth w)))
+one_slash_slash : (ts : List Token) (w : Walk) → Only RelativeLocationPath ts (walk w) → Only LocationPath (SlashSlash ∷ ts) (expr (path true (any_depth w)))
 one_slash_slash ts w only f g =
     let k = location_second g in
     let h = only (walk k.0) k.1 in
@@ -246,8 +246,8 @@ unique (relational_one d) = one_alone RelationalLevel d (unique d)
 unique (relational_more {how} is c d) = level_cut RelationalLevel (Compare how) c d refl refl (rank_relational true is) refl (omega arith) (unique c) (unique d)
 unique (additive_one d) = one_alone AdditiveLevel d (unique d)
 unique (additive_more {op} is c d) = level_cut AdditiveLevel (Arithmetic op) c d refl refl (rank_additive is) refl (omega arith) (unique c) (unique d)
-unique (mult_one d) = one_alone MultLevel d (unique d)
-unique (mult_more {op} is c d) = level_cut MultLevel (Arithmetic op) c d refl refl (rank_mult true is) refl (omega arith) (unique c) (unique d)
+unique (multiplicative_one d) = one_alone MultiplicativeLevel d (unique d)
+unique (multiplicative_more {op} is c d) = level_cut MultiplicativeLevel (Arithmetic op) c d refl refl (rank_multiplicative true is) refl (omega arith) (unique c) (unique d)
 unique (unary_one d) = one_union d (unique d)
 unique (unary_minus d) = one_minus _ _ (unique d)
 unique (union_one d) = one_alone UnionLevel d (unique d)
@@ -266,13 +266,13 @@ unique call_none = one_call _
 unique (call_some d) = one_call_some _ _ _ d (unique d)
 unique (arguments_one d) = one_alone ArgumentLevel d (unique d)
 unique (arguments_more c d) = level_cut ArgumentLevel Comma c d refl refl refl refl (omega arith) (unique c) (unique d)
-unique (location_rel d) = one_rel d (unique d)
+unique (location_relative d) = one_relative d (unique d)
 unique location_root = one_root
 unique (location_slash d) = one_slash _ _ d (unique d)
 unique (location_slash_slash d) = one_slash_slash _ _ (unique d)
-unique (rel_one d) = one_alone RelLevel d (unique d)
-unique (rel_slash c d) = level_cut RelLevel Slash c d tt tt refl refl (omega arith) (unique c) (unique d)
-unique (rel_slash_slash c d) = level_cut RelLevel SlashSlash c d tt tt refl refl (omega arith) (unique c) (unique d)
+unique (relative_one d) = one_alone RelativeLevel d (unique d)
+unique (relative_slash c d) = level_cut RelativeLevel Slash c d tt tt refl refl (omega arith) (unique c) (unique d)
+unique (relative_slash_slash c d) = level_cut RelativeLevel SlashSlash c d tt tt refl refl (omega arith) (unique c) (unique d)
 unique (step us vs ws a t d) = one_step a t (unique d)
 unique step_dot = one_dot
 unique step_dots = one_dots

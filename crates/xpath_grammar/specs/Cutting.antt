@@ -14,7 +14,7 @@ use Rattle.xpath_grammar.specs.declared.expr.Step.{Step, out-Step}
 use Rattle.xpath_grammar.specs.declared.parser.Binary.{Binary}
 use Rattle.xpath_grammar.specs.declared.parser.Binary.TheVariants as rust
 use Rattle.xpath_grammar.specs.Tree.{tree_of, trees_of, walk_of, Tree, Trees, Walk, or, and, union, compare, arithmetic, negate, none, more, stop, go}
-use Rattle.xpath_grammar.specs.Grammar.{Symbol, Phrase, snoc, joined, filter_tree, any_depth, Derives, ends, behind, depth, ended, OrExpr, AndExpr, EqualityExpr, RelationalExpr, AdditiveExpr, MultExpr, UnaryExpr, UnionExpr, PathExpr, FilterExpr, Arguments, RelPath, StepPart, expr, exprs, filtered, walk}
+use Rattle.xpath_grammar.specs.Grammar.{Symbol, Phrase, appended, joined, filter_tree, any_depth, Derives, ends, behind, depth, ended, OrExpr, AndExpr, EqualityExpr, RelationalExpr, AdditiveExpr, MultiplicativeExpr, UnaryExpr, UnionExpr, PathExpr, FilterExpr, Arguments, RelativeLocationPath, StepPart, expr, exprs, filtered, walk}
 
 -- how far a token binds where it stands outside all brackets; the flag says that a token before it ends an operand
 abbrev pub rank : Bool → Token → ℕ
@@ -45,7 +45,7 @@ Free k d b (t ∷ ts) = IsOther k d b t × Free k (behind d t) (ends t) ts
 
 -- the forms with an operator or a separator between two parts
 pub data Level : Type 0 where
-  OrLevel AndLevel EqualityLevel RelationalLevel AdditiveLevel MultLevel UnionLevel RelLevel ArgumentLevel : Level
+  OrLevel AndLevel EqualityLevel RelationalLevel AdditiveLevel MultiplicativeLevel UnionLevel RelativeLevel ArgumentLevel : Level
 
 abbrev pub symbol : Level → Symbol
 symbol OrLevel = OrExpr
@@ -53,9 +53,9 @@ symbol AndLevel = AndExpr
 symbol EqualityLevel = EqualityExpr
 symbol RelationalLevel = RelationalExpr
 symbol AdditiveLevel = AdditiveExpr
-symbol MultLevel = MultExpr
+symbol MultiplicativeLevel = MultiplicativeExpr
 symbol UnionLevel = UnionExpr
-symbol RelLevel = RelPath
+symbol RelativeLevel = RelativeLocationPath
 symbol ArgumentLevel = Arguments
 
 abbrev pub operand : Level → Symbol
@@ -63,10 +63,10 @@ operand OrLevel = AndExpr
 operand AndLevel = EqualityExpr
 operand EqualityLevel = RelationalExpr
 operand RelationalLevel = AdditiveExpr
-operand AdditiveLevel = MultExpr
-operand MultLevel = UnaryExpr
+operand AdditiveLevel = MultiplicativeExpr
+operand MultiplicativeLevel = UnaryExpr
 operand UnionLevel = PathExpr
-operand RelLevel = StepPart
+operand RelativeLevel = StepPart
 operand ArgumentLevel = OrExpr
 
 abbrev pub rank_of : Level → ℕ
@@ -75,9 +75,9 @@ rank_of AndLevel = 2
 rank_of EqualityLevel = 3
 rank_of RelationalLevel = 4
 rank_of AdditiveLevel = 5
-rank_of MultLevel = 6
+rank_of MultiplicativeLevel = 6
 rank_of UnionLevel = 8
-rank_of RelLevel = 9
+rank_of RelativeLevel = 9
 rank_of ArgumentLevel = 0
 
 -- what one part alone gives
@@ -94,7 +94,7 @@ combined (Arithmetic op) (expr a) (expr b) = expr (arithmetic op a b)
 combined Bar (expr a) (expr b) = expr (union a b)
 combined Slash (walk v) (walk w) = walk (joined v w)
 combined SlashSlash (walk v) (walk w) = walk (joined v (any_depth w))
-combined Comma (exprs es) (expr a) = exprs (snoc es a)
+combined Comma (exprs es) (expr a) = exprs (appended es a)
 combined _ x y = x
 
 -- a list is cut here: outside all brackets, by a token of the rank, with no such token later
@@ -154,7 +154,7 @@ form rust.And = AndLevel
 form rust.Equality = EqualityLevel
 form rust.Relational = RelationalLevel
 form rust.Additive = AdditiveLevel
-form rust.Mult = MultLevel
+form rust.Multiplicative = MultiplicativeLevel
 form rust.Union = UnionLevel
 
 -- an operator of an expression, between two parts
@@ -173,7 +173,7 @@ height rust.And = 15
 height rust.Equality = 14
 height rust.Relational = 13
 height rust.Additive = 12
-height rust.Mult = 11
+height rust.Multiplicative = 11
 height rust.Union = 8
 
 -- what a part that only needs memory answers
@@ -227,9 +227,9 @@ is_minus (Arithmetic Subtract) = true
 is_minus _ = false
 
 -- how many minus signs stand at the front
-abbrev pub minus_len : List Token → ℕ
-minus_len [] = 0
-minus_len (t ∷ ts) = cond (is_minus t) (suc (minus_len ts)) 0
+abbrev pub leading_minuses : List Token → ℕ
+leading_minuses [] = 0
+leading_minuses (t ∷ ts) = cond (is_minus t) (suc (leading_minuses ts)) 0
 
 abbrev pub negations : ℕ → Tree → Tree
 negations zero a = a

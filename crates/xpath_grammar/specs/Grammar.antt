@@ -18,7 +18,7 @@ use Rattle.xpath_grammar.specs.Tree.{Tree, Trees, Walk, or, and, union, compare,
 
 -- the symbols of the grammar
 pub data Symbol : Type 0 where
-  OrExpr AndExpr EqualityExpr RelationalExpr AdditiveExpr MultExpr UnaryExpr UnionExpr PathExpr FilterExpr PrimaryExpr Arguments LocationPath RelPath StepPart Predicates Predicate : Symbol
+  OrExpr AndExpr EqualityExpr RelationalExpr AdditiveExpr MultiplicativeExpr UnaryExpr UnionExpr PathExpr FilterExpr PrimaryExpr Arguments LocationPath RelativeLocationPath StepPart Predicates Predicate : Symbol
 
 -- what a symbol stands for
 pub data Phrase : Type 0 where
@@ -28,9 +28,9 @@ pub data Phrase : Type 0 where
   walk : Walk → Phrase
 
 -- one more at the end
-abbrev pub snoc : Trees → Tree → Trees
-snoc none e = more e none
-snoc (more x xs) e = more x (snoc xs e)
+abbrev pub appended : Trees → Tree → Trees
+appended none e = more e none
+appended (more x xs) e = more x (appended xs e)
 
 abbrev pub joined : Walk → Walk → Walk
 joined stop w = w
@@ -59,10 +59,10 @@ pub data IsAdditive : Operator → Type 0 where
   plus : IsAdditive Add
   minus : IsAdditive Subtract
 
-pub data IsMult : Operator → Type 0 where
-  times : IsMult Multiply
-  divided : IsMult Divide
-  modulo : IsMult Modulo
+pub data IsMultiplicative : Operator → Type 0 where
+  times : IsMultiplicative Multiply
+  divided : IsMultiplicative Divide
+  modulo : IsMultiplicative Modulo
 
 -- the axis of a step; nothing stands for child:: (XPath 1.0, productions 5 and 13)
 pub data IsAxis : List Token → StepAxis → Type 0 where
@@ -94,20 +94,20 @@ pub data Derives : Symbol → List Token → Phrase → Type 0 where
   equality_more : {us vs : List Token} {a b : Tree} {how : Comparison} → IsEquality how → Derives EqualityExpr us (expr a) → Derives RelationalExpr vs (expr b) → Derives EqualityExpr (us ++ Compare how ∷ vs) (expr (compare how a b))
   relational_one : {ts : List Token} {e : Phrase} → Derives AdditiveExpr ts e → Derives RelationalExpr ts e
   relational_more : {us vs : List Token} {a b : Tree} {how : Comparison} → IsRelational how → Derives RelationalExpr us (expr a) → Derives AdditiveExpr vs (expr b) → Derives RelationalExpr (us ++ Compare how ∷ vs) (expr (compare how a b))
-  additive_one : {ts : List Token} {e : Phrase} → Derives MultExpr ts e → Derives AdditiveExpr ts e
-  additive_more : {us vs : List Token} {a b : Tree} {op : Operator} → IsAdditive op → Derives AdditiveExpr us (expr a) → Derives MultExpr vs (expr b) → Derives AdditiveExpr (us ++ Arithmetic op ∷ vs) (expr (arithmetic op a b))
-  mult_one : {ts : List Token} {e : Phrase} → Derives UnaryExpr ts e → Derives MultExpr ts e
-  mult_more : {us vs : List Token} {a b : Tree} {op : Operator} → IsMult op → Derives MultExpr us (expr a) → Derives UnaryExpr vs (expr b) → Derives MultExpr (us ++ Arithmetic op ∷ vs) (expr (arithmetic op a b))
+  additive_one : {ts : List Token} {e : Phrase} → Derives MultiplicativeExpr ts e → Derives AdditiveExpr ts e
+  additive_more : {us vs : List Token} {a b : Tree} {op : Operator} → IsAdditive op → Derives AdditiveExpr us (expr a) → Derives MultiplicativeExpr vs (expr b) → Derives AdditiveExpr (us ++ Arithmetic op ∷ vs) (expr (arithmetic op a b))
+  multiplicative_one : {ts : List Token} {e : Phrase} → Derives UnaryExpr ts e → Derives MultiplicativeExpr ts e
+  multiplicative_more : {us vs : List Token} {a b : Tree} {op : Operator} → IsMultiplicative op → Derives MultiplicativeExpr us (expr a) → Derives UnaryExpr vs (expr b) → Derives MultiplicativeExpr (us ++ Arithmetic op ∷ vs) (expr (arithmetic op a b))
   unary_one : {ts : List Token} {e : Phrase} → Derives UnionExpr ts e → Derives UnaryExpr ts e
   unary_minus : {ts : List Token} {a : Tree} → Derives UnaryExpr ts (expr a) → Derives UnaryExpr (Arithmetic Subtract ∷ ts) (expr (negate a))
   union_one : {ts : List Token} {e : Phrase} → Derives PathExpr ts e → Derives UnionExpr ts e
   union_more : {us vs : List Token} {a b : Tree} → Derives UnionExpr us (expr a) → Derives PathExpr vs (expr b) → Derives UnionExpr (us ++ Bar ∷ vs) (expr (union a b))
   path_location : {ts : List Token} {e : Phrase} → Derives LocationPath ts e → Derives PathExpr ts e
   path_filter : {ts : List Token} {a : Tree} {ps : Trees} → Derives FilterExpr ts (filtered a ps) → Derives PathExpr ts (expr (filter_tree a ps))
-  path_slash : {us vs : List Token} {a : Tree} {ps : Trees} {w : Walk} → Derives FilterExpr us (filtered a ps) → Derives RelPath vs (walk w) → Derives PathExpr (us ++ Slash ∷ vs) (expr (from (filter_tree a ps) w))
-  path_slash_slash : {us vs : List Token} {a : Tree} {ps : Trees} {w : Walk} → Derives FilterExpr us (filtered a ps) → Derives RelPath vs (walk w) → Derives PathExpr (us ++ SlashSlash ∷ vs) (expr (from (filter_tree a ps) (any_depth w)))
+  path_slash : {us vs : List Token} {a : Tree} {ps : Trees} {w : Walk} → Derives FilterExpr us (filtered a ps) → Derives RelativeLocationPath vs (walk w) → Derives PathExpr (us ++ Slash ∷ vs) (expr (from (filter_tree a ps) w))
+  path_slash_slash : {us vs : List Token} {a : Tree} {ps : Trees} {w : Walk} → Derives FilterExpr us (filtered a ps) → Derives RelativeLocationPath vs (walk w) → Derives PathExpr (us ++ SlashSlash ∷ vs) (expr (from (filter_tree a ps) (any_depth w)))
   filter_one : {ts : List Token} {a : Tree} → Derives PrimaryExpr ts (expr a) → Derives FilterExpr ts (filtered a none)
-  filter_more : {us vs : List Token} {a p : Tree} {ps : Trees} → Derives FilterExpr us (filtered a ps) → Derives Predicate vs (expr p) → Derives FilterExpr (us ++ vs) (filtered a (snoc ps p))
+  filter_more : {us vs : List Token} {a p : Tree} {ps : Trees} → Derives FilterExpr us (filtered a ps) → Derives Predicate vs (expr p) → Derives FilterExpr (us ++ vs) (filtered a (appended ps p))
   primary_variable : {n : List ℕ} → Derives PrimaryExpr (Variable n ∷ []) (expr (variable n))
   primary_bracket : {ts : List Token} {a : Tree} → Derives OrExpr ts (expr a) → Derives PrimaryExpr (Open ∷ (ts ++ Close ∷ [])) (expr a)
   primary_literal : {t : List ℕ} → Derives PrimaryExpr (Literal t ∷ []) (expr (literal t))
@@ -115,19 +115,19 @@ pub data Derives : Symbol → List Token → Phrase → Type 0 where
   call_none : {f : List ℕ} → Derives PrimaryExpr (Function f ∷ Open ∷ Close ∷ []) (expr (call f none))
   call_some : {f : List ℕ} {ts : List Token} {es : Trees} → Derives Arguments ts (exprs es) → Derives PrimaryExpr (Function f ∷ Open ∷ (ts ++ Close ∷ [])) (expr (call f es))
   arguments_one : {ts : List Token} {a : Tree} → Derives OrExpr ts (expr a) → Derives Arguments ts (exprs (more a none))
-  arguments_more : {us vs : List Token} {a : Tree} {es : Trees} → Derives Arguments us (exprs es) → Derives OrExpr vs (expr a) → Derives Arguments (us ++ Comma ∷ vs) (exprs (snoc es a))
-  location_rel : {ts : List Token} {w : Walk} → Derives RelPath ts (walk w) → Derives LocationPath ts (expr (path false w))
+  arguments_more : {us vs : List Token} {a : Tree} {es : Trees} → Derives Arguments us (exprs es) → Derives OrExpr vs (expr a) → Derives Arguments (us ++ Comma ∷ vs) (exprs (appended es a))
+  location_relative : {ts : List Token} {w : Walk} → Derives RelativeLocationPath ts (walk w) → Derives LocationPath ts (expr (path false w))
   location_root : Derives LocationPath (Slash ∷ []) (expr (path true stop))
-  location_slash : {ts : List Token} {w : Walk} → Derives RelPath ts (walk w) → Derives LocationPath (Slash ∷ ts) (expr (path true w))
-  location_slash_slash : {ts : List Token} {w : Walk} → Derives RelPath ts (walk w) → Derives LocationPath (SlashSlash ∷ ts) (expr (path true (any_depth w)))
-  rel_one : {ts : List Token} {e : Phrase} → Derives StepPart ts e → Derives RelPath ts e
-  rel_slash : {us vs : List Token} {v w : Walk} → Derives RelPath us (walk v) → Derives StepPart vs (walk w) → Derives RelPath (us ++ Slash ∷ vs) (walk (joined v w))
-  rel_slash_slash : {us vs : List Token} {v w : Walk} → Derives RelPath us (walk v) → Derives StepPart vs (walk w) → Derives RelPath (us ++ SlashSlash ∷ vs) (walk (joined v (any_depth w)))
+  location_slash : {ts : List Token} {w : Walk} → Derives RelativeLocationPath ts (walk w) → Derives LocationPath (Slash ∷ ts) (expr (path true w))
+  location_slash_slash : {ts : List Token} {w : Walk} → Derives RelativeLocationPath ts (walk w) → Derives LocationPath (SlashSlash ∷ ts) (expr (path true (any_depth w)))
+  relative_one : {ts : List Token} {e : Phrase} → Derives StepPart ts e → Derives RelativeLocationPath ts e
+  relative_slash : {us vs : List Token} {v w : Walk} → Derives RelativeLocationPath us (walk v) → Derives StepPart vs (walk w) → Derives RelativeLocationPath (us ++ Slash ∷ vs) (walk (joined v w))
+  relative_slash_slash : {us vs : List Token} {v w : Walk} → Derives RelativeLocationPath us (walk v) → Derives StepPart vs (walk w) → Derives RelativeLocationPath (us ++ SlashSlash ∷ vs) (walk (joined v (any_depth w)))
   step : (us vs ws : List Token) {a : StepAxis} {t : StepTest} {ps : Trees} → IsAxis us a → IsTest vs t → Derives Predicates ws (exprs ps) → Derives StepPart (us ++ (vs ++ ws)) (walk (go a t ps stop))
   step_dot : Derives StepPart (Dot ∷ []) (walk (go (Known axis.Itself) test.Node none stop))
   step_dots : Derives StepPart (DotDot ∷ []) (walk (go (Known axis.Parent) test.Node none stop))
   predicates_none : Derives Predicates [] (exprs none)
-  predicates_more : {us vs : List Token} {p : Tree} {ps : Trees} → Derives Predicates us (exprs ps) → Derives Predicate vs (expr p) → Derives Predicates (us ++ vs) (exprs (snoc ps p))
+  predicates_more : {us vs : List Token} {p : Tree} {ps : Trees} → Derives Predicates us (exprs ps) → Derives Predicate vs (expr p) → Derives Predicates (us ++ vs) (exprs (appended ps p))
   predicate : {ts : List Token} {a : Tree} → Derives OrExpr ts (expr a) → Derives Predicate (OpenSquare ∷ (ts ++ CloseSquare ∷ [])) (expr a)
 
 -- whether a token ends an operand, so that a minus behind it is binary
@@ -162,7 +162,7 @@ Stands AndExpr b = b ≡ false
 Stands EqualityExpr b = b ≡ false
 Stands RelationalExpr b = b ≡ false
 Stands AdditiveExpr b = b ≡ false
-Stands MultExpr b = b ≡ false
+Stands MultiplicativeExpr b = b ≡ false
 Stands UnaryExpr b = b ≡ false
 Stands Predicates b = b ≡ true
 Stands _ b = Unit {0}

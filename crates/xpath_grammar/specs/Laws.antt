@@ -5,7 +5,7 @@ use Rattle.xpath_tokens.specs.declared.Token.TheVariants.{Comma, Or, And, Compar
 use Rattle.xpath_tokens.specs.declared.Comparison.{Comparison}
 use Rattle.xpath_tokens.specs.declared.Operator.{Operator}
 use Rattle.xpath_tokens.specs.declared.Operator.TheVariants.{Subtract}
-use Rattle.xpath_grammar.specs.Grammar.{Symbol, Phrase, Derives, or_one, or_more, and_one, and_more, equality_one, equality_more, relational_one, relational_more, additive_one, additive_more, mult_one, mult_more, unary_one, unary_minus, union_one, union_more, path_location, path_filter, path_slash, path_slash_slash, filter_one, filter_more, primary_bracket, primary_variable, primary_literal, primary_number, call_none, call_some, arguments_one, arguments_more, location_rel, location_root, location_slash, location_slash_slash, rel_one, rel_slash, rel_slash_slash, step, step_dot, step_dots, predicates_none, predicates_more, predicate, plus, minus, IsAdditive, ends, IsEquality, IsRelational, IsMult, depth, ended, OrExpr, AndExpr, EqualityExpr, RelationalExpr, AdditiveExpr, MultExpr, UnaryExpr, UnionExpr, PathExpr, Arguments, RelPath, StepPart}
+use Rattle.xpath_grammar.specs.Grammar.{Symbol, Phrase, Derives, or_one, or_more, and_one, and_more, equality_one, equality_more, relational_one, relational_more, additive_one, additive_more, multiplicative_one, multiplicative_more, unary_one, unary_minus, union_one, union_more, path_location, path_filter, path_slash, path_slash_slash, filter_one, filter_more, primary_bracket, primary_variable, primary_literal, primary_number, call_none, call_some, arguments_one, arguments_more, location_relative, location_root, location_slash, location_slash_slash, relative_one, relative_slash, relative_slash_slash, step, step_dot, step_dots, predicates_none, predicates_more, predicate, plus, minus, IsAdditive, ends, IsEquality, IsRelational, IsMultiplicative, depth, ended, OrExpr, AndExpr, EqualityExpr, RelationalExpr, AdditiveExpr, MultiplicativeExpr, UnaryExpr, UnionExpr, PathExpr, Arguments, RelativeLocationPath, StepPart}
 
 -- of each minus in a derivation, in their order, whether it is binary there
 abbrev pub minuses : {s : Symbol} {ts : List Token} {e : Phrase} → Derives s ts e → List Bool
@@ -20,8 +20,8 @@ minuses (relational_more how c d) = minuses c ++ minuses d
 minuses (additive_one d) = minuses d
 minuses (additive_more plus c d) = minuses c ++ minuses d
 minuses (additive_more minus c d) = minuses c ++ true ∷ minuses d
-minuses (mult_one d) = minuses d
-minuses (mult_more op c d) = minuses c ++ minuses d
+minuses (multiplicative_one d) = minuses d
+minuses (multiplicative_more op c d) = minuses c ++ minuses d
 minuses (unary_one d) = minuses d
 minuses (unary_minus d) = false ∷ minuses d
 minuses (union_one d) = minuses d
@@ -40,13 +40,13 @@ minuses call_none = []
 minuses (call_some d) = minuses d
 minuses (arguments_one d) = minuses d
 minuses (arguments_more c d) = minuses c ++ minuses d
-minuses (location_rel d) = minuses d
+minuses (location_relative d) = minuses d
 minuses location_root = []
 minuses (location_slash d) = minuses d
 minuses (location_slash_slash d) = minuses d
-minuses (rel_one d) = minuses d
-minuses (rel_slash c d) = minuses c ++ minuses d
-minuses (rel_slash_slash c d) = minuses c ++ minuses d
+minuses (relative_one d) = minuses d
+minuses (relative_slash c d) = minuses c ++ minuses d
+minuses (relative_slash_slash c d) = minuses c ++ minuses d
 minuses (step us vs ws axis test d) = minuses d
 minuses step_dot = []
 minuses step_dots = []
@@ -67,11 +67,11 @@ pub data IsForm : Symbol → Token → Symbol → Type 0 where
   by_and : IsForm AndExpr And EqualityExpr
   by_equality : {how : Comparison} → IsEquality how → IsForm EqualityExpr (Compare how) RelationalExpr
   by_relational : {how : Comparison} → IsRelational how → IsForm RelationalExpr (Compare how) AdditiveExpr
-  by_additive : {op : Operator} → IsAdditive op → IsForm AdditiveExpr (Arithmetic op) MultExpr
-  by_mult : {op : Operator} → IsMult op → IsForm MultExpr (Arithmetic op) UnaryExpr
+  by_additive : {op : Operator} → IsAdditive op → IsForm AdditiveExpr (Arithmetic op) MultiplicativeExpr
+  by_multiplicative : {op : Operator} → IsMultiplicative op → IsForm MultiplicativeExpr (Arithmetic op) UnaryExpr
   by_bar : IsForm UnionExpr Bar PathExpr
-  by_slash : IsForm RelPath Slash StepPart
-  by_slash_slash : IsForm RelPath SlashSlash StepPart
+  by_slash : IsForm RelativeLocationPath Slash StepPart
+  by_slash_slash : IsForm RelativeLocationPath SlashSlash StepPart
   by_comma : IsForm Arguments Comma OrExpr
 
 -- a token is one of the operators of a symbol

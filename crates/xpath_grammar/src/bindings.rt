@@ -1,4 +1,4 @@
-// Bindings of prefixes to URIs.
+//! Bindings of prefixes to URIs.
 
 use crate::held::{Binding, can_bind, find, put};
 use std::alloc::{AllocError, AllocFailed, Global};
@@ -61,7 +61,7 @@ impl Bindings {
     ghost use Rattle.std.specs.Prelude.{◌≡◌, ◌↔◌, ℕ, List, [], cond, Some, false, Err, OnOk, OnErr, option_map};
     ghost use Rattle.std.specs.Str.{bytes_eq, chars};
     ghost use Rattle.xpath_grammar.specs.declared.bindings.BindFault.TheVariants.{Name};
-    ghost use Rattle.xpath_grammar.specs.Bindings.{uri_in, can_bind as can_bind_lem};
+    ghost use Rattle.xpath_grammar.specs.Bindings.{uri_in, can_bind};
 
     /// Bindings of the prefix `xml` alone.
     pub fn new(alloc: Global) -> Bindings
@@ -74,10 +74,11 @@ impl Bindings {
 
     /// Binds a prefix to a URI, in place of an earlier binding.
     ///
-    /// Errors: `Name` exactly where the prefix is no NCName, or is `xml` or `xmlns`, or the URI is empty; `NoMemory`.
+    /// # Errors
+    /// `Name` exactly where the prefix is no NCName, or is `xml` or `xmlns`, or the URI is empty; `NoMemory`.
     /// After an error the bindings are unchanged.
     pub fn set(&mut self, prefix: &str, uri: &str) -> Result<(), BindFault>
-        ensures name { (result ≡ Err Name) ↔ (can_bind_lem (chars prefix.now) (chars uri.now) ≡ false) }
+        ensures name { (result ≡ Err Name) ↔ (can_bind (chars prefix.now) (chars uri.now) ≡ false) }
         ensures bound { OnOk result ((q : List ℕ) → uri_in self.new q ≡ cond (bytes_eq (chars prefix.now) q) (Some (chars uri.now)) (uri_in self.old q)) }
         ensures unchanged { OnErr result (self.new ≡ self.old) }
     {

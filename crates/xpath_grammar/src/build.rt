@@ -1,16 +1,16 @@
-// Expressions made of their parts.
+//! Expressions made of their parts.
 
 ghost use Rattle.std.specs.Prelude.{◌≡◌, ℕ, true, IfOk};
 ghost use Rattle.xpath_grammar.specs.Tree.{tree_of, trees_of, walk_of, negate, from as from_tree, filter as filter_with, more as more_trees, call as call_tree, number as number_tree, literal as literal_tree, variable as variable_tree, path as path_tree};
-ghost use Rattle.xpath_grammar.specs.Grammar.{any_depth as any_depth_lem, joined as joined_walks};
-ghost use Rattle.xpath_grammar.specs.Cutting.{behind_slash as behind_slash_lem, step_walk, Gives, as_expr, combined, IsBinary, negations, applied as applied_lem, AreBinary};
+ghost use Rattle.xpath_grammar.specs.Grammar.{any_depth, joined as joined_walks};
+ghost use Rattle.xpath_grammar.specs.Cutting.{behind_slash, step_walk, Gives, as_expr, combined, IsBinary, negations, applied, AreBinary};
 
 use crate::expr::{Expr, Exprs, Step, StepTest, Steps};
 use std::alloc::{AllocError, Global};
 use xml_model::{Axis, Text};
 use xpath_tokens::{Fault, StepAxis, Token};
 
-/// Two expressions with an operator between.
+/// Two expressions with an operator between (XPath 1.0, productions 18 and 21 to 26).
 pub fn joined(alloc: Global, token: &Token, left: Expr, right: Expr) -> Result<Expr, Fault>
     requires { IsBinary token.now }
     ensures { Gives result (λ e. as_expr e ≡ combined token.now (as_expr left) (as_expr right)) }
@@ -26,14 +26,14 @@ pub fn joined(alloc: Global, token: &Token, left: Expr, right: Expr) -> Result<E
     })
 }
 
-/// The expression with a minus sign before it.
+/// The expression with a minus sign before it (XPath 1.0, production 27).
 pub fn negated(alloc: Global, part: Expr) -> Result<Expr, Fault>
     ensures { Gives result (λ e. tree_of e ≡ negate (tree_of part)) }
 {
     Ok(Expr::Negate(Box::new(alloc, part)?))
 }
 
-/// The expression with as many minus signs before it.
+/// The expression with `count` minus signs before it.
 pub fn negated_times(alloc: Global, count: usize, part: Expr) -> Result<Expr, Fault>
     ensures { Gives result (λ e. tree_of e ≡ negations count (tree_of part)) }
 {
@@ -44,7 +44,7 @@ pub fn negated_times(alloc: Global, count: usize, part: Expr) -> Result<Expr, Fa
     Ok(all)
 }
 
-/// A path that begins at an expression.
+/// The path of these steps from the nodes of an expression (XPath 1.0, production 19).
 pub fn from(alloc: Global, start: Expr, steps: Steps) -> Result<Expr, Fault>
     ensures { Gives result (λ e. tree_of e ≡ from_tree (tree_of start) (walk_of steps)) }
 {
@@ -52,6 +52,7 @@ pub fn from(alloc: Global, start: Expr, steps: Steps) -> Result<Expr, Fault>
     Ok(Expr::From { start, steps })
 }
 
+/// The expression with predicates behind it (XPath 1.0, production 20).
 pub fn filtered(alloc: Global, start: Expr, predicates: Exprs) -> Result<Expr, Fault>
     ensures { Gives result (λ e. tree_of e ≡ filter_with (tree_of start) (trees_of predicates)) }
 {
@@ -68,24 +69,28 @@ pub fn copy(alloc: Global, text: &Text) -> Result<Text, AllocError>
     })
 }
 
+/// The literal with that text between its quotes (XPath 1.0, production 29).
 pub fn literal(alloc: Global, text: &Text) -> Result<Expr, Fault>
     ensures { Gives result (λ e. tree_of e ≡ literal_tree text.now) }
 {
     Ok(Expr::Literal(copy(alloc, text)?))
 }
 
+/// The number that is spelled so (XPath 1.0, production 30).
 pub fn number(alloc: Global, text: &Text) -> Result<Expr, Fault>
     ensures { Gives result (λ e. tree_of e ≡ number_tree text.now) }
 {
     Ok(Expr::Number(copy(alloc, text)?))
 }
 
+/// The reference to the variable of that name (XPath 1.0, production 36).
 pub fn variable(alloc: Global, name: &Text) -> Result<Expr, Fault>
     ensures { Gives result (λ e. tree_of e ≡ variable_tree name.now) }
 {
     Ok(Expr::Variable(copy(alloc, name)?))
 }
 
+/// The call of the function of that name (XPath 1.0, production 16).
 pub fn call(alloc: Global, name: &Text, arguments: Exprs) -> Result<Expr, Fault>
     ensures { Gives result (λ e. tree_of e ≡ call_tree name.now (trees_of arguments)) }
 {
@@ -93,7 +98,7 @@ pub fn call(alloc: Global, name: &Text, arguments: Exprs) -> Result<Expr, Fault>
     Ok(Expr::Call { name, arguments })
 }
 
-/// One more expression in front.
+/// The list with one more expression in front.
 pub fn more(alloc: Global, part: Expr, all: Exprs) -> Result<Exprs, Fault>
     ensures { Gives result (λ es. trees_of es ≡ more_trees (tree_of part) (trees_of all)) }
 {
@@ -102,7 +107,7 @@ pub fn more(alloc: Global, part: Expr, all: Exprs) -> Result<Exprs, Fault>
     Ok(Exprs::More(part, all))
 }
 
-/// One more step in front.
+/// The steps with one more in front (XPath 1.0, production 3).
 pub fn step_more(alloc: Global, part: Step, all: Steps) -> Result<Steps, Fault>
     ensures { Gives result (λ s. walk_of s ≡ joined_walks (step_walk part) (walk_of all)) }
 {
@@ -111,9 +116,9 @@ pub fn step_more(alloc: Global, part: Step, all: Steps) -> Result<Steps, Fault>
     Ok(Steps::More(part, all))
 }
 
-/// The steps behind the step that two slashes stand for.
+/// The steps behind the one that `//` stands for (XPath 1.0, productions 10 and 11).
 pub fn any_depth(alloc: Global, steps: Steps) -> Result<Steps, Fault>
-    ensures { Gives result (λ s. walk_of s ≡ any_depth_lem (walk_of steps)) }
+    ensures { Gives result (λ s. walk_of s ≡ any_depth (walk_of steps)) }
 {
     let step = Step {
         axis: StepAxis::Known(Axis::DescendantOrSelf),
@@ -125,9 +130,9 @@ pub fn any_depth(alloc: Global, steps: Steps) -> Result<Steps, Fault>
     Ok(Steps::More(step, steps))
 }
 
-/// The steps behind a slash or two.
+/// The steps behind `/` or `//`, with the one that `//` stands for.
 pub fn behind_slash(alloc: Global, token: &Token, steps: Steps) -> Result<Steps, Fault>
-    ensures { Gives result (λ s. walk_of s ≡ behind_slash_lem token.now (walk_of steps)) }
+    ensures { Gives result (λ s. walk_of s ≡ behind_slash token.now (walk_of steps)) }
 {
     match token {
         Token::SlashSlash => any_depth(alloc, steps),
@@ -135,9 +140,9 @@ pub fn behind_slash(alloc: Global, token: &Token, steps: Steps) -> Result<Steps,
     }
 }
 
-/// A path from the root to any depth.
+/// The path that begins with `//`, before these steps (XPath 1.0, production 10).
 pub fn deep(alloc: Global, steps: Steps) -> Result<Expr, Fault>
-    ensures { Gives result (λ e. tree_of e ≡ path_tree true (any_depth_lem (walk_of steps))) }
+    ensures { Gives result (λ e. tree_of e ≡ path_tree true (any_depth (walk_of steps))) }
 {
     let steps = any_depth(alloc, steps)?;
     Ok(Expr::Path {
@@ -146,10 +151,11 @@ pub fn deep(alloc: Global, steps: Steps) -> Result<Expr, Fault>
     })
 }
 
-/// An expression, with the operators and operands behind it, of which the last come first.
+/// The first operand with the operators and operands behind it, applied from the left; `behind` has the last of them
+/// first.
 pub fn applied(alloc: Global, first: Expr, mut behind: Vec<(&Token, Expr)>) -> Result<Expr, Fault>
     requires { AreBinary behind.items }
-    ensures { Gives result (λ e. tree_of e ≡ applied_lem (tree_of first) behind.entry.items) }
+    ensures { Gives result (λ e. tree_of e ≡ applied (tree_of first) behind.entry.items) }
 {
     let mut left = first;
     while let Some((token, part)) = behind.pop() {

@@ -1,8 +1,8 @@
-// The parser of texts.
+//! The parser of texts.
 
 ghost use Rattle.std.specs.Prelude.{◌≡◌, ◌<◌, ◌↔◌, IsTrue, IfOk, IfErr, Err, length};
 ghost use Rattle.xpath_grammar.specs.declared.entry.GrammarFault.TheVariants.{Long};
-ghost use Rattle.xpath_grammar.specs.Parse.{opens as opens_lem, closes as closes_lem, deep_from, IsDeep, longest_text, IsParse, IsRefusal, fault_of as fault_of_lem, ParsesTokens};
+ghost use Rattle.xpath_grammar.specs.Parse.{opens, closes, deep_from, IsDeep, longest_text, IsParse, IsRefusal, fault_of, ParsesTokens};
 
 use crate::expr::Expr;
 use crate::parser::{Binary, chain};
@@ -29,8 +29,9 @@ pub enum GrammarFault {
     NoMemory,
 }
 
+/// The refusal of a text whose tokens, or whose parse, had that fault.
 fn fault_of(fault: Fault) -> GrammarFault
-    ensures { result ≡ fault_of_lem fault }
+    ensures { result ≡ fault_of fault }
 {
     match fault {
         Fault::Syntax => GrammarFault::Syntax,
@@ -38,14 +39,16 @@ fn fault_of(fault: Fault) -> GrammarFault
     }
 }
 
+/// Whether a token is an opening bracket.
 fn opens(token: &Token) -> bool
-    ensures { result ≡ opens_lem token.now }
+    ensures { result ≡ opens token.now }
 {
     matches!(token, Token::Open | Token::OpenSquare)
 }
 
+/// Whether a token is a closing bracket.
 fn closes(token: &Token) -> bool
-    ensures { result ≡ closes_lem token.now }
+    ensures { result ≡ closes token.now }
 {
     matches!(token, Token::Close | Token::CloseSquare)
 }
@@ -70,6 +73,7 @@ fn is_deep(tokens: &[Token]) -> bool
     false
 }
 
+/// The expression that tokens derive, where their brackets are not too deep.
 fn parse_tokens(alloc: Global, tokens: &[Token]) -> Result<Expr, GrammarFault>
     ensures { ParsesTokens tokens.now result }
 {
@@ -84,9 +88,10 @@ fn parse_tokens(alloc: Global, tokens: &[Token]) -> Result<Expr, GrammarFault>
 
 /// The expression that a text is (XPath 1.0, sections 2 and 3), with the abbreviations expanded and the brackets dropped.
 ///
-/// Errors: `Long` exactly where the text has more than 4,096 bytes. Else `Deep` exactly where it splits into tokens of
-/// some prefix of which has more than 64 opening brackets beyond its closing ones. Else `Syntax` exactly where it splits into no tokens, or they derive
-/// no expression. `NoMemory` may come in place of any other answer but `Long`.
+/// # Errors
+/// `Long` exactly where the text has more than 4,096 bytes. Else `Deep` exactly where it splits into tokens of which some
+/// prefix has more than 64 opening brackets beyond its closing ones. Else `Syntax` exactly where it splits into no tokens,
+/// or they derive no expression. `NoMemory` may come in place of any other answer but `Long`.
 pub fn parse(alloc: Global, text: &str) -> Result<Expr, GrammarFault>
     ensures long { (result ≡ Err Long) ↔ (longest_text < length text.now) }
     ensures expression { IfOk result (IsParse text.now) }

@@ -1,6 +1,6 @@
-// Expressions with what they parse to, and with what they are refused for.
+//! Expressions with what they parse to, and with what they are refused for.
 
-// XPath 1.0, section 2: location paths in full.
+/// XPath 1.0, section 2: location paths in full.
 pub const FULL_PATHS: [(&str, &str); 31] = [
     ("child::para", "child::para"),
     ("child::*", "child::*"),
@@ -80,7 +80,7 @@ pub const FULL_PATHS: [(&str, &str); 31] = [
     ),
 ];
 
-// XPath 1.0, sections 2.5, 2.4 and 3.3: what the abbreviations stand for, and what a predicate belongs to.
+/// XPath 1.0, sections 2.5, 2.4 and 3.3: what the abbreviations stand for, and what a predicate belongs to.
 pub const SHORT_PATHS: [(&str, &str); 26] = [
     ("para", "child::para"),
     ("*", "child::*"),
@@ -137,7 +137,7 @@ pub const SHORT_PATHS: [(&str, &str); 26] = [
     ("(preceding::foo)[1]", "{preceding::foo}[1]"),
 ];
 
-// Other paths, and names that are operators, axes or node types elsewhere.
+/// Other paths, and names that are operators, axes or node types elsewhere.
 pub const PATHS: [(&str, &str); 31] = [
     ("ancestor-or-self :: div", "ancestor-or-self::div"),
     ("following::a", "following::a"),
@@ -184,7 +184,7 @@ pub const PATHS: [(&str, &str); 31] = [
     ("node", "child::node"),
 ];
 
-// Chains of operators, literals, numbers and calls.
+/// Chains of operators, literals, numbers and calls.
 pub const CHAINS: [(&str, &str); 32] = [
     ("1", "1"),
     ("10 - 3 - 2", "(- (- 10 3) 2)"),
@@ -229,7 +229,7 @@ pub const CHAINS: [(&str, &str); 32] = [
     ("'\u{A0}<'", "'\u{A0}<'"),
 ];
 
-// Texts that are no expressions.
+/// Texts that are no expressions.
 pub const WRONG: [&str; 68] = [
     "1 +",
     "+ 1",
@@ -301,7 +301,7 @@ pub const WRONG: [&str; 68] = [
     "\u{A0}1",
 ];
 
-// What shows before an expression meets a document, where c is bound and q is not.
+/// What shows before an expression meets a document, where c is bound and q is not.
 pub const REFUSALS: [(&str, &str); 76] = [
     ("5 div 2", "ok"),
     ("4 div 2", "ok"),

@@ -1,4 +1,4 @@
-// Expressions.
+//! Expressions.
 
 use xml_model::Text;
 use xpath_tokens::{Comparison, Operator, StepAxis};
@@ -7,11 +7,17 @@ use xpath_tokens::{Comparison, Operator, StepAxis};
 #[cycle(expr)]
 #[derive(Drop)]
 pub enum Expr {
+    /// `or` between two expressions (XPath 1.0, production 21).
     Or(Box<Expr>, Box<Expr>),
+    /// `and` between two expressions (XPath 1.0, production 22).
     And(Box<Expr>, Box<Expr>),
+    /// A comparison of two expressions (XPath 1.0, productions 23 and 24).
     Compare(Comparison, Box<Expr>, Box<Expr>),
+    /// An operator on two numbers (XPath 1.0, productions 25 and 26).
     Arithmetic(Operator, Box<Expr>, Box<Expr>),
+    /// A minus sign before an expression (XPath 1.0, production 27).
     Negate(Box<Expr>),
+    /// `|` between two expressions (XPath 1.0, production 18).
     Union(Box<Expr>, Box<Expr>),
     /// A location path (XPath 1.0, production 1), from the root where it is absolute, else from the context node. One
     /// that is not absolute has a step.
@@ -34,7 +40,9 @@ pub enum Expr {
 #[cycle(expr)]
 #[derive(Drop)]
 pub enum Exprs {
+    /// No expression.
     End,
+    /// The first expression and the list of the others.
     More(Box<Expr>, Box<Exprs>),
 }
 
@@ -42,7 +50,9 @@ pub enum Exprs {
 #[cycle(expr)]
 #[derive(Drop)]
 pub enum Steps {
+    /// No step.
     End,
+    /// The first step and the list of the others.
     More(Box<Step>, Box<Steps>),
 }
 
@@ -50,19 +60,26 @@ pub enum Steps {
 #[cycle(expr)]
 #[derive(Drop)]
 pub struct Step {
+    /// The axis on which its nodes lie.
     pub axis: StepAxis,
+    /// What its nodes pass.
     pub test: StepTest,
+    /// The predicates behind the test, in their order.
     pub predicates: Exprs,
 }
 
 /// What the nodes of a step pass (XPath 1.0, production 7).
 #[derive(Drop)]
 pub enum StepTest {
+    /// `node()`
     Node,
+    /// `text()`
     Text,
+    /// `comment()`
     Comment,
+    /// `processing-instruction()`
     Instruction,
-    /// A processing instruction of that target.
+    /// `processing-instruction` with a target between the brackets.
     Target(Text),
     /// `*`
     Any,

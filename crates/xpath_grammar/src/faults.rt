@@ -1,12 +1,12 @@
-// The refusals of the parts of an expression.
+//! The refusals of the parts of an expression.
 
 ghost use Rattle.std.specs.Prelude.{◌≡◌, fold, is_some, cond};
 ghost use Rattle.std.specs.Str.{chars};
 ghost use Rattle.xpath_tokens.specs.Reading.{or_else};
 ghost use Rattle.xpath_grammar.specs.Tree.{trees_of};
-ghost use Rattle.xpath_grammar.specs.Static.{number_fault as number_fault_lem, axis_fault as axis_fault_lem, prefix_fault as prefix_fault_lem, test_fault as test_fault_lem, call_fault as call_fault_lem, wants_nodes as wants_nodes_lem};
-ghost use Rattle.xpath_grammar.specs.Checking.{scan_next as scan_next_lem, scan_start};
-ghost use Rattle.xpath_grammar.specs.Functions.{signature_of as signature_of_lem};
+ghost use Rattle.xpath_grammar.specs.Static.{number_fault, axis_fault, prefix_fault, test_fault, call_fault, wants_nodes};
+ghost use Rattle.xpath_grammar.specs.Checking.{scan_next, scan_start};
+ghost use Rattle.xpath_grammar.specs.Functions.{signature_of};
 
 use crate::bindings::Bindings;
 use crate::expr::{Exprs, StepTest};
@@ -49,8 +49,9 @@ pub struct NumberScan {
     pub fraction: bool,
 }
 
+/// What is known of a number with one more character.
 fn scan_next(scan: NumberScan, c: char) -> NumberScan
-    ensures { result ≡ scan_next_lem scan c }
+    ensures { result ≡ scan_next scan c }
 {
     if scan.behind {
         return NumberScan {
@@ -78,8 +79,9 @@ fn scan_next(scan: NumberScan, c: char) -> NumberScan
     }
 }
 
+/// What is known of a number at its end.
 fn scan_number(text: &str) -> NumberScan
-    ensures { result ≡ fold scan_next_lem scan_start (chars text.now) }
+    ensures { result ≡ fold scan_next scan_start (chars text.now) }
 {
     let start = NumberScan {
         value: 0,
@@ -91,7 +93,7 @@ fn scan_number(text: &str) -> NumberScan
 
 /// What a number refuses.
 pub fn number_fault(text: &Text) -> Option<StaticFault>
-    ensures { result ≡ number_fault_lem text.now }
+    ensures { result ≡ number_fault text.now }
 {
     let scan = scan_number(as_str(text));
     if scan.fraction {
@@ -105,7 +107,7 @@ pub fn number_fault(text: &Text) -> Option<StaticFault>
 
 /// What an axis refuses.
 pub fn axis_fault(axis: StepAxis) -> Option<StaticFault>
-    ensures { result ≡ axis_fault_lem axis }
+    ensures { result ≡ axis_fault axis }
 {
     match axis {
         StepAxis::Known(_) => None,
@@ -113,8 +115,9 @@ pub fn axis_fault(axis: StepAxis) -> Option<StaticFault>
     }
 }
 
+/// What a prefix refuses.
 fn prefix_fault(bindings: &Bindings, prefix: &Text) -> Option<StaticFault>
-    ensures { result ≡ prefix_fault_lem bindings.now prefix.now }
+    ensures { result ≡ prefix_fault bindings.now prefix.now }
 {
     match bindings.uri_of(as_str(prefix)) {
         Some(_) => None,
@@ -124,7 +127,7 @@ fn prefix_fault(bindings: &Bindings, prefix: &Text) -> Option<StaticFault>
 
 /// What a node test refuses.
 pub fn test_fault(bindings: &Bindings, test: &StepTest) -> Option<StaticFault>
-    ensures { result ≡ test_fault_lem bindings.now test.now }
+    ensures { result ≡ test_fault bindings.now test.now }
 {
     match test {
         StepTest::AnyIn(prefix) => prefix_fault(bindings, prefix),
@@ -141,7 +144,7 @@ pub fn test_fault(bindings: &Bindings, test: &StepTest) -> Option<StaticFault>
 
 /// What a call refuses at the function's name.
 pub fn call_fault(name: &Text, arguments: &Exprs) -> Option<StaticFault>
-    ensures { result ≡ call_fault_lem name.now (trees_of arguments.now) }
+    ensures { result ≡ call_fault name.now (trees_of arguments.now) }
 {
     match signature_of(name) {
         None => Some(StaticFault::Function),
@@ -157,7 +160,7 @@ pub fn call_fault(name: &Text, arguments: &Exprs) -> Option<StaticFault>
 
 /// Whether the first argument of a function is needed as nodes.
 pub fn wants_nodes(name: &Text) -> bool
-    ensures { result ≡ wants_nodes_lem (signature_of_lem name.now) }
+    ensures { result ≡ wants_nodes (signature_of name.now) }
 {
     match signature_of(name) {
         None => false,

@@ -1,10 +1,10 @@
-// The core functions, and the types of expressions.
+//! The core functions, and the types of expressions.
 
 ghost use Rattle.std.specs.Prelude.{◌≡◌, nat_le};
 ghost use Rattle.xpath_tokens.specs.Tokens.{find_named};
 ghost use Rattle.xpath_tokens.specs.Reading.{or_else};
 ghost use Rattle.xpath_grammar.specs.Tree.{tree_of, trees_of};
-ghost use Rattle.xpath_grammar.specs.Functions.{takes as takes_lem, takes_nodes as takes_nodes_lem, takes_many as takes_many_lem, node_set_functions, string_functions, finding_functions, boolean_functions, number_functions, signature_of as signature_of_lem, answer_of as answer_of_lem, type_of as type_of_lem, gives_nodes as gives_nodes_lem, count, is_within as is_within_lem, fits as fits_lem};
+ghost use Rattle.xpath_grammar.specs.Functions.{takes, takes_nodes, takes_many, node_set_functions, string_functions, finding_functions, boolean_functions, number_functions, signature_of, answer_of, type_of, gives_nodes, count, is_within, fits};
 
 use crate::expr::{Expr, Exprs};
 use xml_model::Text;
@@ -38,8 +38,9 @@ pub struct Signature {
     pub answer: ValueType,
 }
 
+/// The signature of a function whose arguments are of any type.
 fn takes(least: u8, most: u8, answer: ValueType) -> Signature
-    ensures { result ≡ takes_lem least most answer }
+    ensures { result ≡ takes least most answer }
 {
     Signature {
         least,
@@ -49,8 +50,9 @@ fn takes(least: u8, most: u8, answer: ValueType) -> Signature
     }
 }
 
+/// The signature of a function whose first argument is to be a node-set.
 fn takes_nodes(least: u8, most: u8, answer: ValueType) -> Signature
-    ensures { result ≡ takes_nodes_lem least most answer }
+    ensures { result ≡ takes_nodes least most answer }
 {
     Signature {
         least,
@@ -60,8 +62,9 @@ fn takes_nodes(least: u8, most: u8, answer: ValueType) -> Signature
     }
 }
 
+/// The signature of a function of any number of arguments from the least on, of any type.
 fn takes_many(least: u8, answer: ValueType) -> Signature
-    ensures { result ≡ takes_many_lem least answer }
+    ensures { result ≡ takes_many least answer }
 {
     Signature {
         least,
@@ -71,7 +74,7 @@ fn takes_many(least: u8, answer: ValueType) -> Signature
     }
 }
 
-/// XPath 1.0, section 4.1; id is left out.
+/// The node-set function of that name (XPath 1.0, section 4.1); `id` is left out.
 fn node_set_function(name: &Text) -> Option<Signature>
     ensures { result ≡ find_named node_set_functions name.now }
 {
@@ -92,7 +95,7 @@ fn node_set_function(name: &Text) -> Option<Signature>
     }
 }
 
-/// XPath 1.0, section 4.2, where no text is sought in another.
+/// The string function of that name that seeks no text in another (XPath 1.0, section 4.2).
 fn string_function(name: &Text) -> Option<Signature>
     ensures { result ≡ find_named string_functions name.now }
 {
@@ -113,7 +116,7 @@ fn string_function(name: &Text) -> Option<Signature>
     }
 }
 
-/// XPath 1.0, section 4.2, where a text is sought in another.
+/// The string function of that name that seeks a text in another (XPath 1.0, section 4.2).
 fn finding_function(name: &Text) -> Option<Signature>
     ensures { result ≡ find_named finding_functions name.now }
 {
@@ -130,7 +133,7 @@ fn finding_function(name: &Text) -> Option<Signature>
     }
 }
 
-/// XPath 1.0, section 4.3.
+/// The boolean function of that name (XPath 1.0, section 4.3).
 fn boolean_function(name: &Text) -> Option<Signature>
     ensures { result ≡ find_named boolean_functions name.now }
 {
@@ -149,7 +152,7 @@ fn boolean_function(name: &Text) -> Option<Signature>
     }
 }
 
-/// XPath 1.0, section 4.4.
+/// The number function of that name (XPath 1.0, section 4.4).
 fn number_function(name: &Text) -> Option<Signature>
     ensures { result ≡ find_named number_functions name.now }
 {
@@ -168,6 +171,7 @@ fn number_function(name: &Text) -> Option<Signature>
     }
 }
 
+/// The first of two answers that is there.
 fn earlier(first: Option<Signature>, second: Option<Signature>) -> Option<Signature>
     ensures { result ≡ or_else first second }
 {
@@ -180,15 +184,16 @@ fn earlier(first: Option<Signature>, second: Option<Signature>) -> Option<Signat
 /// What a function takes and answers; None where it is not known.
 #[tactic(auto, using(crate::proofs::Tables::signature_parts))]
 pub fn signature_of(name: &Text) -> Option<Signature>
-    ensures { result ≡ signature_of_lem name.now }
+    ensures { result ≡ signature_of name.now }
 {
     let last = earlier(boolean_function(name), number_function(name));
     let text = earlier(string_function(name), earlier(finding_function(name), last));
     earlier(node_set_function(name), text)
 }
 
+/// The type of a call's answer; any type where the function is not known.
 fn answer_of(signature: Option<Signature>) -> ValueType
-    ensures { result ≡ answer_of_lem signature }
+    ensures { result ≡ answer_of signature }
 {
     match signature {
         Some(signature) => signature.answer,
@@ -198,7 +203,7 @@ fn answer_of(signature: Option<Signature>) -> ValueType
 
 /// The type of an expression.
 fn type_of(expr: &Expr) -> ValueType
-    ensures { result ≡ type_of_lem (tree_of expr.now) }
+    ensures { result ≡ type_of (tree_of expr.now) }
 {
     match expr {
         Expr::Or(_, _) | Expr::And(_, _) | Expr::Compare(_, _, _) => ValueType::Truth,
@@ -213,11 +218,12 @@ fn type_of(expr: &Expr) -> ValueType
 
 /// Whether an expression gives nodes, or is of any type, as a variable is.
 pub fn gives_nodes(expr: &Expr) -> bool
-    ensures { result ≡ gives_nodes_lem (tree_of expr.now) }
+    ensures { result ≡ gives_nodes (tree_of expr.now) }
 {
     matches!(type_of(expr), ValueType::Nodes | ValueType::Any)
 }
 
+/// Whether a list has so many expressions or more.
 fn has_at_least(least: u8, list: &Exprs) -> bool
     ensures { result ≡ nat_le least (count (trees_of list.now)) }
 {
@@ -230,6 +236,7 @@ fn has_at_least(least: u8, list: &Exprs) -> bool
     }
 }
 
+/// Whether a list has so many expressions or fewer.
 fn has_at_most(most: u8, list: &Exprs) -> bool
     ensures { result ≡ nat_le (count (trees_of list.now)) most }
 {
@@ -239,8 +246,9 @@ fn has_at_most(most: u8, list: &Exprs) -> bool
     }
 }
 
+/// Whether a list has no more expressions than the most, where there is a most.
 fn is_within(most: Option<u8>, list: &Exprs) -> bool
-    ensures { result ≡ is_within_lem most (count (trees_of list.now)) }
+    ensures { result ≡ is_within most (count (trees_of list.now)) }
 {
     match most {
         None => true,
@@ -250,7 +258,7 @@ fn is_within(most: Option<u8>, list: &Exprs) -> bool
 
 /// Whether the number of arguments fits.
 pub fn fits(signature: Signature, list: &Exprs) -> bool
-    ensures { result ≡ fits_lem signature (trees_of list.now) }
+    ensures { result ≡ fits signature (trees_of list.now) }
 {
     has_at_least(signature.least, list) && is_within(signature.most, list)
 }

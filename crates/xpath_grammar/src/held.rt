@@ -1,8 +1,8 @@
-// Lists of bindings.
+//! Lists of bindings.
 
 ghost use Rattle.std.specs.Prelude.{◌≡◌, ◌≤◌, ℕ, List, cond, Some, OnOk, OnErr, option_map, length};
 ghost use Rattle.std.specs.Str.{bytes_eq, chars};
-ghost use Rattle.xpath_grammar.specs.Bindings.{lookup, place_in, can_bind as can_bind_lem};
+ghost use Rattle.xpath_grammar.specs.Bindings.{lookup, place_in, can_bind};
 
 use std::alloc::AllocError;
 use std::marker::Model;
@@ -13,7 +13,9 @@ use xpath_tokens::{as_str, is_empty, is_text, same_str};
 /// A prefix and the URI that it is bound to, which contracts see as a pair.
 #[derive(Drop)]
 pub struct Binding {
+    /// The prefix.
     pub prefix: Text,
+    /// The URI that it is bound to.
     pub uri: Text,
 }
 
@@ -25,26 +27,28 @@ impl Model for Binding {
     ghost view = { λ b. (b.prefix, b.uri) };
 }
 
-/// Whether a prefix may be bound to a URI.
+/// Whether a prefix may be bound to a URI: a name without a colon other than `xml` and `xmlns`, to a URI that is not empty.
 pub fn can_bind(prefix: &str, uri: &str) -> bool
-    ensures { result ≡ can_bind_lem (chars prefix.now) (chars uri.now) }
+    ensures { result ≡ can_bind (chars prefix.now) (chars uri.now) }
 {
     is_ncname(prefix) && !same_str("xml", prefix) && !same_str("xmlns", prefix) && !is_empty(uri)
 }
 
+/// Whether a binding is that of a prefix.
 fn is_of(binding: &Binding, prefix: &str) -> bool
     ensures { result ≡ bytes_eq binding.now.0 (chars prefix.now) }
 {
     is_text(&binding.prefix, prefix)
 }
 
+/// The URI of a binding.
 fn uri(binding: &Binding) -> &str
     ensures { chars result.now ≡ binding.now.1 }
 {
     as_str(&binding.uri)
 }
 
-// The place of the first binding of a prefix, or the length where there is none.
+/// The place of the first binding of a prefix, or the length where there is none.
 fn place_of(held: &[Binding], prefix: &str) -> usize
     ensures place { result ≡ place_in held.now (chars prefix.now) }
     ensures within { result ≤ length held.now }

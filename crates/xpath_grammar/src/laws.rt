@@ -2,7 +2,7 @@
 
 ghost use Rattle.std.specs.Prelude.{◌≡◌, List, false, ◌++◌, ◌∷◌};
 ghost use Rattle.xpath_tokens.specs.declared.Token.{Token};
-ghost use Rattle.xpath_grammar.specs.Grammar.{Derives, Symbol, Phrase, Stands, FilterExpr, RelPath};
+ghost use Rattle.xpath_grammar.specs.Grammar.{Derives, Symbol, Phrase, Stands, FilterExpr, RelativeLocationPath};
 ghost use Rattle.xpath_grammar.specs.Laws.{minuses, flags, IsForm, IsLastOperator, IsSlash, IsFirstSlash};
 
 pub use xpath_tokens::laws::one_split;
@@ -25,5 +25,5 @@ pub fn binary_minus()
 
 /// Behind an expression with its predicates, the slash before the steps is the first one outside all brackets.
 pub fn first_slash()
-    ensures { (us vs : List Token) (t : Token) (x y : Phrase) → IsSlash t → Derives FilterExpr us x → Derives RelPath vs y → IsFirstSlash us }
+    ensures { (us vs : List Token) (t : Token) (x y : Phrase) → IsSlash t → Derives FilterExpr us x → Derives RelativeLocationPath vs y → IsFirstSlash us }
 {}

@@ -1,9 +1,9 @@
-// The parser.
+//! The parser: each function cuts its tokens at the operators of one symbol of the grammar, and parses the parts.
 
 ghost use Rattle.std.specs.Prelude.{◌≡◌, true};
 ghost use Rattle.xpath_grammar.specs.Shape.{first, starts_primary};
-ghost use Rattle.xpath_grammar.specs.Grammar.{UnaryExpr, PathExpr, PrimaryExpr, Arguments, RelPath, StepPart, Predicates};
-ghost use Rattle.xpath_grammar.specs.Cutting.{AnswersFilter, as_step, Answers, as_expr, as_exprs, as_walk, form, symbol, operand as operand_lem, rank_of};
+ghost use Rattle.xpath_grammar.specs.Grammar.{UnaryExpr, PathExpr, PrimaryExpr, Arguments, RelativeLocationPath, StepPart, Predicates};
+ghost use Rattle.xpath_grammar.specs.Cutting.{AnswersFilter, as_step, Answers, as_expr, as_exprs, as_walk, form, symbol, operand, rank_of};
 
 use crate::build::{
     applied, behind_slash, call, deep, filtered, from, literal, more, negated_times, number,
@@ -21,16 +21,24 @@ use xpath_tokens::{Fault, StepAxis, Token};
 /// The forms of an expression with an operator between two parts.
 #[derive(Clone, Copy, PartialEq, Eq, Debug)]
 pub enum Binary {
+    /// `or` (XPath 1.0, production 21).
     Or,
+    /// `and` (XPath 1.0, production 22).
     And,
+    /// `=` and `!=` (XPath 1.0, production 23).
     Equality,
+    /// `<`, `>`, `<=` and `>=` (XPath 1.0, production 24).
     Relational,
+    /// `+` and `-` (XPath 1.0, production 25).
     Additive,
-    Mult,
+    /// `*`, `div` and `mod` (XPath 1.0, production 26).
+    Multiplicative,
+    /// `|` (XPath 1.0, production 18).
     Union,
 }
 
 impl Binary {
+    /// The rank of the operators, as `scan::rank` has it.
     fn rank(self) -> u8
         ensures { result ≡ rank_of (form self) }
     {
@@ -40,13 +48,13 @@ impl Binary {
             Binary::Equality => 3,
             Binary::Relational => 4,
             Binary::Additive => 5,
-            Binary::Mult => 6,
+            Binary::Multiplicative => 6,
             Binary::Union => 8,
         }
     }
 }
 
-/// The expression that the tokens derive.
+/// The expression that tokens derive as operands of a form with its operators between.
 #[cycle(parser)]
 pub fn chain(alloc: Global, level: Binary, tokens: &[Token]) -> Result<Expr, Fault>
     ensures { Answers (symbol (form level)) as_expr tokens.now result }
@@ -64,21 +72,23 @@ pub fn chain(alloc: Global, level: Binary, tokens: &[Token]) -> Result<Expr, Fau
     applied(alloc, first, behind)
 }
 
+/// The expression that tokens derive as an operand of a form.
 #[cycle(parser)]
 fn operand(alloc: Global, level: Binary, tokens: &[Token]) -> Result<Expr, Fault>
-    ensures { Answers (operand_lem (form level)) as_expr tokens.now result }
+    ensures { Answers (operand (form level)) as_expr tokens.now result }
 {
     match level {
         Binary::Or => chain(alloc, Binary::And, tokens),
         Binary::And => chain(alloc, Binary::Equality, tokens),
         Binary::Equality => chain(alloc, Binary::Relational, tokens),
         Binary::Relational => chain(alloc, Binary::Additive, tokens),
-        Binary::Additive => chain(alloc, Binary::Mult, tokens),
-        Binary::Mult => unary(alloc, tokens),
+        Binary::Additive => chain(alloc, Binary::Multiplicative, tokens),
+        Binary::Multiplicative => unary(alloc, tokens),
         Binary::Union => path(alloc, tokens),
     }
 }
 
+/// The expression that tokens derive with its minus signs (XPath 1.0, production 27).
 #[cycle(parser)]
 fn unary(alloc: Global, tokens: &[Token]) -> Result<Expr, Fault>
     ensures { Answers UnaryExpr as_expr tokens.now result }
@@ -88,6 +98,7 @@ fn unary(alloc: Global, tokens: &[Token]) -> Result<Expr, Fault>
     negated_times(alloc, count, part)
 }
 
+/// The expression that tokens derive without operators outside all brackets (XPath 1.0, production 19).
 #[cycle(parser)]
 fn path(alloc: Global, tokens: &[Token]) -> Result<Expr, Fault>
     ensures { Answers PathExpr as_expr tokens.now result }
@@ -119,7 +130,7 @@ fn path(alloc: Global, tokens: &[Token]) -> Result<Expr, Fault>
     }
 }
 
-// A path that begins with a primary expression.
+/// A path that begins with a primary expression (XPath 1.0, productions 19 and 20).
 #[cycle(parser)]
 fn from_filter(alloc: Global, tokens: &[Token]) -> Result<Expr, Fault>
     requires { first starts_primary tokens.now ≡ true }
@@ -137,6 +148,7 @@ fn from_filter(alloc: Global, tokens: &[Token]) -> Result<Expr, Fault>
     }
 }
 
+/// A primary expression with its predicates (XPath 1.0, production 20).
 #[cycle(parser)]
 fn filter(alloc: Global, tokens: &[Token]) -> Result<Expr, Fault>
     ensures { AnswersFilter tokens.now result }
@@ -151,6 +163,7 @@ fn filter(alloc: Global, tokens: &[Token]) -> Result<Expr, Fault>
     }
 }
 
+/// A primary expression (XPath 1.0, production 15).
 #[cycle(parser)]
 fn primary(alloc: Global, tokens: &[Token]) -> Result<Expr, Fault>
     ensures { Answers PrimaryExpr as_expr tokens.now result }
@@ -171,6 +184,7 @@ fn primary(alloc: Global, tokens: &[Token]) -> Result<Expr, Fault>
     }
 }
 
+/// The arguments of a call, at least one (XPath 1.0, productions 16 and 17).
 #[cycle(parser)]
 fn arguments(alloc: Global, tokens: &[Token]) -> Result<Exprs, Fault>
     ensures { Answers Arguments as_exprs tokens.now result }
@@ -192,6 +206,7 @@ fn arguments(alloc: Global, tokens: &[Token]) -> Result<Exprs, Fault>
     more(alloc, part, all)
 }
 
+/// Predicates, one behind another (XPath 1.0, production 8).
 #[cycle(parser)]
 fn predicates(alloc: Global, tokens: &[Token]) -> Result<Exprs, Fault>
     ensures { Answers Predicates as_exprs tokens.now result }
@@ -219,9 +234,10 @@ fn predicates(alloc: Global, tokens: &[Token]) -> Result<Exprs, Fault>
     }
 }
 
+/// Steps with `/` or `//` between (XPath 1.0, productions 3 and 11).
 #[cycle(parser)]
 fn relative(alloc: Global, tokens: &[Token]) -> Result<Steps, Fault>
-    ensures { Answers RelPath as_walk tokens.now result }
+    ensures { Answers RelativeLocationPath as_walk tokens.now result }
 {
     let mut cuts = operators(alloc, 9, tokens)?;
     let mut all = Steps::End;
@@ -237,6 +253,7 @@ fn relative(alloc: Global, tokens: &[Token]) -> Result<Steps, Fault>
     step_more(alloc, part, all)
 }
 
+/// A step (XPath 1.0, productions 4 and 12).
 #[cycle(parser)]
 fn step(alloc: Global, tokens: &[Token]) -> Result<Step, Fault>
     ensures { Answers StepPart as_step tokens.now result }

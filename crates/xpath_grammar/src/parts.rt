@@ -1,9 +1,9 @@
-// An expression by the part at its front and what stands behind that.
+//! An expression by the part at its front and what stands behind that.
 
 ghost use Rattle.std.specs.Prelude.{◌≡◌, ◌<◌, None, option_map};
 ghost use Rattle.xpath_grammar.specs.Tree.{tree_of, walk_of};
-ghost use Rattle.xpath_grammar.specs.Static.{word_fault as word_fault_lem};
-ghost use Rattle.xpath_grammar.specs.Checking.{front_of, inner_of, needs_nodes as needs_nodes_lem, tail_marks, own_fault as own_fault_lem, step_word, walk_word, first_word, needed_fault as needed_fault_lem, marks_behind, weight, tail_weight};
+ghost use Rattle.xpath_grammar.specs.Static.{word_fault};
+ghost use Rattle.xpath_grammar.specs.Checking.{front_of, inner_of, needs_nodes, tail_marks, own_fault, step_word, walk_word, first_word, needed_fault, marks_behind, weight, tail_weight};
 
 use crate::bindings::Bindings;
 use crate::expr::{Expr, Exprs, StepTest, Steps};
@@ -13,9 +13,11 @@ use xpath_tokens::StepAxis;
 
 /// What stands behind the part at the front of an expression.
 pub enum Tail<'a> {
+    /// Nothing stands there.
     Nothing,
     /// Another operand, of which nodes are needed or not.
     Operand(bool, &'a Expr),
+    /// The steps of a path.
     Steps(&'a Steps),
     /// Predicates or arguments, and whether nodes are needed of the first.
     List(bool, &'a Exprs),
@@ -49,7 +51,7 @@ pub fn inner_part(expr: &Expr) -> Option<&Expr>
 
 /// Whether nodes are needed of the expression at the front.
 pub fn needs_nodes(expr: &Expr) -> bool
-    ensures { result ≡ needs_nodes_lem (tree_of expr.now) }
+    ensures { result ≡ needs_nodes (tree_of expr.now) }
 {
     matches!(
         expr,
@@ -79,7 +81,7 @@ pub fn tail_of(expr: &Expr) -> Tail<'_>
 
 /// What an expression that has no other at its front refuses there.
 pub fn own_fault(expr: &Expr) -> Option<StaticFault>
-    ensures { result ≡ own_fault_lem (tree_of expr.now) }
+    ensures { result ≡ own_fault (tree_of expr.now) }
 {
     match expr {
         Expr::Number(text) => number_fault(text),
@@ -89,8 +91,9 @@ pub fn own_fault(expr: &Expr) -> Option<StaticFault>
     }
 }
 
+/// What the first token of a step is refused for.
 fn step_fault(bindings: &Bindings, axis: StepAxis, test: &StepTest) -> Option<StaticFault>
-    ensures { result ≡ word_fault_lem bindings.now (step_word axis test.now) }
+    ensures { result ≡ word_fault bindings.now (step_word axis test.now) }
 {
     match axis {
         StepAxis::Known(Axis::Child) => test_fault(bindings, test),
@@ -98,8 +101,9 @@ fn step_fault(bindings: &Bindings, axis: StepAxis, test: &StepTest) -> Option<St
     }
 }
 
+/// What the first token of a path that is not absolute is refused for.
 fn walk_fault(bindings: &Bindings, steps: &Steps) -> Option<StaticFault>
-    ensures { result ≡ word_fault_lem bindings.now (walk_word (walk_of steps.now)) }
+    ensures { result ≡ word_fault bindings.now (walk_word (walk_of steps.now)) }
 {
     match steps {
         Steps::End => None,
@@ -110,7 +114,7 @@ fn walk_fault(bindings: &Bindings, steps: &Steps) -> Option<StaticFault>
 /// What the first token of an expression that has no other at its front is refused for.
 fn leaf_fault(bindings: &Bindings, expr: &Expr) -> Option<StaticFault>
     requires { front_of (tree_of expr.now) ≡ None }
-    ensures { result ≡ word_fault_lem bindings.now (first_word (tree_of expr.now)) }
+    ensures { result ≡ word_fault bindings.now (first_word (tree_of expr.now)) }
 {
     match expr {
         Expr::Path {
@@ -135,7 +139,7 @@ fn leaf(expr: &Expr) -> &Expr
 
 /// What an expression that gives no nodes refuses where they are needed.
 pub fn needed_fault(bindings: &Bindings, expr: &Expr) -> StaticFault
-    ensures { result ≡ needed_fault_lem bindings.now (tree_of expr.now) }
+    ensures { result ≡ needed_fault bindings.now (tree_of expr.now) }
 {
     match leaf_fault(bindings, leaf(expr)) {
         Some(fault) => fault,

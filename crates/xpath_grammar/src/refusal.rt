@@ -1,9 +1,9 @@
-// The first refusal of an expression.
+//! The first refusal of an expression.
 
 ghost use Rattle.std.specs.Prelude.{◌≡◌, ◌&&◌, not, [], IfOk, IfErr};
 ghost use Rattle.xpath_grammar.specs.Tree.{tree_of, trees_of, walk_of};
 ghost use Rattle.xpath_grammar.specs.Static.{refusals, IsFirst, wanted, marks, list_marks, step_marks};
-ghost use Rattle.xpath_grammar.specs.Functions.{gives_nodes as gives_nodes_lem};
+ghost use Rattle.xpath_grammar.specs.Functions.{gives_nodes};
 ghost use Rattle.xpath_grammar.specs.Checking.{first_in, marks_behind};
 
 use crate::bindings::Bindings;
@@ -14,7 +14,7 @@ use crate::parts::{Tail, inner_part, needed_fault, needs_nodes, own_fault, tail_
 
 /// Whether nodes are needed of an expression of another type.
 fn lacks_nodes(nodes: bool, expr: &Expr) -> bool
-    ensures { result ≡ (nodes && not (gives_nodes_lem (tree_of expr.now))) }
+    ensures { result ≡ (nodes && not (gives_nodes (tree_of expr.now))) }
 {
     nodes && !gives_nodes(expr)
 }
@@ -36,6 +36,7 @@ fn expr_fault(bindings: &Bindings, expr: &Expr) -> Option<StaticFault>
     earlier(own_fault(front), found)
 }
 
+/// The first refusal of what stands behind the part at the front.
 #[cycle(refusal)]
 fn tail_fault(bindings: &Bindings, tail: Tail<'_>) -> Option<StaticFault>
     ensures { result ≡ first_in bindings.now (marks_behind tail.entry) }
@@ -77,6 +78,7 @@ fn list_fault(nodes: bool, bindings: &Bindings, list: &Exprs) -> Option<StaticFa
     None
 }
 
+/// The first refusal of steps.
 #[cycle(refusal)]
 fn steps_fault(bindings: &Bindings, steps: &Steps) -> Option<StaticFault>
     ensures { result ≡ first_in bindings.now (step_marks (walk_of steps.now)) }
@@ -95,7 +97,8 @@ fn steps_fault(bindings: &Bindings, steps: &Steps) -> Option<StaticFault>
 
 /// Whether an expression may meet a document, with the prefixes that are bound. No call takes memory.
 ///
-/// Errors: the refusal at the earliest token, and at one token the first in the order of `StaticFault`. The first token
+/// # Errors
+/// The refusal at the earliest token, and at one token the first in the order of `StaticFault`. The first token
 /// of an expression is taken with the brackets round it left aside, and with `child::` left out.
 pub fn check(expr: &Expr, bindings: &Bindings) -> Result<(), StaticFault>
     ensures none { IfOk result (λ _. refusals bindings.now (tree_of expr.now) ≡ []) }

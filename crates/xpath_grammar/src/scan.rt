@@ -1,15 +1,16 @@
-// Where a list of tokens is cut.
+//! Where a list of tokens is cut.
 
 ghost use Rattle.std.specs.Prelude.{◌≡◌, ◌+◌, ◌<◌, ◌≤◌, ◌^◌, ◌↔◌, IsTrue, length, take, drop, slice_index_or as get_or};
-ghost use Rattle.xpath_grammar.specs.Grammar.{ends as ends_lem, behind as behind_lem};
-ghost use Rattle.xpath_grammar.specs.Cutting.{rank as rank_lem, is_minus as is_minus_lem, minus_len, Gives, AreCuts, FoundFirst};
+ghost use Rattle.xpath_grammar.specs.Grammar.{ends, behind};
+ghost use Rattle.xpath_grammar.specs.Cutting.{rank, is_minus, leading_minuses, Gives, AreCuts, FoundFirst};
 
 use std::alloc::Global;
 use xpath_tokens::{Comparison, Fault, Operator, Token};
 
-/// How far a token binds where it stands outside all brackets.
+/// How tightly a token binds where it stands outside all brackets, or 20 where no list is cut at it. `after` says that the
+/// token before it ends an operand.
 pub fn rank(after: bool, token: &Token) -> u8
-    ensures { result ≡ rank_lem after token.now }
+    ensures { result ≡ rank after token.now }
 {
     match token {
         Token::Comma => 0,
@@ -29,7 +30,7 @@ pub fn rank(after: bool, token: &Token) -> u8
 
 /// Whether a token ends an operand, so that a minus behind it is binary.
 pub fn ends(token: &Token) -> bool
-    ensures { result ≡ ends_lem token.now }
+    ensures { result ≡ ends token.now }
 {
     !matches!(
         token,
@@ -50,7 +51,7 @@ pub fn ends(token: &Token) -> bool
 /// How many brackets are open behind a token.
 pub fn behind(depth: usize, token: &Token) -> usize
     requires { depth + 1 < 2 ^ 64 }
-    ensures { result ≡ behind_lem depth token.now }
+    ensures { result ≡ behind depth token.now }
 {
     match token {
         Token::Open | Token::OpenSquare => depth + 1,
@@ -59,8 +60,9 @@ pub fn behind(depth: usize, token: &Token) -> usize
     }
 }
 
+/// Whether a token has the rank and stands outside all brackets.
 fn is_cut(wanted: u8, depth: usize, after: bool, token: &Token) -> bool
-    ensures { IsTrue result ↔ ((depth ≡ 0) × (rank_lem after token.now ≡ wanted)) }
+    ensures { IsTrue result ↔ ((depth ≡ 0) × (rank after token.now ≡ wanted)) }
 {
     depth == 0 && rank(after, token) == wanted
 }
@@ -82,15 +84,16 @@ pub fn operators(alloc: Global, wanted: u8, tokens: &[Token]) -> Result<Vec<usiz
     Ok(found)
 }
 
+/// Whether a token is a minus sign.
 fn is_minus(token: &Token) -> bool
-    ensures { result ≡ is_minus_lem token.now }
+    ensures { result ≡ is_minus token.now }
 {
     matches!(token, Token::Arithmetic(Operator::Subtract))
 }
 
 /// How many minus signs stand at the front.
 fn leading_minuses(tokens: &[Token]) -> usize
-    ensures count { result ≡ minus_len tokens.now }
+    ensures count { result ≡ leading_minuses tokens.now }
     ensures within { result ≤ length tokens.now }
 {
     let mut count: usize = 0;
@@ -102,8 +105,8 @@ fn leading_minuses(tokens: &[Token]) -> usize
 
 /// The tokens behind the minus signs at the front, and how many signs there are.
 pub fn behind_minuses<'a>(tokens: &'a [Token]) -> (usize, &'a [Token])
-    ensures count { result.0 ≡ minus_len tokens.now }
-    ensures rest { result.1.now ≡ drop (minus_len tokens.now) tokens.now }
+    ensures count { result.0 ≡ leading_minuses tokens.now }
+    ensures rest { result.1.now ≡ drop (leading_minuses tokens.now) tokens.now }
 {
     let count = leading_minuses(tokens);
     (count, &tokens[count..])
@@ -111,8 +114,11 @@ pub fn behind_minuses<'a>(tokens: &'a [Token]) -> (usize, &'a [Token])
 
 /// A token of a list, with what stands before it and behind it.
 pub struct Around<'a> {
+    /// The tokens before it.
     pub front: &'a [Token],
+    /// The token.
     pub token: &'a Token,
+    /// The tokens behind it.
     pub back: &'a [Token],
 }
 
@@ -130,7 +136,7 @@ pub fn parts_at<'a>(tokens: &'a [Token], place: usize) -> Around<'a>
     }
 }
 
-/// The first token of a rank outside all brackets.
+/// The place of the first token of a rank outside all brackets.
 pub fn first_operator(wanted: u8, tokens: &[Token]) -> Option<usize>
     ensures { FoundFirst wanted tokens.now result }
 {

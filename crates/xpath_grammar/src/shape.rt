@@ -1,8 +1,8 @@
-// The forms that the first and the last tokens show.
+//! The forms that the first and the last tokens show.
 
 ghost use Rattle.std.specs.Prelude.{◌≡◌, ◌≤◌, length};
-ghost use Rattle.xpath_grammar.specs.Shape.{IsFront, IsBack, IsPrimaryShape, IsClosed, IsUnsquared, IsPathShape, dot_axis as dot_axis_lem, axis_of, behind_axis, IsStepTest, behind_test as behind_test_lem};
-ghost use Rattle.xpath_grammar.specs.Grammar.{kind_test as kind_test_lem};
+ghost use Rattle.xpath_grammar.specs.Shape.{IsFront, IsBack, IsPrimaryShape, IsClosed, IsUnsquared, IsPathShape, dot_axis, axis_of, behind_axis, IsStepTest, behind_test};
+ghost use Rattle.xpath_grammar.specs.Grammar.{kind_test};
 
 use crate::build::copy;
 use crate::expr::StepTest;
@@ -10,31 +10,37 @@ use std::alloc::Global;
 use xml_model::{Axis, Text};
 use xpath_tokens::{Fault, NodeType, StepAxis, Token};
 
-/// The first token and the rest.
+/// The first token and those behind it; None where there is no token.
 pub fn front<'a>(tokens: &'a [Token]) -> Option<(&'a Token, &'a [Token])>
     ensures { IsFront tokens.now result }
 {
     tokens.split_first()
 }
 
-/// The last token and what is before it.
+/// The last token and those before it; None where there is no token.
 pub fn back<'a>(tokens: &'a [Token]) -> Option<(&'a Token, &'a [Token])>
     ensures { IsBack tokens.now result }
 {
     tokens.split_last()
 }
 
-/// A primary expression, by its first and last tokens.
+/// A primary expression, by its first and last tokens (XPath 1.0, production 15).
 pub enum PrimaryShape<'a> {
+    /// A variable reference, by the name.
     Variable(&'a Text),
+    /// A literal, by what stands between the quotes.
     Literal(&'a Text),
+    /// A number, as it is spelled.
     Number(&'a Text),
+    /// What stands between `(` and `)`.
     Bracketed(&'a [Token]),
+    /// The name of a function, and what stands between `(` and `)`.
     Call(&'a Text, &'a [Token]),
+    /// No primary expression.
     Other,
 }
 
-// What is before a closing bracket at the end.
+/// The tokens before a `)` at the end; None where the last token is another.
 #[tactic(auto, using(crate::proofs::Ends::same_last))]
 fn closed<'a>(tokens: &'a [Token]) -> Option<&'a [Token]>
     ensures { IsClosed tokens.now result }
@@ -45,7 +51,7 @@ fn closed<'a>(tokens: &'a [Token]) -> Option<&'a [Token]>
     }
 }
 
-/// The shape of a list of tokens as a primary expression.
+/// The shape that tokens have as a primary expression (XPath 1.0, production 15).
 pub fn primary_shape<'a>(tokens: &'a [Token]) -> PrimaryShape<'a>
     ensures { IsPrimaryShape tokens.now result }
 {
@@ -65,7 +71,7 @@ pub fn primary_shape<'a>(tokens: &'a [Token]) -> PrimaryShape<'a>
     }
 }
 
-// What is before a closing square bracket at the end.
+/// The tokens before a `]` at the end; None where the last token is another.
 #[tactic(auto, using(crate::proofs::Ends::same_last))]
 pub fn unsquared<'a>(tokens: &'a [Token]) -> Option<&'a [Token]>
     ensures { IsUnsquared tokens.now result }
@@ -76,15 +82,21 @@ pub fn unsquared<'a>(tokens: &'a [Token]) -> Option<&'a [Token]>
     }
 }
 
-/// A path, by its first token.
+/// A path, by its first token (XPath 1.0, productions 1, 2, 10, 19 and 20).
 pub enum PathShape<'a> {
+    /// `/` alone.
     Root,
+    /// The steps behind `/`.
     Absolute(&'a [Token]),
+    /// The steps behind `//`.
     Deep(&'a [Token]),
+    /// A primary expression comes first.
     Filter,
+    /// Anything else, which can only be steps.
     Steps,
 }
 
+/// The shape that tokens have as a path (XPath 1.0, production 19).
 pub fn path_shape<'a>(tokens: &'a [Token]) -> PathShape<'a>
     ensures { IsPathShape tokens.now result }
 {
@@ -111,9 +123,9 @@ pub fn path_shape<'a>(tokens: &'a [Token]) -> PathShape<'a>
     }
 }
 
-/// The axis that `.` or `..` stands for, alone.
+/// The axis that `.` or `..` alone stands for (XPath 1.0, production 12).
 pub fn dot_axis(tokens: &[Token]) -> Option<Axis>
-    ensures { result ≡ dot_axis_lem tokens.now }
+    ensures { result ≡ dot_axis tokens.now }
 {
     match tokens {
         [Token::Dot] => Some(Axis::Itself),
@@ -122,7 +134,7 @@ pub fn dot_axis(tokens: &[Token]) -> Option<Axis>
     }
 }
 
-/// The axis of a step, and the tokens behind it.
+/// The axis of a step, and the tokens behind it (XPath 1.0, productions 5 and 13).
 pub fn axis_part<'a>(tokens: &'a [Token]) -> (StepAxis, &'a [Token])
     ensures axis { result.0 ≡ axis_of tokens.now }
     ensures rest { result.1.now ≡ behind_axis tokens.now }
@@ -135,8 +147,9 @@ pub fn axis_part<'a>(tokens: &'a [Token]) -> (StepAxis, &'a [Token])
     }
 }
 
+/// The node test that a node type with empty brackets is.
 fn kind_test(kind: NodeType) -> StepTest
-    ensures { result ≡ kind_test_lem kind }
+    ensures { result ≡ kind_test kind }
 {
     match kind {
         NodeType::Comment => StepTest::Comment,
@@ -146,7 +159,7 @@ fn kind_test(kind: NodeType) -> StepTest
     }
 }
 
-/// The node test that the first tokens are.
+/// The node test that the first tokens are (XPath 1.0, productions 7 and 37).
 pub fn step_test(alloc: Global, tokens: &[Token]) -> Result<StepTest, Fault>
     ensures { IsStepTest tokens.now result }
 {
@@ -169,9 +182,9 @@ pub fn step_test(alloc: Global, tokens: &[Token]) -> Result<StepTest, Fault>
     })
 }
 
-/// The tokens behind a node test.
+/// The tokens behind the node test at the front.
 pub fn behind_test<'a>(tokens: &'a [Token]) -> &'a [Token]
-    ensures rest { result.now ≡ behind_test_lem tokens.now }
+    ensures rest { result.now ≡ behind_test tokens.now }
     ensures within { length result.now ≤ length tokens.now }
 {
     match tokens {

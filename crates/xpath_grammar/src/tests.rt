@@ -1,3 +1,5 @@
+//! Expressions with what they parse to, the refusals, the limits, and bindings.
+
 use super::*;
 use crate::examples::{CHAINS, FULL_PATHS, PATHS, REFUSALS, SHORT_PATHS, WRONG};
 use std::alloc::{AllocError, Global};
@@ -98,44 +100,37 @@ fn show_steps(out: &mut String, before: &str, steps: &Steps) -> Result<(), Alloc
     }
 }
 
+/// Two expressions with an operator before them, and the bracket that closes both.
+#[cycle(show)]
+fn show_pair(
+    out: &mut String,
+    operator: &str,
+    left: &Expr,
+    right: &Expr,
+) -> Result<(), AllocError> {
+    out.push_str(operator)?;
+    show(out, left)?;
+    out.push_str(" ")?;
+    show(out, right)?;
+    out.push_str(")")
+}
+
+/// The expression at which a path or a filter starts.
+#[cycle(show)]
+fn show_start(out: &mut String, start: &Expr) -> Result<(), AllocError> {
+    out.push_str("{")?;
+    show(out, start)?;
+    out.push_str("}")
+}
+
 #[cycle(show)]
 fn show(out: &mut String, expr: &Expr) -> Result<(), AllocError> {
     match expr {
-        Expr::Or(left, right) => {
-            out.push_str("(or ")?;
-            show(out, left)?;
-            out.push_str(" ")?;
-            show(out, right)?;
-            out.push_str(")")
-        }
-        Expr::And(left, right) => {
-            out.push_str("(and ")?;
-            show(out, left)?;
-            out.push_str(" ")?;
-            show(out, right)?;
-            out.push_str(")")
-        }
-        Expr::Compare(how, left, right) => {
-            out.push_str(comparison_sign(*how))?;
-            show(out, left)?;
-            out.push_str(" ")?;
-            show(out, right)?;
-            out.push_str(")")
-        }
-        Expr::Arithmetic(how, left, right) => {
-            out.push_str(operator_sign(*how))?;
-            show(out, left)?;
-            out.push_str(" ")?;
-            show(out, right)?;
-            out.push_str(")")
-        }
-        Expr::Union(left, right) => {
-            out.push_str("(| ")?;
-            show(out, left)?;
-            out.push_str(" ")?;
-            show(out, right)?;
-            out.push_str(")")
-        }
+        Expr::Or(left, right) => show_pair(out, "(or ", left, right),
+        Expr::And(left, right) => show_pair(out, "(and ", left, right),
+        Expr::Compare(how, left, right) => show_pair(out, comparison_sign(*how), left, right),
+        Expr::Arithmetic(how, left, right) => show_pair(out, operator_sign(*how), left, right),
+        Expr::Union(left, right) => show_pair(out, "(| ", left, right),
         Expr::Negate(part) => {
             out.push_str("-")?;
             show(out, part)
@@ -147,15 +142,11 @@ fn show(out: &mut String, expr: &Expr) -> Result<(), AllocError> {
             show_steps(out, "", steps)
         }
         Expr::From { start, steps } => {
-            out.push_str("{")?;
-            show(out, start)?;
-            out.push_str("}")?;
+            show_start(out, start)?;
             show_steps(out, "/", steps)
         }
         Expr::Filter { start, predicates } => {
-            out.push_str("{")?;
-            show(out, start)?;
-            out.push_str("}")?;
+            show_start(out, start)?;
             show_list(out, "[", predicates, "]")
         }
         Expr::Literal(text) => show_text(out, "'", text, "'"),
@@ -273,7 +264,7 @@ fn row(
     Ok(out)
 }
 
-// What stands before and behind a text that is repeated, how often it is, and the answer; "ok" is an expression.
+/// What stands before and behind a text that is repeated, how often it is, and the answer; "ok" is an expression.
 const LIMITS: [(&str, usize, &str, &str, &str); 24] = [
     ("", 4096, "-", "1", "long"),
     ("", 4095, "-", "1", "ok"),
@@ -330,7 +321,7 @@ fn limits(rt: HostRuntime) -> Result<(), Fail> {
     Ok(())
 }
 
-// Long chains, with the refusal of their first or last part.
+/// Long chains, with the refusal of their first or last part.
 const LONG: [(&str, usize, &str, &str, &str); 8] = [
     ("1", 2046, "+1", "+$x", "variable"),
     ("$x", 2046, "+1", "", "variable"),

@@ -42,8 +42,8 @@ other p x c h k = this (c == x) refl
     this true e = let z = subst (λ y. p y ≡ true) (eqb-true c x e) k in absurd cc
     this false e = refl
 
-other_sym : (p : ℕ → Bool) (x c : ℕ) → p x ≡ false → p c ≡ true → (x == c) ≡ false
-other_sym p x c h k = this (x == c) refl
+other_symmetric : (p : ℕ → Bool) (x c : ℕ) → p x ≡ false → p c ≡ true → (x == c) ≡ false
+other_symmetric p x c h k = this (x == c) refl
   where
     this : (b : Bool) → (x == c) ≡ b → b ≡ false
     this true e = let z = subst (λ y. p y ≡ true) (sym (eqb-true x c e)) k in absurd cc
@@ -55,7 +55,7 @@ outside p (x ∷ xs) h c k = this (λ l. outside p xs l c k) (p x) refl h
   where
     this : (list_any p xs ≡ false → list_any (λ s. s == c) xs ≡ false) → (b : Bool) → p x ≡ b → (b || list_any p xs) ≡ false → ((x == c) || list_any (λ s. s == c) xs) ≡ false
     this i true e l = absurd cc
-    this i false e l = rw (other_sym p x c e k) (i l)
+    this i false e l = rw (other_symmetric p x c e k) (i l)
 
 lacking : (p : ℕ → Bool) (x : ℕ) → p x ≡ false → (cs : List ℕ) → list_all p cs ≡ true → list_any (λ c. c == x) cs ≡ false
 lacking p x h [] k = refl

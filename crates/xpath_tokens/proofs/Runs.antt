@@ -2,7 +2,7 @@
 use Rattle.std.proofs.Common.{◌≡◌, ◌≢◌, ℕ, zero, suc, ◌+◌, ◌<◌, ◌≤◌, Bool, true, false, cond, not, ◌&&◌, ◌||◌, ◌==◌, List, [], ◌∷◌, ◌++◌, length, take, drop, refl, sym, ◌∙◌, ap, subst, arith}
 use Rattle.std.specs.List.{list_all, list_any}
 use Rattle.xml_model.specs.Chars.{is_name_start, is_name_char, is_name, is_ncname}
-use Rattle.xpath_tokens.specs.Words.{run, is_ncname_start, is_ncname_char, ncname_len}
+use Rattle.xpath_tokens.specs.Words.{run, is_ncname_start, is_ncname_char, ncname_length}
 
 pub and_parts : (a b : Bool) → (a && b) ≡ true → (a ≡ true) × (b ≡ true)
 and_parts true b h = (refl, h)
@@ -75,7 +75,7 @@ pub ncname_nil : is_ncname [] ≡ true → ⊥
 unfolding is_ncname is_name
 ncname_nil h = cc
 
-pub ncname_word : (cs : List ℕ) → ncname_len cs ≢ 0 → is_ncname (take (ncname_len cs) cs) ≡ true
+pub ncname_word : (cs : List ℕ) → ncname_length cs ≢ 0 → is_ncname (take (ncname_length cs) cs) ≡ true
 ncname_word [] n = absurd (n refl)
 ncname_word (c ∷ cs) n = this (is_ncname_start c) refl n
   where
@@ -83,9 +83,9 @@ ncname_word (c ∷ cs) n = this (is_ncname_start c) refl n
     this true e k = ncname_cons c (take (run is_ncname_char cs) cs) ∙ ap (λ x. x && list_all is_ncname_char (take (run is_ncname_char cs) cs)) e ∙ run-all is_ncname_char cs
     this false e k = absurd (k refl)
 
-pub ncname_len-append : (w vs : List ℕ) → is_ncname w ≡ true → ncname_len (w ++ vs) ≡ length w + run is_ncname_char vs
-ncname_len-append [] vs h = absurd (ncname_nil h)
-ncname_len-append (c ∷ cs) vs h =
+pub ncname_length-append : (w vs : List ℕ) → is_ncname w ≡ true → ncname_length (w ++ vs) ≡ length w + run is_ncname_char vs
+ncname_length-append [] vs h = absurd (ncname_nil h)
+ncname_length-append (c ∷ cs) vs h =
     let a = and_parts (is_ncname_start c) (list_all is_ncname_char cs) (sym (ncname_cons c cs) ∙ h) in
     let i = run-append is_ncname_char cs vs a.1 in
     rw (a.0) (omega arith)
@@ -95,5 +95,5 @@ ncname_some [] h = absurd (ncname_nil h)
 ncname_some (c ∷ cs) h = omega arith
 
 -- a name before a colon ends there
-pub ncname_len-colon : (w vs : List ℕ) → is_ncname w ≡ true → ncname_len (w ++ 58 ∷ vs) ≡ length w
-ncname_len-colon w vs h = ncname_len-append w (58 ∷ vs) h ∙ omega arith
+pub ncname_length-colon : (w vs : List ℕ) → is_ncname w ≡ true → ncname_length (w ++ 58 ∷ vs) ≡ length w
+ncname_length-colon w vs h = ncname_length-append w (58 ∷ vs) h ∙ omega arith

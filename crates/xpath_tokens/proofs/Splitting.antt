@@ -11,7 +11,7 @@ use Rattle.std.specs.Result.{IsErrAnd}
 use Rattle.std.proofs.lemmas.Result.{err_from_is_err_and}
 use Rattle.xpath_tokens.specs.declared.Fault.{Fault}
 use Rattle.xpath_tokens.specs.declared.Fault.TheVariants.{Syntax, NoMemory}
-use Rattle.xpath_tokens.specs.Words.{is_ncname_start, is_ncname_char, word_len, IsFound}
+use Rattle.xpath_tokens.specs.Words.{is_ncname_start, is_ncname_char, word_length, IsFound}
 use Rattle.xpath_tokens.specs.Reading.{token_of}
 use Rattle.xpath_tokens.proofs.Runs.{and_parts, ncname_cons, ncname_nil}
 use Rattle.xpath_tokens.proofs.Reading.{is_read, read_is}
@@ -150,13 +150,13 @@ behind_twice (c ∷ cs) = this (behind_twice cs) (is_space c) refl
     this i false e = kept c cs e
 
 -- what a split is behind the white space at the front
-pub data Canon (after : Bool) (cs : List ℕ) : List Token → Type 0 where
-  ended : behind_space cs ≡ [] → Canon after cs []
-  starts : (w rest : List ℕ) {t : Token} {ts : List Token} → behind_space cs ≡ w ++ rest → IsWord w → IsLongest w rest → IsToken after rest w t → Splits (closes_operand t) rest ts → Canon after cs (t ∷ ts)
+pub data Canonical (after : Bool) (cs : List ℕ) : List Token → Type 0 where
+  ended : behind_space cs ≡ [] → Canonical after cs []
+  starts : (w rest : List ℕ) {t : Token} {ts : List Token} → behind_space cs ≡ w ++ rest → IsWord w → IsLongest w rest → IsToken after rest w t → Splits (closes_operand t) rest ts → Canonical after cs (t ∷ ts)
 
-pub canon : {after : Bool} {cs : List ℕ} {ts : List Token} → Splits after cs ts → Canon after cs ts
-canon {cs = cs} (done h) = ended (blank_none cs h)
-canon (next space w rest blank is longest tok d) = starts w rest (blank_skip space (w ++ rest) blank (word_kept rest is)) is longest tok d
+pub canonical : {after : Bool} {cs : List ℕ} {ts : List Token} → Splits after cs ts → Canonical after cs ts
+canonical {cs = cs} (done h) = ended (blank_none cs h)
+canonical (next space w rest blank is longest tok d) = starts w rest (blank_skip space (w ++ rest) blank (word_kept rest is)) is longest tok d
 
 unskip_at : {after : Bool} {cs : List ℕ} {ts : List Token} (before : List ℕ) → is_blank before ≡ true → Splits after cs ts → Splits after (before ++ cs) ts
 unskip_at {cs = cs} before b (done h) = done (blank-append before cs b h)
@@ -167,9 +167,9 @@ pub unskip : {after : Bool} (cs : List ℕ) {ts : List Token} → Splits after (
 unskip {after} cs {ts} d = let b = blank_split cs in subst (λ x. Splits after x ts) (sym b.whole) (unskip_at b.space b.blank d)
 
 pub skip : {after : Bool} {cs : List ℕ} {ts : List Token} → Splits after cs ts → Splits after (behind_space cs) ts
-skip {after} {cs} d = this (canon d)
+skip {after} {cs} d = this (canonical d)
   where
-    this : {ts : List Token} → Canon after cs ts → Splits after (behind_space cs) ts
+    this : {ts : List Token} → Canonical after cs ts → Splits after (behind_space cs) ts
     this (ended h) = subst (λ x. Splits after x []) (sym h) (done blank_nil)
     this (starts w rest {t} {ts} e is longest tok d) = subst (λ x. Splits after x (t ∷ ts)) (sym e) (next [] w rest blank_nil is longest tok d)
 
@@ -178,18 +178,18 @@ none_list : (cs : List ℕ) → length cs ≡ 0 → cs ≡ []
 none_list [] h = refl
 none_list (c ∷ cs) h = absurd (omega arith)
 
-pub is_longest : (cs : List ℕ) → word_len cs ≤ length cs → IsLongest (take (word_len cs) cs) (drop (word_len cs) cs)
+pub is_longest : (cs : List ℕ) → word_length cs ≤ length cs → IsLongest (take (word_length cs) cs) (drop (word_length cs) cs)
 is_longest cs h beyond behind e w =
     let n = no_longer behind w in
-    let s : (take (word_len cs) cs ++ beyond) ++ behind ≡ cs = append_assoc (take (word_len cs) cs) beyond behind ∙ ap (λ x. take (word_len cs) cs ++ x) (sym e) ∙ take-append-drop (word_len cs) cs in
-    let m : length (take (word_len cs) cs ++ beyond) ≤ word_len cs = subst (λ x. length (take (word_len cs) cs ++ beyond) ≤ word_len x) s n in
-    let l = length-append (take (word_len cs) cs) beyond in
-    let t = length-take (word_len cs) cs in
+    let s : (take (word_length cs) cs ++ beyond) ++ behind ≡ cs = append_assoc (take (word_length cs) cs) beyond behind ∙ ap (λ x. take (word_length cs) cs ++ x) (sym e) ∙ take-append-drop (word_length cs) cs in
+    let m : length (take (word_length cs) cs ++ beyond) ≤ word_length cs = subst (λ x. length (take (word_length cs) cs ++ beyond) ≤ word_length x) s n in
+    let l = length-append (take (word_length cs) cs) beyond in
+    let t = length-take (word_length cs) cs in
     none_list beyond (omega (arith, m, l, t, h))
 
-pub word_next : {after : Bool} (cs : List ℕ) {t : Token} {ts : List Token} → word_len cs ≢ 0 → word_len cs ≤ length cs → token_of after (take (word_len cs) cs) (drop (word_len cs) cs) ≡ Some t → Splits (closes_operand t) (drop (word_len cs) cs) ts → Splits after cs (t ∷ ts)
+pub word_next : {after : Bool} (cs : List ℕ) {t : Token} {ts : List Token} → word_length cs ≢ 0 → word_length cs ≤ length cs → token_of after (take (word_length cs) cs) (drop (word_length cs) cs) ≡ Some t → Splits (closes_operand t) (drop (word_length cs) cs) ts → Splits after cs (t ∷ ts)
 word_next {after} cs {t} {ts} n h tok d =
-    subst (λ x. Splits after x (t ∷ ts)) (take-append-drop (word_len cs) cs) (next [] (take (word_len cs) cs) (drop (word_len cs) cs) blank_nil (longest_word cs n) (is_longest cs h) (read_is (longest_word cs n) tok) d)
+    subst (λ x. Splits after x (t ∷ ts)) (take-append-drop (word_length cs) cs) (next [] (take (word_length cs) cs) (drop (word_length cs) cs) blank_nil (longest_word cs n) (is_longest cs h) (read_is (longest_word cs n) tok) d)
 
 -- two lists that begin one list: one of them begins the other
 first_parts : {A : Type 0} (us vs us' vs' : List A) → us ++ vs ≡ us' ++ vs' → ((more : List A) × (us' ≡ us ++ more)) ⊎ ((more : List A) × (us ≡ us' ++ more))
@@ -220,22 +220,22 @@ pub same_rests : (w r w' r' : List ℕ) → w ≡ w' → w ++ r ≡ w' ++ r' →
 same_rests w r w' r' e h = append_cancel_left w' r r' (ap (λ z. z ++ r) (sym e) ∙ h)
 
 pub one_split : {after : Bool} {cs : List ℕ} {ts us : List Token} → Splits after cs ts → Splits after cs us → ts ≡ us
-one_split {after} {cs} (done h) e = this (canon e)
+one_split {after} {cs} (done h) e = this (canonical e)
   where
-    this : {us : List Token} → Canon after cs us → [] ≡ us
+    this : {us : List Token} → Canonical after cs us → [] ≡ us
     this (ended k) = refl
     this (starts w rest k is longest tok d) = let z = blank_none cs h in absurd (word_some is (nothing w rest (sym k ∙ z)))
       where
         nothing : (w rest : List ℕ) → w ++ rest ≡ [] → w ≡ []
         nothing [] rest h = refl
         nothing (c ∷ w) rest h = absurd cc
-one_split {after} (next space w rest {t} {ts} blank is longest tok d) e = this (λ us f. one_split d f) (canon e)
+one_split {after} (next space w rest {t} {ts} blank is longest tok d) e = this (λ us f. one_split d f) (canonical e)
   where
     nothing : (w rest : List ℕ) → w ++ rest ≡ [] → w ≡ []
     nothing [] rest h = refl
     nothing (c ∷ w) rest h = absurd cc
 
-    this : ((us : List Token) → Splits (closes_operand t) rest us → ts ≡ us) → {us : List Token} → Canon after (space ++ (w ++ rest)) us → t ∷ ts ≡ us
+    this : ((us : List Token) → Splits (closes_operand t) rest us → ts ≡ us) → {us : List Token} → Canonical after (space ++ (w ++ rest)) us → t ∷ ts ≡ us
     this only (ended k) = absurd (word_some is (nothing w rest (sym (blank_skip space (w ++ rest) blank (word_kept rest is)) ∙ k)))
     this only (starts w' rest' {t = t'} {ts = ts'} k is' longest' tok' d') =
         let h : w ++ rest ≡ w' ++ rest' = sym (blank_skip space (w ++ rest) blank (word_kept rest is)) ∙ k in
@@ -265,35 +265,35 @@ pub record First (after : Bool) (rest : List ℕ) (ts : List Token) : Type 0 whe
   pub token : Token
   pub others : List Token
   pub whole : ts ≡ token ∷ others
-  pub read : token_of after (take (word_len rest) rest) (drop (word_len rest) rest) ≡ Some token
-  pub split : Splits (closes_operand token) (drop (word_len rest) rest) others
-  pub some : word_len rest ≢ 0
+  pub read : token_of after (take (word_length rest) rest) (drop (word_length rest) rest) ≡ Some token
+  pub split : Splits (closes_operand token) (drop (word_length rest) rest) others
+  pub some : word_length rest ≢ 0
 
-pub first_token : {after : Bool} {rest : List ℕ} {ts : List Token} → behind_space rest ≡ rest → rest ≢ [] → word_len rest ≤ length rest → Splits after rest ts → First after rest ts
-first_token {after} {rest} trimmed some within d = this (canon d)
+pub first_token : {after : Bool} {rest : List ℕ} {ts : List Token} → behind_space rest ≡ rest → rest ≢ [] → word_length rest ≤ length rest → Splits after rest ts → First after rest ts
+first_token {after} {rest} trimmed some within d = this (canonical d)
   where
-    this : {ts : List Token} → Canon after rest ts → First after rest ts
+    this : {ts : List Token} → Canonical after rest ts → First after rest ts
     this (ended h) = absurd (some (sym trimmed ∙ h))
     this (starts w r {t} {ts} e is longest tok d) =
         let h : rest ≡ w ++ r = sym trimmed ∙ e in
         let n = no_longer r is in
-        let m : length w ≤ word_len rest = subst (λ x. length w ≤ word_len x) (sym h) n in
-        let positive : word_len rest ≢ 0 = λ z. word_some is (none_list w (omega (arith, m, z))) in
-        let k : take (word_len rest) rest ++ drop (word_len rest) rest ≡ w ++ r = take-append-drop (word_len rest) rest ∙ h in
-        let ew = same_words (take (word_len rest) rest) (drop (word_len rest) rest) w r (longest_word rest positive) is (is_longest rest within) longest k in
-        let er = same_rests (take (word_len rest) rest) (drop (word_len rest) rest) w r ew k in
+        let m : length w ≤ word_length rest = subst (λ x. length w ≤ word_length x) (sym h) n in
+        let positive : word_length rest ≢ 0 = λ z. word_some is (none_list w (omega (arith, m, z))) in
+        let k : take (word_length rest) rest ++ drop (word_length rest) rest ≡ w ++ r = take-append-drop (word_length rest) rest ∙ h in
+        let ew = same_words (take (word_length rest) rest) (drop (word_length rest) rest) w r (longest_word rest positive) is (is_longest rest within) longest k in
+        let er = same_rests (take (word_length rest) rest) (drop (word_length rest) rest) w r ew k in
         record {
           token = t;
           others = ts;
           whole = refl;
-          read = ap (λ x. token_of after x (drop (word_len rest) rest)) ew ∙ ap (token_of after w) er ∙ is_read tok;
+          read = ap (λ x. token_of after x (drop (word_length rest) rest)) ew ∙ ap (token_of after w) er ∙ is_read tok;
           split = subst (λ x. Splits (closes_operand t) x ts) (sym er) d;
           some = positive;
         }
 
-pub lexed_on : {text : List ℕ} {found : List Token} {after : Bool} {rest : List ℕ} (t : Token) → Lexed text found after rest → rest ≢ [] → word_len rest ≢ 0 → word_len rest ≤ length rest → token_of after (take (word_len rest) rest) (drop (word_len rest) rest) ≡ Some t → Lexed text (found ++ t ∷ []) (closes_operand t) (behind_space (drop (word_len rest) rest))
+pub lexed_on : {text : List ℕ} {found : List Token} {after : Bool} {rest : List ℕ} (t : Token) → Lexed text found after rest → rest ≢ [] → word_length rest ≢ 0 → word_length rest ≤ length rest → token_of after (take (word_length rest) rest) (drop (word_length rest) rest) ≡ Some t → Lexed text (found ++ t ∷ []) (closes_operand t) (behind_space (drop (word_length rest) rest))
 lexed_on {text} {found} {after} {rest} t l some n within tok = record {
-  sound = λ ts d. subst (Splits false text) (sym (append_assoc found (t ∷ []) ts)) (l.sound (t ∷ ts) (word_next rest n within tok (unskip (drop (word_len rest) rest) d)));
+  sound = λ ts d. subst (Splits false text) (sym (append_assoc found (t ∷ []) ts)) (l.sound (t ∷ ts) (word_next rest n within tok (unskip (drop (word_length rest) rest) d)));
   only = λ us d.
       let x = l.only us d in
       let f = first_token l.trimmed some within x.2 in
@@ -301,15 +301,15 @@ lexed_on {text} {found} {after} {rest} t l some n within tok = record {
       let e : f.token ≡ t = cc in (
         f.others,
         x.1 ∙ ap (λ z. found ++ z) (f.whole ∙ ap (λ z. z ∷ f.others) e) ∙ sym (append_assoc found (t ∷ []) f.others),
-        subst (λ z. Splits (closes_operand z) (behind_space (drop (word_len rest) rest)) f.others) e (skip f.split),
+        subst (λ z. Splits (closes_operand z) (behind_space (drop (word_length rest) rest)) f.others) e (skip f.split),
       );
-  trimmed = behind_twice (drop (word_len rest) rest);
+  trimmed = behind_twice (drop (word_length rest) rest);
 }
 
-pub lexed_no_word : {text : List ℕ} {found : List Token} {after : Bool} {rest : List ℕ} → Lexed text found after rest → rest ≢ [] → word_len rest ≡ 0 → (ts : List Token) → Splits false text ts → ⊥
+pub lexed_no_word : {text : List ℕ} {found : List Token} {after : Bool} {rest : List ℕ} → Lexed text found after rest → rest ≢ [] → word_length rest ≡ 0 → (ts : List Token) → Splits false text ts → ⊥
 lexed_no_word l some z ts d = let x = l.only ts d in (first_token l.trimmed some (omega arith) x.2).some z
 
-pub lexed_no_token : {text : List ℕ} {found : List Token} {after : Bool} {rest : List ℕ} → Lexed text found after rest → rest ≢ [] → word_len rest ≤ length rest → token_of after (take (word_len rest) rest) (drop (word_len rest) rest) ≡ None → (ts : List Token) → Splits false text ts → ⊥
+pub lexed_no_token : {text : List ℕ} {found : List Token} {after : Bool} {rest : List ℕ} → Lexed text found after rest → rest ≢ [] → word_length rest ≤ length rest → token_of after (take (word_length rest) rest) (drop (word_length rest) rest) ≡ None → (ts : List Token) → Splits false text ts → ⊥
 lexed_no_token l some within no' ts d = let x = l.only ts d in let f = first_token l.trimmed some within x.2 in let r = f.read in cc
 
 pub lexed_end : {text : List ℕ} {found : List Token} {after : Bool} {rest : List ℕ} → Lexed text found after rest → rest ≡ [] → Splits false text found

@@ -1,14 +1,13 @@
-// Which token a word is, and all tokens of a text.
+//! Which token a word is, and all tokens of a text.
 
 ghost use Rattle.std.specs.Prelude.{◌≡◌, ◌≤◌, length, drop, List, IfOk, Some, Err, false};
 ghost use Rattle.std.specs.Str.{chars};
 ghost use Rattle.xpath_tokens.specs.declared.Token.{Token};
 ghost use Rattle.xpath_tokens.specs.declared.Token.TheVariants.{AnyIn};
 ghost use Rattle.xpath_tokens.specs.declared.Fault.TheVariants.{Syntax};
-ghost use Rattle.xml_model.specs.Chars.{prefix_of, local_of};
-ghost use Rattle.xml_model.specs.Chars.{has_colon as has_colon_lem};
-ghost use Rattle.xpath_tokens.specs.Tokens.{is_symbol as is_symbol_lem, find_named, delimiters, operator_signs, operator_names, node_types, axis_names, behind_space as behind_space_lem, closes_operand as closes_operand_lem, starts_open as starts_open_lem, starts_colons as starts_colons_lem, Splits};
-ghost use Rattle.xpath_tokens.specs.Reading.{fixed_token as fixed_token_lem, place, name_token as name_token_lem, kind_of, symbol_token as symbol_token_lem, star_token as star_token_lem, token_of, without_last as without_last_lem, has_star as has_star_lem};
+ghost use Rattle.xml_model.specs.Chars.{prefix_of, local_of, has_colon};
+ghost use Rattle.xpath_tokens.specs.Tokens.{is_symbol, find_named, delimiters, operator_signs, operator_names, node_types, axis_names, behind_space, closes_operand, starts_open, starts_colons, Splits};
+ghost use Rattle.xpath_tokens.specs.Reading.{fixed_token, place, name_token, kind_of, symbol_token, star_token, token_of, without_last, has_star};
 ghost use Rattle.xpath_tokens.specs.Words.{IsFound};
 
 use crate::text::{equals, text_of};
@@ -21,7 +20,7 @@ use xml_model::Axis;
 
 /// Whether the token can end an operand (XPath 1.0, section 3.7).
 pub fn closes_operand(token: &Token) -> bool
-    ensures { result ≡ closes_operand_lem token.now }
+    ensures { result ≡ closes_operand token.now }
 {
     !matches!(
         token,
@@ -40,6 +39,7 @@ pub fn closes_operand(token: &Token) -> bool
     )
 }
 
+/// The bracket, point, two points, `@`, comma or `::` that a word is (XPath 1.0, production 28); None where it is none.
 fn delimiter(word: &[char]) -> Option<Token>
     ensures { result ≡ find_named delimiters word.now }
 {
@@ -66,6 +66,7 @@ fn delimiter(word: &[char]) -> Option<Token>
     }
 }
 
+/// The operator of signs other than `*` that a word is (XPath 1.0, production 32); None where it is none.
 fn operator_sign(word: &[char]) -> Option<Token>
     ensures { result ≡ find_named operator_signs word.now }
 {
@@ -96,8 +97,9 @@ fn operator_sign(word: &[char]) -> Option<Token>
     }
 }
 
+/// The token that a symbol other than `*` is; None where a word is no such symbol.
 fn fixed_token(word: &[char]) -> Option<Token>
-    ensures { result ≡ fixed_token_lem word.now }
+    ensures { result ≡ fixed_token word.now }
 {
     match delimiter(word) {
         Some(token) => Some(token),
@@ -105,6 +107,7 @@ fn fixed_token(word: &[char]) -> Option<Token>
     }
 }
 
+/// The operator of that name (XPath 1.0, production 33); None where there is none.
 fn operator_name(word: &[char]) -> Option<Token>
     ensures { result ≡ find_named operator_names word.now }
 {
@@ -121,6 +124,7 @@ fn operator_name(word: &[char]) -> Option<Token>
     }
 }
 
+/// The node type of that name (XPath 1.0, production 38); None where there is none.
 fn node_type(word: &[char]) -> Option<NodeType>
     ensures { result ≡ find_named node_types word.now }
 {
@@ -137,6 +141,7 @@ fn node_type(word: &[char]) -> Option<NodeType>
     }
 }
 
+/// The axis of that name (XPath 1.0, production 6); None where there is none.
 fn axis_name(word: &[char]) -> Option<StepAxis>
     ensures { result ≡ find_named axis_names word.now }
 {
@@ -171,8 +176,9 @@ fn axis_name(word: &[char]) -> Option<StepAxis>
     }
 }
 
+/// Whether a word is a symbol: a bracket, a point or two, `@`, `,`, `::`, `*`, or an operator of signs.
 fn is_symbol(word: &[char]) -> bool
-    ensures { result ≡ is_symbol_lem word.now }
+    ensures { result ≡ is_symbol word.now }
 {
     match word {
         [c] => is_single(*c),
@@ -184,15 +190,16 @@ fn is_symbol(word: &[char]) -> bool
 /// What stands behind the white space at the front.
 #[tactic(auto, using(crate::proofs::Spaces::behind_space_run))]
 fn behind_space(chars: &[char]) -> &[char]
-    ensures rest { result.now ≡ behind_space_lem chars.now }
+    ensures rest { result.now ≡ behind_space chars.now }
     ensures within { length result.now ≤ length chars.now }
 {
     behind(chars, space_run(chars))
 }
 
+/// Whether a name has a colon.
 #[tactic(auto, using(crate::proofs::Spaces::has_colon_run))]
 fn has_colon(word: &[char]) -> bool
-    ensures { result ≡ has_colon_lem word.now }
+    ensures { result ≡ has_colon word.now }
 {
     run_before(':', word) < word.len()
 }
@@ -210,8 +217,9 @@ fn name_parts<'a>(word: &'a [char]) -> (&'a [char], &'a [char])
     }
 }
 
+/// All but the last character.
 fn without_last<'a>(chars: &'a [char]) -> &'a [char]
-    ensures { result.now ≡ without_last_lem chars.now }
+    ensures { result.now ≡ without_last chars.now }
 {
     if chars.is_empty() {
         chars
@@ -220,14 +228,16 @@ fn without_last<'a>(chars: &'a [char]) -> &'a [char]
     }
 }
 
+/// Whether a `*` stands among the characters.
 fn has_star(word: &[char]) -> bool
-    ensures { result ≡ has_star_lem word.now }
+    ensures { result ≡ has_star word.now }
 {
     word.iter().any(|c| *c == '*')
 }
 
+/// Whether `(` comes first.
 fn starts_open(chars: &[char]) -> bool
-    ensures { result ≡ starts_open_lem chars.now }
+    ensures { result ≡ starts_open chars.now }
 {
     match chars {
         [c, ..] => *c == '(',
@@ -235,8 +245,9 @@ fn starts_open(chars: &[char]) -> bool
     }
 }
 
+/// Whether `::` comes first.
 fn starts_colons(chars: &[char]) -> bool
-    ensures { result ≡ starts_colons_lem chars.now }
+    ensures { result ≡ starts_colons chars.now }
 {
     match chars {
         [c, d, ..] => *c == ':' && *d == ':',
@@ -244,8 +255,9 @@ fn starts_colons(chars: &[char]) -> bool
     }
 }
 
+/// The token that `*` is: an operator behind an operand, and else a name test (XPath 1.0, section 3.7).
 fn star_token(after: bool) -> Token
-    ensures { result ≡ star_token_lem after }
+    ensures { result ≡ star_token after }
 {
     if after {
         Token::Arithmetic(Operator::Multiply)
@@ -256,7 +268,7 @@ fn star_token(after: bool) -> Token
 
 /// The token that a name is (the three rules of XPath 1.0, section 3.7).
 fn name_token(alloc: Global, after: bool, word: &[char], rest: &[char]) -> Result<Token, Fault>
-    ensures { IsFound (name_token_lem word.now (place after rest.now)) result }
+    ensures { IsFound (name_token word.now (place after rest.now)) result }
 {
     if after {
         return operator_name(word).ok_or(Fault::Syntax);
@@ -288,18 +300,24 @@ fn prefix_token(alloc: Global, word: &[char]) -> Result<Token, Fault>
     Ok(Token::AnyIn(text_of(alloc, prefix)?))
 }
 
-/// The kinds of words.
+/// The kinds of words (XPath 1.0, productions 28 to 37).
 #[derive(Clone, Copy, Debug, PartialEq, Eq)]
 pub enum WordKind {
+    /// A bracket, a point or two, `@`, `,`, `::`, `*`, or an operator of signs.
     Symbol,
+    /// A text between quotes.
     Literal,
+    /// A name behind `$`.
     Variable,
+    /// Digits, with a point or without.
     Number,
     /// A prefix with `:*`.
     AnyIn,
+    /// A name, with a prefix or without.
     Name,
 }
 
+/// The kind of a word.
 fn word_kind(word: &[char]) -> WordKind
     ensures { result ≡ kind_of word.now }
 {
@@ -324,6 +342,7 @@ fn word_kind(word: &[char]) -> WordKind
     }
 }
 
+/// All but the first character.
 fn tail(chars: &[char]) -> &[char]
     ensures { result.now ≡ drop 1 chars.now }
 {
@@ -333,8 +352,9 @@ fn tail(chars: &[char]) -> &[char]
     }
 }
 
+/// The token that a symbol is, behind an operand or not; None where a word is no symbol.
 fn symbol_token(after: bool, word: &[char]) -> Option<Token>
-    ensures { result ≡ symbol_token_lem after word.now }
+    ensures { result ≡ symbol_token after word.now }
 {
     if equals(word, "*") {
         Some(star_token(after))
@@ -357,7 +377,7 @@ fn token(alloc: Global, after: bool, word: &[char], rest: &[char]) -> Result<Tok
     }
 }
 
-// The tokens that characters split into.
+/// The tokens that characters split into.
 fn tokens(alloc: Global, text: &[char]) -> Result<Vec<Token>, Fault>
     ensures tokens { IfOk result (λ found. Splits false text.now found.items) }
     ensures syntax { result ≡ Err Syntax → (ts : List Token) → Splits false text.now ts → ⊥ }
@@ -379,6 +399,7 @@ fn tokens(alloc: Global, text: &[char]) -> Result<Vec<Token>, Fault>
     Ok(found)
 }
 
+/// The characters of a text.
 fn chars_of(alloc: Global, text: &str) -> Result<Vec<char>, AllocError>
     ensures { IfOk result (λ v. v.items ≡ chars text.now) }
 {
@@ -387,7 +408,8 @@ fn chars_of(alloc: Global, text: &str) -> Result<Vec<char>, AllocError>
 
 /// The tokens that a text splits into, each as long as it can be (XPath 1.0, section 3.7).
 ///
-/// Errors: `Syntax` exactly where it splits into none; `NoMemory` where memory is not to be had.
+/// # Errors
+/// `Syntax` exactly where it splits into none; `NoMemory` where memory is not to be had.
 pub fn tokens_of(alloc: Global, text: &str) -> Result<Vec<Token>, Fault>
     ensures tokens { IfOk result (λ found. Splits false (chars text.now) found.items) }
     ensures syntax { result ≡ Err Syntax → (ts : List Token) → Splits false (chars text.now) ts → ⊥ }

@@ -14,40 +14,57 @@ use std::alloc::{AllocError, AllocFailed};
 pub use text::{as_str, is_empty, is_text, make_text, same_str};
 use xml_model::{Axis, Text};
 
-/// How two values are compared (XPath 1.0, productions 23 and 24): `=`, `!=`, `<`, `>`, `<=`, `>=`.
+/// How two values are compared (XPath 1.0, productions 23 and 24).
 #[derive(Clone, Copy, Debug, PartialEq, Eq)]
 pub enum Comparison {
+    /// `=`
     Equal,
+    /// `!=`
     Unequal,
+    /// `<`
     Less,
+    /// `>`
     Greater,
+    /// `<=`
     AtMost,
+    /// `>=`
     AtLeast,
 }
 
-/// An operator on two numbers (XPath 1.0, productions 25 and 26): `+`, `-`, `*`, `div`, `mod`.
+/// An operator on two numbers (XPath 1.0, productions 25 and 26).
 #[derive(Clone, Copy, Debug, PartialEq, Eq)]
 pub enum Operator {
+    /// `+`
     Add,
+    /// `-`
     Subtract,
+    /// `*`
     Multiply,
+    /// `div`
     Divide,
+    /// `mod`
     Modulo,
 }
 
-/// The axis of a step (XPath 1.0, section 2.2). `Namespace` is the thirteenth, which has no nodes here.
+/// The axis of a step (XPath 1.0, section 2.2).
 #[derive(Clone, Copy, Debug, PartialEq, Eq)]
 pub enum StepAxis {
+    /// One of the twelve that have nodes here.
     Known(Axis),
+    /// `namespace`, which has no nodes here.
     Namespace,
 }
 
 /// A word that is a test of a kind of node before `(` (XPath 1.0, production 38).
 #[derive(Clone, Copy, Debug, PartialEq, Eq)]
 pub enum NodeType {
+    /// `comment`
     Comment,
+    /// `text`
     Text,
+    /// `processing-instruction`
     Instruction,
+    /// `node`
     Node,
 }
 
@@ -106,10 +123,12 @@ pub enum Token {
     Variable(Text),
 }
 
-/// Why there is no answer: the text is no expression, or memory was not to be had.
+/// Why there is no answer.
 #[derive(Clone, Copy, Debug, PartialEq, Eq)]
 pub enum Fault {
+    /// The text splits into no tokens, or they derive no expression.
     Syntax,
+    /// Memory was not to be had.
     NoMemory,
 }
 

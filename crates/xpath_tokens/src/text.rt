@@ -1,12 +1,12 @@
-// Texts made of characters.
+//! Texts made of characters, and comparisons of texts.
 
 ghost use Rattle.std.specs.Prelude.{◌≡◌, IfOk, ◌+◌, ◌≤◌, ◌==◌, length, string_bytes, encode_utf8_all};
 ghost use Rattle.std.specs.Str.{bytes_eq, chars};
-ghost use Rattle.std.specs.Str.{chars as chars_lem};
 
 use std::alloc::{AllocError, Global};
 use xml_model::Text;
 
+/// The string of the characters.
 fn string_of(alloc: Global, chars: &[char]) -> Result<String, AllocError>
     ensures { IfOk result (λ s. string_bytes s ≡ encode_utf8_all chars.now) }
 {
@@ -22,6 +22,7 @@ pub fn text_of(alloc: Global, chars: &[char]) -> Result<Text, AllocError>
     })
 }
 
+/// Whether the code points of the characters are these bytes.
 fn same(chars: &[char], bytes: &[u8]) -> bool
     ensures { result ≡ bytes_eq chars.now bytes.now }
 {
@@ -49,11 +50,11 @@ pub fn is_text(text: &Text, other: &str) -> bool
 }
 
 /// The text with the characters of a `str`.
-pub fn make_text(alloc: Global, chars: &str) -> Result<Text, AllocError>
-    ensures { IfOk result (λ t. t ≡ chars_lem chars.now) }
+pub fn make_text(alloc: Global, text: &str) -> Result<Text, AllocError>
+    ensures { IfOk result (λ t. t ≡ chars text.now) }
 {
     Ok(Text {
-        held: String::from_str(alloc, chars)?,
+        held: String::from_str(alloc, text)?,
     })
 }
 

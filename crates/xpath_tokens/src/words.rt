@@ -1,56 +1,51 @@
-// How long the words at the front of a text are.
+//! How long the words at the front of a text are.
 
 ghost use Rattle.std.specs.Prelude.{◌≡◌, ◌+◌, ◌≤◌, length, drop};
-ghost use Rattle.xml_model.specs.Chars.{is_space as is_space_lem};
-ghost use Rattle.xpath_tokens.specs.Tokens.{is_single as is_single_lem, is_pair as is_pair_lem, is_quote as is_quote_lem, is_decimal_digit, behind_space};
-ghost use Rattle.xpath_tokens.specs.Words.{run, is_ncname_start as is_ncname_start_lem, is_ncname_char as is_ncname_char_lem, not_colon, is_other, ncname_len, symbol_len, qname_len, any_in_len, number_len, literal_len, variable_len, word_len};
+ghost use Rattle.xml_model.specs.Chars.{is_space};
+ghost use Rattle.xpath_tokens.specs.Tokens.{is_single, is_pair, is_quote, is_decimal_digit, behind_space};
+ghost use Rattle.xpath_tokens.specs.Words.{run, is_ncname_start, is_ncname_char, not_colon, is_other, ncname_length, symbol_length, qname_length, any_in_length, number_length, literal_length, variable_length, word_length};
 
 use xml_chars::{is_name_char, is_name_start};
 
-/// Whether the character is white space (XML 1.0, production 3).
+/// Whether the character is white space (XPath 1.0, production 39; XML 1.0, production 3).
 #[tactic(auto, unfolding(xml_model::specs::Chars::is_space, xml_model::specs::Chars::in_ranges))]
 pub fn is_space(c: char) -> bool
-    ensures { result ≡ is_space_lem c }
+    ensures { result ≡ is_space c }
 {
-    let code = c as u32;
-    code == 0x20 || (0x9 <= code && code <= 0xA) || code == 0xD
+    matches!(c, ' ' | '\t' | '\n' | '\r')
 }
 
+/// Whether the character is a digit of a number (XPath 1.0, production 31).
 pub fn is_digit(c: char) -> bool
     ensures { result ≡ is_decimal_digit c }
 {
-    c == '0'
-        || c == '1'
-        || c == '2'
-        || c == '3'
-        || c == '4'
-        || c == '5'
-        || c == '6'
-        || c == '7'
-        || c == '8'
-        || c == '9'
+    matches!(c, '0'..='9')
 }
 
+/// Whether the character begins and ends a literal (XPath 1.0, production 29).
 pub fn is_quote(c: char) -> bool
-    ensures { result ≡ is_quote_lem c }
+    ensures { result ≡ is_quote c }
 {
     c == '"' || c == '\''
 }
 
+/// Whether the character can begin a name without a colon (Namespaces in XML 1.0, production 4).
 pub fn is_ncname_start(c: char) -> bool
-    ensures { result ≡ is_ncname_start_lem c }
+    ensures { result ≡ is_ncname_start c }
 {
     c != ':' && is_name_start(c)
 }
 
+/// Whether the character can stand in a name without a colon (Namespaces in XML 1.0, production 4).
 pub fn is_ncname_char(c: char) -> bool
-    ensures { result ≡ is_ncname_char_lem c }
+    ensures { result ≡ is_ncname_char c }
 {
     c != ':' && is_name_char(c)
 }
 
+/// How many characters at the front can stand in a name without a colon.
 fn ncname_run(chars: &[char]) -> usize
-    ensures count { result ≡ run is_ncname_char_lem chars.now }
+    ensures count { result ≡ run is_ncname_char chars.now }
     ensures within { result ≤ length chars.now }
 {
     let mut count: usize = 0;
@@ -60,6 +55,7 @@ fn ncname_run(chars: &[char]) -> usize
     count
 }
 
+/// How many digits stand at the front (XPath 1.0, production 31).
 fn digit_run(chars: &[char]) -> usize
     ensures count { result ≡ run is_decimal_digit chars.now }
     ensures within { result ≤ length chars.now }
@@ -71,7 +67,7 @@ fn digit_run(chars: &[char]) -> usize
     count
 }
 
-/// How many characters stand before the first one that is this.
+/// How many characters stand before the first `stop`: all of them where there is none.
 pub fn run_before(stop: char, chars: &[char]) -> usize
     ensures count { result ≡ run (is_other stop) chars.now }
     ensures within { result ≤ length chars.now }
@@ -83,8 +79,9 @@ pub fn run_before(stop: char, chars: &[char]) -> usize
     count
 }
 
+/// How many characters of white space stand at the front (XPath 1.0, production 39).
 pub fn space_run(chars: &[char]) -> usize
-    ensures count { result ≡ run is_space_lem chars.now }
+    ensures count { result ≡ run is_space chars.now }
     ensures within { result ≤ length chars.now }
 {
     let mut count: usize = 0;
@@ -94,8 +91,9 @@ pub fn space_run(chars: &[char]) -> usize
     count
 }
 
+/// How long the name without a colon at the front is (Namespaces in XML 1.0, production 4); 0 where there is none.
 fn ncname_length(chars: &[char]) -> usize
-    ensures count { result ≡ ncname_len chars.now }
+    ensures count { result ≡ ncname_length chars.now }
     ensures within { result ≤ length chars.now }
 {
     match chars {
@@ -110,28 +108,21 @@ fn ncname_length(chars: &[char]) -> usize
     }
 }
 
+/// Whether the character alone is a symbol: a bracket, `.`, `@`, `,`, `*` or an operator (XPath 1.0, productions 28, 32
+/// and 34).
 pub fn is_single(c: char) -> bool
-    ensures { result ≡ is_single_lem c }
+    ensures { result ≡ is_single c }
 {
-    c == '('
-        || c == ')'
-        || c == '['
-        || c == ']'
-        || c == '.'
-        || c == '@'
-        || c == ','
-        || c == '*'
-        || c == '|'
-        || c == '+'
-        || c == '-'
-        || c == '='
-        || c == '<'
-        || c == '>'
-        || c == '/'
+    matches!(
+        c,
+        '(' | ')' | '[' | ']' | '.' | '@' | ',' | '*' | '|' | '+' | '-' | '=' | '<' | '>' | '/'
+    )
 }
 
+/// Whether the two characters together are a symbol: `..`, `::`, `//`, `!=`, `<=` or `>=` (XPath 1.0, productions 28
+/// and 32).
 pub fn is_pair(c: char, d: char) -> bool
-    ensures { result ≡ is_pair_lem c d }
+    ensures { result ≡ is_pair c d }
 {
     (c == '.' && d == '.')
         || (c == ':' && d == ':')
@@ -139,9 +130,9 @@ pub fn is_pair(c: char, d: char) -> bool
         || ((c == '!' || c == '<' || c == '>') && d == '=')
 }
 
-/// How long the symbol at the front is; 0 where there is none.
+/// How long the symbol at the front is (XPath 1.0, productions 28, 32 and 34); 0 where there is none.
 pub fn symbol_length(chars: &[char]) -> usize
-    ensures count { result ≡ symbol_len chars.now }
+    ensures count { result ≡ symbol_length chars.now }
     ensures within { result ≤ length chars.now }
 {
     match chars {
@@ -159,6 +150,7 @@ pub fn symbol_length(chars: &[char]) -> usize
     }
 }
 
+/// What stands behind as many characters.
 pub fn behind(chars: &[char], count: usize) -> &[char]
     requires { count ≤ length chars.now }
     ensures { result.now ≡ drop count chars.now }
@@ -166,9 +158,10 @@ pub fn behind(chars: &[char], count: usize) -> &[char]
     &chars[count..]
 }
 
-/// How long the name at the front is, with a prefix where it has one; 0 where there is none.
+/// How long the name at the front is, with a prefix where it has one (Namespaces in XML 1.0, production 7); 0 where there
+/// is none.
 fn qname_length(chars: &[char]) -> usize
-    ensures count { result ≡ qname_len chars.now }
+    ensures count { result ≡ qname_length chars.now }
     ensures within { result ≤ length chars.now }
 {
     let count = ncname_length(chars);
@@ -184,9 +177,9 @@ fn qname_length(chars: &[char]) -> usize
     }
 }
 
-/// How long the prefix with `:*` at the front is; 0 where there is none.
+/// How long the prefix with `:*` at the front is (XPath 1.0, production 37); 0 where there is none.
 fn any_in_length(chars: &[char]) -> usize
-    ensures count { result ≡ any_in_len chars.now }
+    ensures count { result ≡ any_in_length chars.now }
     ensures within { result ≤ length chars.now }
 {
     let count = ncname_length(chars);
@@ -199,9 +192,9 @@ fn any_in_length(chars: &[char]) -> usize
     }
 }
 
-/// How long the number at the front is; 0 where there is none.
+/// How long the number at the front is (XPath 1.0, production 30); 0 where there is none.
 fn number_length(chars: &[char]) -> usize
-    ensures count { result ≡ number_len chars.now }
+    ensures count { result ≡ number_length chars.now }
     ensures within { result ≤ length chars.now }
 {
     let count = digit_run(chars);
@@ -218,9 +211,9 @@ fn number_length(chars: &[char]) -> usize
     }
 }
 
-/// How long the literal at the front is, with its quotes; 0 where there is none.
+/// How long the literal at the front is, with its quotes (XPath 1.0, production 29); 0 where there is none.
 fn literal_length(chars: &[char]) -> usize
-    ensures count { result ≡ literal_len chars.now }
+    ensures count { result ≡ literal_length chars.now }
     ensures within { result ≤ length chars.now }
 {
     match chars {
@@ -235,9 +228,9 @@ fn literal_length(chars: &[char]) -> usize
     }
 }
 
-/// How long the variable reference at the front is; 0 where there is none.
+/// How long the variable reference at the front is (XPath 1.0, production 36); 0 where there is none.
 fn variable_length(chars: &[char]) -> usize
-    ensures count { result ≡ variable_len chars.now }
+    ensures count { result ≡ variable_length chars.now }
     ensures within { result ≤ length chars.now }
 {
     match chars {
@@ -249,9 +242,9 @@ fn variable_length(chars: &[char]) -> usize
     }
 }
 
-/// How long the longest word at the front is; 0 where there is none.
+/// How long the longest word at the front is (XPath 1.0, production 28); 0 where there is none.
 pub fn word_length(chars: &[char]) -> usize
-    ensures count { result ≡ word_len chars.now }
+    ensures count { result ≡ word_length chars.now }
     ensures within { result ≤ length chars.now }
 {
     let name = symbol_length(chars).max(qname_length(chars).max(any_in_length(chars)));

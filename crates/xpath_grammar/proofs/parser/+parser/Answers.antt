@@ -2,8 +2,8 @@ use Rattle.std.proofs.Common.{◌≡◌, Some, Err, take, sym, ◌∙◌, ap, su
 use Rattle.std.proofs.lemmas.List.{take_rest}
 use Rattle.xpath_grammar.specs.declared.expr.Expr.{Expr}
 use Rattle.xpath_grammar.specs.declared.expr.Exprs.{Exprs}
-use Rattle.xpath_grammar.specs.Grammar.{Derives, OrExpr, UnaryExpr, UnionExpr, PathExpr, FilterExpr, PrimaryExpr, Arguments, RelPath, StepPart, Predicates, path_location, location_rel}
-use Rattle.xpath_grammar.specs.Cutting.{symbol, operand, form, as_expr, as_exprs, as_walk, as_step, ArgumentLevel, RelLevel}
+use Rattle.xpath_grammar.specs.Grammar.{Derives, OrExpr, UnaryExpr, UnionExpr, PathExpr, FilterExpr, PrimaryExpr, Arguments, RelativeLocationPath, StepPart, Predicates, path_location, location_relative}
+use Rattle.xpath_grammar.specs.Cutting.{symbol, operand, form, as_expr, as_exprs, as_walk, as_step, ArgumentLevel, RelativeLevel}
 use Rattle.xpath_grammar.specs.Tree.{tree_of, trees_of}
 use Rattle.xpath_grammar.specs.Shape.{test_of, behind_test, IsStepTest}
 use Rattle.xpath_grammar.specs.Grammar.{expr, exprs}
@@ -25,15 +25,15 @@ unary-returns t c =
 
 pub path-returns-in_err-steps-in-Absolute : goal.path-returns-in_err-steps-in-Absolute
 path-returns-in_err-steps-in-Absolute t c =
-    refuses_at PathExpr RelPath as_expr as_walk c.args.tokens.now c.in-Absolute.rest.now c.in_err-steps-in-Absolute.field-0.0 c.from_residual.result c.from_residual.ensures.1 c.in_err-steps-in-Absolute.ensures (absolute_rest c.in-Absolute.ensures.0 c.in-Absolute.ensures.1)
+    refuses_at PathExpr RelativeLocationPath as_expr as_walk c.args.tokens.now c.in-Absolute.rest.now c.in_err-steps-in-Absolute.field-0.0 c.from_residual.result c.from_residual.ensures.1 c.in_err-steps-in-Absolute.ensures (absolute_rest c.in-Absolute.ensures.0 c.in-Absolute.ensures.1)
 
 pub path-returns-in_err-steps-in-Deep : goal.path-returns-in_err-steps-in-Deep
 path-returns-in_err-steps-in-Deep t c =
-    refuses_at PathExpr RelPath as_expr as_walk c.args.tokens.now c.in-Deep.rest.now c.in_err-steps-in-Deep.field-0.0 c.from_residual-in_err-steps-in-Deep.result c.from_residual-in_err-steps-in-Deep.ensures.1 c.in_err-steps-in-Deep.ensures (deep_rest c.in-Deep.ensures)
+    refuses_at PathExpr RelativeLocationPath as_expr as_walk c.args.tokens.now c.in-Deep.rest.now c.in_err-steps-in-Deep.field-0.0 c.from_residual-in_err-steps-in-Deep.result c.from_residual-in_err-steps-in-Deep.ensures.1 c.in_err-steps-in-Deep.ensures (deep_rest c.in-Deep.ensures)
 
 pub path-returns-in_err-steps-in-Steps : goal.path-returns-in_err-steps-in-Steps
 path-returns-in_err-steps-in-Steps t c =
-    refuses_at PathExpr RelPath as_expr as_walk c.args.tokens.now c.args.tokens.now c.in_err-steps-in-Steps.field-0.0 c.from_residual-in_err-steps-in-Steps.result c.from_residual-in_err-steps-in-Steps.ensures.1 c.in_err-steps-in-Steps.ensures (relative_only c.in-Steps.ensures)
+    refuses_at PathExpr RelativeLocationPath as_expr as_walk c.args.tokens.now c.args.tokens.now c.in_err-steps-in-Steps.field-0.0 c.from_residual-in_err-steps-in-Steps.result c.from_residual-in_err-steps-in-Steps.ensures.1 c.in_err-steps-in-Steps.ensures (relative_only c.in-Steps.ensures)
 
 pub path-returns-in-Root : goal.path-returns-in-Root
 path-returns-in-Root t c =
@@ -49,7 +49,7 @@ path-returns-in_ok-steps-in-Deep t c =
 
 pub path-returns-in_ok-steps-in-Steps : goal.path-returns-in_ok-steps-in-Steps
 path-returns-in_ok-steps-in-Steps t c =
-    path_location (location_rel c.in_ok-steps-in-Steps.ensures)
+    path_location (location_relative c.in_ok-steps-in-Steps.ensures)
 
 pub from_filter-parts_at-requires : goal.from_filter-parts_at-requires
 from_filter-parts_at-requires t c = first_inside c.in-Some.ensures
@@ -60,7 +60,7 @@ from_filter-returns-in_err-start-in-Some t c =
 
 pub from_filter-returns-in_err-steps-in-Some : goal.from_filter-returns-in_err-steps-in-Some
 from_filter-returns-in_err-steps-in-Some t c =
-    refuses_at PathExpr RelPath as_expr as_walk c.args.tokens.now c.parts_at.result.back.now c.in_err-steps-in-Some.field-0.0 c.from_residual-in_err-steps-in-Some.result c.from_residual-in_err-steps-in-Some.ensures.1 c.in_err-steps-in-Some.ensures (λ e d. let p = from_parts c.requires c.in-Some.ensures e d in (p.steps, rw c.parts_at.ensures.back p.right))
+    refuses_at PathExpr RelativeLocationPath as_expr as_walk c.args.tokens.now c.parts_at.result.back.now c.in_err-steps-in-Some.field-0.0 c.from_residual-in_err-steps-in-Some.result c.from_residual-in_err-steps-in-Some.ensures.1 c.in_err-steps-in-Some.ensures (λ e d. let p = from_parts c.requires c.in-Some.ensures e d in (p.steps, rw c.parts_at.ensures.back p.right))
 
 pub from_filter-returns-in-None : goal.from_filter-returns-in-None
 from_filter-returns-in-None t c =
@@ -192,7 +192,7 @@ relative-parts_at-requires t c = cut_inside (cuts_pop _ _ c.loop-i.invariant.cut
 pub relative-returns-in_err-part : goal.relative-returns-in_err-part
 relative-returns-in_err-part t c =
     let p = cuts_pop _ _ c.loop-i.invariant.cuts c.in-Some.ensures.items in
-    refuses_at RelPath StepPart as_walk as_step c.args.tokens.now c.parts_at.result.back.now c.in_err-part.field-0.0 c.from_residual-in_err-part.result c.from_residual-in_err-part.ensures.1 c.in_err-part.ensures (λ e d. let x = c.loop-i.invariant.remaining.only e d in rw c.parts_at.ensures.back (cut_right RelLevel p.last x.0 x.1))
+    refuses_at RelativeLocationPath StepPart as_walk as_step c.args.tokens.now c.parts_at.result.back.now c.in_err-part.field-0.0 c.from_residual-in_err-part.result c.from_residual-in_err-part.ensures.1 c.in_err-part.ensures (λ e d. let x = c.loop-i.invariant.remaining.only e d in rw c.parts_at.ensures.back (cut_right RelativeLevel p.last x.0 x.1))
 
 pub relative-loop-i-preserved : goal.relative-loop-i-preserved
 relative-loop-i-preserved t c =
@@ -206,11 +206,11 @@ relative-loop-i-preserved t c =
 pub relative-returns-in_err-part-2 : goal.relative-returns-in_err-part-2
 relative-returns-in_err-part-2 t c =
     let free = cuts_none c.loop-i.invariant.cuts (popped_none _ _ _ c.in_default.ensures.cases.0 c.in_default.ensures.items c.in_default.ensures.rest) in
-    refuses_at RelPath StepPart as_walk as_step c.args.tokens.now c.loop-i.rest.now c.in_err-part-2.field-0.0 c.from_residual-in_err-part-2.result c.from_residual-in_err-part-2.ensures.1 c.in_err-part-2.ensures (λ e d. let x = c.loop-i.invariant.remaining.only e d in cut_none RelLevel free x.0 x.1)
+    refuses_at RelativeLocationPath StepPart as_walk as_step c.args.tokens.now c.loop-i.rest.now c.in_err-part-2.field-0.0 c.from_residual-in_err-part-2.result c.from_residual-in_err-part-2.ensures.1 c.in_err-part-2.ensures (λ e d. let x = c.loop-i.invariant.remaining.only e d in cut_none RelativeLevel free x.0 x.1)
 
 pub relative-returns : goal.relative-returns
 relative-returns t c =
-    makes RelPath as_walk c.args.tokens.now c.step_more-2.result _ c.step_more-2.ensures (λ x h. relative_end c.loop-i.invariant.remaining c.in_ok-part-2.ensures h)
+    makes RelativeLocationPath as_walk c.args.tokens.now c.step_more-2.result _ c.step_more-2.ensures (λ x h. relative_end c.loop-i.invariant.remaining c.in_ok-part-2.ensures h)
 
 pub step-returns-in-Some : goal.step-returns-in-Some
 step-returns-in-Some t c = dot_made c.args.tokens.now c.in-Some.axis (sym c.dot_axis.ensures ∙ c.in-Some.is)

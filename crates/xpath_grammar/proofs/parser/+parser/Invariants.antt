@@ -1,5 +1,5 @@
 use Rattle.std.proofs.Common.{vec_len, length, ◌+◌, ◌*◌, ◌-◌}
-use Rattle.xpath_grammar.specs.Grammar.{Arguments, Predicates, RelPath, joined, exprs, walk, expr}
+use Rattle.xpath_grammar.specs.Grammar.{Arguments, Predicates, RelativeLocationPath, joined, exprs, walk, expr}
 use Rattle.xpath_grammar.specs.Cutting.{AreCuts, rank_of, height, symbol, form, applied, AreBinary}
 use Rattle.xpath_grammar.proofs.Remaining.{Remaining, adds}
 use Rattle.xpath_grammar.specs.Tree.{trees_of, walk_of}
@@ -58,7 +58,7 @@ decreases-predicates-loop-i l = vec_len l.cuts
 
 abbrev pub invariant-relative-loop-i : goal.invariant-relative-loop-i
 invariant-relative-loop-i l = record {
-  remaining : Remaining RelPath walk (λ w. joined w (walk_of l.all)) l.tokens l.rest;
+  remaining : Remaining RelativeLocationPath walk (λ w. joined w (walk_of l.all)) l.tokens l.rest;
   cuts : AreCuts 9 l.rest l.cuts.items;
 }
 

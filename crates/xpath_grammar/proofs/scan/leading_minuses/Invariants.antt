@@ -1,11 +1,11 @@
 use Rattle.std.proofs.Common.{◌≡◌, ◌+◌, ◌-◌, ◌≤◌, length, drop}
-use Rattle.xpath_grammar.specs.Cutting.{minus_len}
+use Rattle.xpath_grammar.specs.Cutting.{leading_minuses}
 use Rattle.xpath_grammar.proofs.scan.leading_minuses.Given as goal
 
 abbrev pub invariant-loop-count : goal.invariant-loop-count
 invariant-loop-count l = record {
   within : l.count ≤ length l.tokens;
-  same : minus_len l.tokens ≡ l.count + minus_len (drop l.count l.tokens);
+  same : leading_minuses l.tokens ≡ l.count + leading_minuses (drop l.count l.tokens);
 }
 
 abbrev pub decreases-loop-count : goal.decreases-loop-count
