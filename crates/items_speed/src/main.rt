@@ -1,4 +1,5 @@
-//! How fast items are read: times one pass over a document beside a plain sum of its bytes and a count of its `<`.
+//! How fast items are read, and documents checked: times one pass over a document each beside a plain sum of its bytes and a
+//! count of its `<`.
 //! The times go to standard error, and what was counted to standard output.
 #![tactic(auto)]
 
@@ -8,6 +9,7 @@ ghost use Rattle.std.specs.Str.{IsUtf8};
 use memchr::memchr_iter;
 use std::time::Instant;
 use std::{env, fs, io};
+use xml_acceptance::check;
 use xml_items::next_item;
 
 /// The number of items from the start to the end, or to the first place where none begins.
@@ -29,6 +31,16 @@ fn count_items(bytes: &[u8]) -> u64
     count
 }
 
+/// The number of records of a document, 0 of bytes that are none.
+fn count_records(bytes: &[u8]) -> u32
+    requires { length bytes.now < 2 ^ 30 }
+{
+    match check(bytes) {
+        Ok(counts) => counts.records,
+        Err(_) => 0,
+    }
+}
+
 fn sum_of(bytes: &[u8]) -> u64 {
     let mut sum = 0u64;
     for byte in bytes {
@@ -45,7 +57,7 @@ fn main(rt: HostRuntime) -> io::Result<()> {
     };
     let document = fs::read(&rt, &name)?;
     let bytes = document.as_slice();
-    if bytes.len() >= 1 << 32 {
+    if bytes.len() >= 1 << 30 {
         return Ok(());
     }
     let start = Instant::now(&rt)?;
@@ -62,7 +74,10 @@ fn main(rt: HostRuntime) -> io::Result<()> {
     let start = Instant::now(&rt)?;
     let items = count_items(text.as_bytes());
     let walked = start.elapsed(&rt)?;
-    println!(rt; "sum {sum}, angles {angles}, items {items}")?;
-    eprintln!(rt; "sum {summed:?}, memchr {counted:?}, utf8 {checked:?}, items {walked:?}")?;
+    let start = Instant::now(&rt)?;
+    let records = count_records(bytes);
+    let accepted = start.elapsed(&rt)?;
+    println!(rt; "sum {sum}, angles {angles}, items {items}, records {records}")?;
+    eprintln!(rt; "sum {summed:?}, memchr {counted:?}, utf8 {checked:?}, items {walked:?}, check {accepted:?}")?;
     Ok(())
 }

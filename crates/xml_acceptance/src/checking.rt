@@ -46,8 +46,8 @@ impl Pass {
         requires so_far { Passes bytes.now self.old counted.item.span.start }
         ensures { Passes bytes.now self.new counted.item.span.end }
     {
-        self.found.take(bytes, counted.item);
         self.nest.take(bytes, counted);
+        self.found.take(bytes, counted.item);
     }
 
     /// The answer at the end of the document, by the order of the layers.

@@ -25,6 +25,24 @@ pub struct OpenTags {
     ghost few: { depth ≤ 255 },
 }
 
+/// Whether the bytes are the same, compared one by one: names are short.
+#[inline(always)]
+fn are_same(first: &[u8], second: &[u8]) -> bool
+    ensures { result ≡ bytes_eq first.now second.now }
+{
+    let mut rest = second;
+    for byte in first {
+        let [other, after @ ..] = rest else {
+            return false;
+        };
+        if *byte != *other {
+            return false;
+        }
+        rest = after;
+    }
+    rest.is_empty()
+}
+
 /// Whether the same bytes stand in two places.
 fn is_same(bytes: &[u8], one: Span, other: Span) -> bool
     requires one { InBytes bytes.now one }
@@ -33,7 +51,7 @@ fn is_same(bytes: &[u8], one: Span, other: Span) -> bool
 {
     let first = &bytes[one.start as usize..one.end as usize];
     let second = &bytes[other.start as usize..other.end as usize];
-    first == second
+    are_same(first, second)
 }
 
 impl OpenTags {
@@ -157,6 +175,7 @@ impl OpenTags {
     }
 
     /// Takes an item, if it may stand behind those before it.
+    #[inline(always)]
     pub fn take(&mut self, bytes: &[u8], item: Item) -> Standing
         requires size { length bytes.now < 2 ^ 30 }
         requires item { IsItemAt bytes.now item.span.start item }

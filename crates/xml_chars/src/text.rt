@@ -4,7 +4,7 @@
 ghost use Rattle.std.specs.Prelude.{◌≡◌, ◌≤◌, ◌<◌, ◌+◌, ℕ, true, length, drop, nat_lt, IfSome, Some};
 ghost use Rattle.std.specs.List.{list_all, prefix_len};
 ghost use Rattle.std.specs.Str.{chars, IsUtf8, IsCharBoundary};
-ghost use Rattle.xml_model.specs.Chars.{is_name_char, is_space};
+ghost use Rattle.xml_model.specs.Chars.{begins, is_name_char, is_space};
 ghost use Rattle.xml_chars.specs.Readers.{Gives, run, word};
 ghost use Rattle.xml_chars.specs.Reading.{ascii_head, read_char, read_name, read_space};
 
@@ -43,6 +43,24 @@ pub fn step(text: &str) -> Option<(char, &str)>
     Some((c, rest.as_str()))
 }
 
+/// Whether the bytes begin with the mark, byte by byte: inlined at a mark that is known, it is a compare for each byte.
+#[inline(always)]
+fn begins_with(bytes: &[u8], mark: &[u8]) -> bool
+    ensures { result ≡ begins mark.now bytes.now }
+{
+    let mut rest = bytes;
+    for wanted in mark {
+        let [first, after @ ..] = rest else {
+            return false;
+        };
+        if *first != *wanted {
+            return false;
+        }
+        rest = after;
+    }
+    true
+}
+
 /// What follows the mark, where the text begins with it. The mark is ASCII.
 #[inline(always)]
 pub fn word_of<'a>(text: &'a str, mark: &str) -> Option<&'a str>
@@ -50,7 +68,7 @@ pub fn word_of<'a>(text: &'a str, mark: &str) -> Option<&'a str>
     ensures read { Gives (λ r. (tt, chars r.now)) result (word mark.now (chars text.now)) }
     ensures shorter { IfSome result (λ r. length r.now + length mark.now ≤ length text.now) }
 {
-    if text.as_bytes().starts_with(mark.as_bytes()) {
+    if begins_with(text.as_bytes(), mark.as_bytes()) {
         Some(text.split_at(mark.len()).1)
     } else {
         None

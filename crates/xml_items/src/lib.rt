@@ -120,6 +120,7 @@ fn begins_xml(text: &str) -> bool
 }
 
 /// The item as one that has no attributes.
+#[inline(always)]
 fn without_attributes(item: Option<Item>) -> Option<Counted>
     ensures { result ≡ option_map (with_count 0) item }
 {
@@ -131,6 +132,7 @@ fn without_attributes(item: Option<Item>) -> Option<Counted>
 
 /// The item at the front of a text that begins at the place with `<?`, which is the document's first place or is not. What
 /// follows the `<` is `rest`.
+#[inline(never)]
 fn question_item_of(text: &str, rest: &str, at: u32, first: bool) -> Option<Counted>
     requires room { at + length text.now < 2 ^ 32 }
     requires rest { word (codes "<") (chars text.now) ≡ Some (tt, chars rest.now) }
@@ -148,6 +150,7 @@ fn question_item_of(text: &str, rest: &str, at: u32, first: bool) -> Option<Coun
 }
 
 /// The item at the front of a text that begins at the place with `<!`. What follows the `<` is `rest`.
+#[inline(never)]
 fn bang_item_of(text: &str, rest: &str, at: u32, first: bool) -> Option<Counted>
     requires room { at + length text.now < 2 ^ 32 }
     requires rest { word (codes "<") (chars text.now) ≡ Some (tt, chars rest.now) }
@@ -164,7 +167,8 @@ fn bang_item_of(text: &str, rest: &str, at: u32, first: bool) -> Option<Counted>
     without_attributes(doctype_at(text, at))
 }
 
-/// The item at the front of a text that begins at the place, which is the document's first place or is not.
+/// The item at the front of a text that begins at the place, which is the document's first place or is not. What the rarer
+/// items are read into is copied, so that texts and tags need not be stored.
 #[inline(always)]
 fn item_of(text: &str, at: u32, first: bool) -> Option<Counted>
     requires { at + length text.now < 2 ^ 32 }
@@ -178,17 +182,20 @@ fn item_of(text: &str, at: u32, first: bool) -> Option<Counted>
         return without_attributes(end_tag_at(text, at));
     }
     if mark == b'?' {
-        return question_item_of(text, rest, at, first);
+        let found = question_item_of(text, rest, at, first)?;
+        return Some(found);
     }
     if mark == b'!' {
-        return bang_item_of(text, rest, at, first);
+        let found = bang_item_of(text, rest, at, first)?;
+        return Some(found);
     }
     tag_at(text, at)
 }
 
 /// The item that begins at the place, with the number of its attributes: `Ok(None)` exactly at the end, and `Err` exactly
-/// where the place is before the end and no item begins there.
-#[inline]
+/// where the place is before the end and no item begins there. It is always inlined, so that the parts of the item need not
+/// be stored.
+#[inline(always)]
 pub fn next_counted(bytes: &[u8], at: u32) -> Result<Option<Counted>, ItemFault>
     requires utf8 { IsUtf8 bytes.now }
     requires place { IsCharBoundary bytes.now at }

@@ -17,6 +17,7 @@ use xml_chars::text::{space_of, text_at};
 impl<'a> Attributes<'a> {
     /// The attributes of an item that is a tag or an XML declaration and that `next_item` answers at the start of its
     /// span. An end tag has none.
+    #[inline(always)]
     pub fn of(bytes: &'a [u8], item: Item) -> Attributes<'a>
         requires utf8 { IsUtf8 bytes.now }
         requires size { length bytes.now < 2 ^ 32 }
