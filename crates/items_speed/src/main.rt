@@ -78,6 +78,8 @@ fn main(rt: HostRuntime) -> io::Result<()> {
     let records = count_records(bytes);
     let accepted = start.elapsed(&rt)?;
     println!(rt; "sum {sum}, angles {angles}, items {items}, records {records}")?;
-    eprintln!(rt; "sum {summed:?}, memchr {counted:?}, utf8 {checked:?}, items {walked:?}, check {accepted:?}")?;
+    eprintln!(rt;
+        "sum {summed:?}, memchr {counted:?}, utf8 {checked:?}, items {walked:?}, check {accepted:?}"
+    )?;
     Ok(())
 }

@@ -1,7 +1,7 @@
 //! The items of a document: texts, tags, comments and the rest (XML 1.0, productions 14 to 44).
 #![tactic(auto)]
 
-ghost use Rattle.std.specs.Prelude.{◌≡◌, ◌==◌, ◌<◌, ◌+◌, ◌^◌, ◌↔◌, List, ℕ, drop, true, length, option_map, codes, Some, IfOk, IfErr, IfSome};
+ghost use Rattle.std.specs.Prelude.{◌≡◌, ◌≢◌, ◌==◌, ◌<◌, ◌+◌, ◌^◌, ◌↔◌, List, ℕ, drop, true, length, option_map, codes, Some, IfOk, IfErr, IfSome};
 ghost use Rattle.std.specs.Str.{chars, IsUtf8, IsCharBoundary};
 ghost use Rattle.xml_model.specs.Items.{first_place};
 ghost use Rattle.xml_chars.specs.Readers.{word};
@@ -120,7 +120,6 @@ fn begins_xml(text: &str) -> bool
 }
 
 /// The item as one that has no attributes.
-#[inline(always)]
 fn without_attributes(item: Option<Item>) -> Option<Counted>
     ensures { result ≡ option_map (with_count 0) item }
 {
@@ -132,7 +131,6 @@ fn without_attributes(item: Option<Item>) -> Option<Counted>
 
 /// The item at the front of a text that begins at the place with `<?`, which is the document's first place or is not. What
 /// follows the `<` is `rest`.
-#[inline(never)]
 fn question_item_of(text: &str, rest: &str, at: u32, first: bool) -> Option<Counted>
     requires room { at + length text.now < 2 ^ 32 }
     requires rest { word (codes "<") (chars text.now) ≡ Some (tt, chars rest.now) }
@@ -150,7 +148,6 @@ fn question_item_of(text: &str, rest: &str, at: u32, first: bool) -> Option<Coun
 }
 
 /// The item at the front of a text that begins at the place with `<!`. What follows the `<` is `rest`.
-#[inline(never)]
 fn bang_item_of(text: &str, rest: &str, at: u32, first: bool) -> Option<Counted>
     requires room { at + length text.now < 2 ^ 32 }
     requires rest { word (codes "<") (chars text.now) ≡ Some (tt, chars rest.now) }
@@ -167,8 +164,26 @@ fn bang_item_of(text: &str, rest: &str, at: u32, first: bool) -> Option<Counted>
     without_attributes(doctype_at(text, at))
 }
 
-/// The item at the front of a text that begins at the place, which is the document's first place or is not. What the rarer
-/// items are read into is copied, so that texts and tags need not be stored.
+/// The item at the front of a text that begins at the place with `<` and is no end tag. What follows the `<` is `rest`.
+#[inline(never)]
+fn marked_item_of(text: &str, rest: &str, at: u32, first: bool) -> Option<Counted>
+    requires room { at + length text.now < 2 ^ 32 }
+    requires rest { word (codes "<") (chars text.now) ≡ Some (tt, chars rest.now) }
+    requires mark { ascii_head (chars rest.now) ≢ 47 }
+    ensures { result ≡ option_map (λ p. counted_shown at p.0) (read_item first (chars text.now)) }
+{
+    let mark = head(rest);
+    if mark == b'?' {
+        return question_item_of(text, rest, at, first);
+    }
+    if mark == b'!' {
+        return bang_item_of(text, rest, at, first);
+    }
+    tag_at(text, at)
+}
+
+/// The item at the front of a text that begins at the place, which is the document's first place or is not. A rarer item is
+/// copied from where it is read into, so that texts and tags need not be stored.
 #[inline(always)]
 fn item_of(text: &str, at: u32, first: bool) -> Option<Counted>
     requires { at + length text.now < 2 ^ 32 }
@@ -181,12 +196,8 @@ fn item_of(text: &str, at: u32, first: bool) -> Option<Counted>
     if mark == b'/' {
         return without_attributes(end_tag_at(text, at));
     }
-    if mark == b'?' {
-        let found = question_item_of(text, rest, at, first)?;
-        return Some(found);
-    }
-    if mark == b'!' {
-        let found = bang_item_of(text, rest, at, first)?;
+    if mark == b'?' || mark == b'!' {
+        let found = marked_item_of(text, rest, at, first)?;
         return Some(found);
     }
     tag_at(text, at)
