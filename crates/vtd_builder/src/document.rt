@@ -73,13 +73,13 @@ impl Doc {
 
 /// A sink with room for so many words of each part.
 fn reserve(alloc: Global, counts: Counts) -> Result<Filling, NoMemory>
-    ensures { IfOk result (λ sink. sink.words.lists ≡ none × (sink.left ≡ counts.records)) }
+    ensures { IfOk result (λ sink. sink.words.lists ≡ none × (sink.most ≡ counts.records)) }
 {
     let mut words = WordVec::new(alloc);
     words.reserve(counts)?;
     Ok(Filling {
         words,
-        left: counts.records,
+        most: counts.records,
     })
 }
 

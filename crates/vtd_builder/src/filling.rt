@@ -3,16 +3,15 @@
 ghost use Rattle.std.specs.Prelude.{◌≡◌, ◌+◌, ◌<◌, ◌≤◌, ◌^◌, length};
 
 use crate::sink::RecordSink;
-use vtd_words::{Part, WordVec};
+use vtd_words::{Part, WordVec, Words};
 
-/// Appends words to the records, as long as there is room for them.
+/// Appends words to the records, up to so many of them.
 #[derive(Drop)]
 pub struct Filling {
     pub words: WordVec,
-    /// For how many further records there is room.
-    pub left: u32,
-    ghost room: { left ≤ words.room.records },
-    ghost few: { length words.lists.records + left < 2 ^ 32 },
+    /// How many records there may be; for those that are missing there is room.
+    pub most: u32,
+    ghost room: { most ≤ length words.lists.records + words.room.records },
 }
 
 impl RecordSink for Filling {
@@ -23,15 +22,14 @@ impl RecordSink for Filling {
 
     ghost rest = { λ s. levels_of s.words };
 
-    // Words are refused once the records are as many as there was room for.
-    ghost refuses = { λ s. λ taken word. nat_le (length s.words.lists.records + s.left) (length taken) };
+    // Words are refused once the records are as many as there may be.
+    ghost refuses = { λ s. λ taken word. nat_le s.most (length taken) };
 
     fn take(&mut self, word: u64) -> bool {
-        if self.left == 0 {
+        if self.words.len(Part::Records) >= self.most {
             return false;
         }
         self.words.push(Part::Records, word);
-        self.left -= 1;
         true
     }
 }

@@ -324,6 +324,7 @@ fn past_end_tag(bytes: &[u8], at: u32, level: u32, count: u32) -> Passed
 }
 
 /// Offers the records of an item that `next_item` answers and that begins with a mark, with so many elements open round it.
+#[inline(never)]
 fn offer_marked<R: RecordSink>(
     bytes: &[u8],
     item: Item,
@@ -357,7 +358,7 @@ fn offer_marked<R: RecordSink>(
 
 /// Offers the records of the item that begins at a place with a mark, with so many elements open round it. Such items are
 /// few, so they are read again.
-#[inline(never)]
+#[inline(always)]
 fn offer_mark<R: RecordSink>(
     bytes: &[u8],
     at: u32,
