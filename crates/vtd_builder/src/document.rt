@@ -98,7 +98,8 @@ fn check_recorded(bytes: &[u8], words: &WordVec) -> Result<(), DocFault>
 /// `check`, so `NoMemory` comes only where that refuses nothing; the names are checked by the records.
 ///
 /// # Errors
-/// `Doc` exactly where a check refuses the bytes, with the refusal. The bytes come back with each fault.
+/// `Doc` only with the refusal of the bytes; `NoMemory` may come in place of a refusal of names. The bytes come back with each
+/// fault.
 pub fn build(alloc: Global, bytes: Vec<u8>) -> Result<Doc, (Vec<u8>, BuildFault)>
     requires { vec_len bytes < 2 ^ 30 }
     ensures kept { IfOk result (λ doc. doc.bytes ≡ bytes.items) }

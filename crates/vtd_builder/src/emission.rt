@@ -9,6 +9,7 @@ ghost use Rattle.vtd_builder.specs.Offered.{IsFirstRefused, offer, outcome, reco
 use crate::offers::{offer, offer_item};
 use crate::sink::RecordSink;
 use vtd_words::Parts;
+use xml_items::first_place;
 
 /// The record of the document, which comes first.
 const DOCUMENT: Parts = Parts {
@@ -18,17 +19,6 @@ const DOCUMENT: Parts = Parts {
     length: 0,
     offset: 0,
 };
-
-/// Where the items begin: behind a byte order mark, which belongs to no item (XML 1.0, section 4.3.3).
-fn first_place(bytes: &[u8]) -> u32
-    ensures { result ≡ first_place bytes.now }
-{
-    if bytes.starts_with(&[0xEF, 0xBB, 0xBF]) {
-        3
-    } else {
-        0
-    }
-}
 
 /// Offers all records, and answers how many there are, or the number of the record that the sink refused.
 fn offer_records<R: RecordSink>(bytes: &[u8], into: &mut R) -> Result<u32, u32>
