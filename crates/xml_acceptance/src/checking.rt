@@ -38,7 +38,8 @@ impl Pass {
         }
     }
 
-    /// Takes the next item.
+    /// Takes the next item. All that takes it is inlined down to its kind and its spans, so that an item need not be stored, and
+    /// the nest, which branches by the kind, comes first.
     fn take(&mut self, bytes: &[u8], counted: Counted)
         requires utf8 { IsUtf8 bytes.now }
         requires size { length bytes.now < 2 ^ 30 }

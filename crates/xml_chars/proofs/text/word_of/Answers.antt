@@ -1,6 +1,4 @@
 use Rattle.std.proofs.Common.{sym, ◌∙◌, ◌≡◌, true, false}
-use Rattle.std.specs.List.{starts_with}
-use Rattle.std.specs.Prelude.{nat_eq}
 use Rattle.xml_model.specs.Chars.{begins}
 use Rattle.xml_chars.proofs.TextLemmas.{word_of, pointwise-begins}
 use Rattle.xml_chars.proofs.text.word_of.Goals as goal
