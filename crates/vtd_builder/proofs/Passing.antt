@@ -1,14 +1,13 @@
 -- End tags and texts of an accepted document: the byte that ends them tells where they end.
-use Rattle.std.proofs.Common.{◌≡◌, ℕ, zero, suc, ◌+◌, ◌-◌, ◌<◌, ◌≤◌, true, false, List, [], ◌∷◌, ◌++◌, length, drop, refl, sym, ap, subst, ◌∙◌, arith, append_assoc}
+use Rattle.std.proofs.Common.{◌≡◌, ℕ, zero, suc, ◌+◌, ◌-◌, ◌≤◌, true, false, List, [], ◌∷◌, ◌++◌, length, drop, refl, sym, ap, subst, ◌∙◌, arith, append_assoc}
 use Rattle.std.specs.Prelude.{codes, ◌&&◌, ◌==◌, not}
 use Rattle.std.specs.List.{list_all, prefix_len}
-use Rattle.std.proofs.lemmas.Bool.{and_parts, false≢true}
+use Rattle.std.proofs.lemmas.Bool.{and_parts}
 use Rattle.std.proofs.lemmas.List.{append-nil, drop-drop}
 use lib.Utf8.{encode, encodes}
 use Rattle.xml_model.specs.Chars.{size, lacks, begins, in_ranges, is_char, is_space, is_blank, is_name, is_name_start, is_name_char}
-use Rattle.xml_model.specs.Items.{Piece, literal, Leaf, text, cdata, declaration, doctype, Item, leaf, start_tag, empty_tag, end_tag, written, written_pieces, meets, meets_leaf, meets_piece, is_nil, begins_at, spelling, ends_well, may_stand, first_place}
+use Rattle.xml_model.specs.Items.{Piece, literal, Leaf, text, cdata, declaration, doctype, Item, leaf, start_tag, empty_tag, end_tag, written, written_pieces, meets, meets_piece, is_nil, begins_at, spelling, ends_well, may_stand, first_place}
 use Rattle.xml_model.specs.Records.{Token, depth_at, text_tokens}
-use Rattle.xml_chars.specs.Places.{span_from}
 use Rattle.xml_chars.proofs.StandLemmas.{size-append}
 use Rattle.xml_items.specs.Shown.{leaf_kind, item_kind}
 use Rattle.xml_items.proofs.SpanLemmas.{spelled}

@@ -1,5 +1,5 @@
 -- Where the parts of a tag lie, told by the bytes that end them (this project's own). The tag is one of an accepted document.
-use Rattle.std.specs.Prelude.{◌≡◌, ℕ, ◌+◌, ◌≤◌, Bool, true, false, cond, ◌&&◌, ◌||◌, ◌==◌, not, nat_le, nat_lt, slice_index, bytes_eq, Result, Ok, Err, List, [], ◌∷◌, ◌++◌, length, drop, codes, encode_utf8_all}
+use Rattle.std.specs.Prelude.{◌≡◌, ℕ, ◌+◌, ◌≤◌, Bool, true, cond, ◌&&◌, ◌||◌, ◌==◌, not, nat_le, nat_lt, bytes_eq, Result, Ok, Err, List, [], ◌∷◌, ◌++◌, length, drop, codes, encode_utf8_all}
 use Rattle.std.specs.List.{list_all}
 use Rattle.xml_model.specs.Chars.{size, is_space}
 use Rattle.xml_model.specs.Items.{Item, spelling, begins_at, Attribute, quote_char, before_value, written_pieces, written_attributes, meets_attribute}

@@ -1,5 +1,5 @@
 -- The records of an item by the places that are found (this project's own).
-use Rattle.std.specs.Prelude.{◌≡◌, ℕ, ◌+◌, ◌-◌, ◌≤◌, true, List, [], ◌∷◌, ◌++◌, length, take, drop}
+use Rattle.std.specs.Prelude.{◌≡◌, ℕ, ◌-◌, ◌≤◌, true, List, [], ◌∷◌, ◌++◌, length, take, drop}
 use Rattle.xml_model.specs.declared.Span.{Span}
 use Rattle.xml_model.specs.Chars.{prefix_of}
 use Rattle.xml_model.specs.Items.{Item, begins_at}

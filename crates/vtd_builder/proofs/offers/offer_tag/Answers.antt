@@ -1,6 +1,6 @@
 use Rattle.std.proofs.Common.{◌≡◌, List, true, map, sym, ap, subst, ◌∙◌, arith, Ok}
 use Rattle.std.proofs.lemmas.Result.{err_from_is_err_and}
-use Rattle.xml_model.specs.Items.{Item, begins_at}
+use Rattle.xml_model.specs.Items.{Item}
 use Rattle.xml_model.specs.Records.{Token, attributes_tokens, word}
 use Rattle.xml_acceptance.specs.Machine.{item_tokens}
 use Rattle.vtd_words.specs.Packed.{fits, token_of}

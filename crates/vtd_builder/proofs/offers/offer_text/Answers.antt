@@ -3,8 +3,7 @@ use Rattle.std.proofs.lemmas.Result.{err_from_is_err_and}
 use Rattle.xml_model.specs.Items.{Item}
 use Rattle.xml_model.specs.Records.{Token, word}
 use Rattle.xml_acceptance.specs.Machine.{item_tokens}
-use Rattle.vtd_words.specs.Packed.{fits, token_of}
-use Rattle.vtd_words.specs.Table.{parts_of_token}
+use Rattle.vtd_words.specs.Packed.{token_of}
 use Rattle.vtd_builder.specs.declared.offers.Beginning.TheVariants as beginnings
 use Rattle.vtd_builder.specs.Offered.{CanOffer, offer}
 use Rattle.vtd_builder.specs.Found.{plain_span}

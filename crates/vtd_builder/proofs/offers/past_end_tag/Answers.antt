@@ -1,5 +1,4 @@
 use Rattle.std.proofs.Common.{sym, ◌∙◌, arith}
-use Rattle.vtd_builder.specs.Cuts.{IsPast}
 use Rattle.vtd_builder.proofs.Passing.{end_facts}
 use Rattle.vtd_builder.proofs.offers.past_end_tag.Goals as goal
 
