@@ -1,4 +1,3 @@
-use Rattle.std.proofs.Common.{sym, ◌∙◌, ap}
 use Rattle.vtd_program.proofs.RunLemmas.{reads_refused}
 use Rattle.vtd_program.proofs.running.read_document.Goals as goal
 
