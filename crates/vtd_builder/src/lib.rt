@@ -16,4 +16,6 @@ pub use sink::RecordSink;
 pub use xml_acceptance::check;
 
 #[cfg(test)]
+mod conformance;
+#[cfg(test)]
 mod tests;
