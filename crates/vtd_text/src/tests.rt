@@ -127,7 +127,9 @@ const PIECE_RECORDS: &[u64] = &[
 
 #[test]
 fn contents_that_stand_as_they_are(rt: HostRuntime) -> Result<(), Fail> {
-    let words = Fixed { words: PIECE_RECORDS };
+    let words = Fixed {
+        words: PIECE_RECORDS,
+    };
     let table = Table::of(PIECES, &words);
     let rows: [(u32, Option<&[u8]>); 7] = [
         (0, None),
@@ -151,7 +153,10 @@ fn contents_that_stand_as_they_are(rt: HostRuntime) -> Result<(), Fail> {
         let Some(other) = table.node_at(other) else {
             return Err(Fail::from("no node"));
         };
-        assert_eq!(rt; equals(Chars::of(&table, one), Chars::of(&table, other)), same);
+        assert_eq!(rt;
+            equals(Chars::of(&table, one), Chars::of(&table, other)),
+            same
+        );
     }
     Ok(())
 }
