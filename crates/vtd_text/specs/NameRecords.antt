@@ -1,5 +1,5 @@
 -- The attribute, or the declaration of a namespace, whose name a record of a document is: XML 1.0, section 3.1, and Namespaces in XML 1.0,
--- section 2. A tag's record is followed by two for each attribute, its name and its value: this project's own.
+-- section 3. A tag's record is followed by two for each attribute, its name and its value: this project's own.
 use Rattle.std.specs.Prelude.{◌≡◌, ℕ, ◌+◌, ◌*◌, Bool, ◌||◌, ◌==◌, List, slice_get, Some, Contains}
 use Rattle.xml_model.specs.Items.{Attribute, Tag, first_place}
 use Rattle.xml_model.specs.Nest.{Forest}

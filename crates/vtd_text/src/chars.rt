@@ -80,7 +80,7 @@ impl<'a, W: Words> Chars<'a, W> {
     }
 
     /// The code points of the value of a declaration of a namespace, by the index of the record of its name, which has the
-    /// type 3 (Namespaces in XML 1.0, section 2); its value is resolved as that of an attribute.
+    /// type 3 (Namespaces in XML 1.0, section 3); its value is resolved as that of an attribute.
     pub fn of_declaration(table: &Table<'a, W>, at: u32) -> Chars<'a, W>
         requires { IsDeclaration table.now.bytes (W.lists table.now.words) at }
         ensures { (nest : Forest) → IsNestOf table.now.bytes (W.lists table.now.words) nest →

@@ -44,38 +44,41 @@ fn spells<W: Words>(chars: Chars<'_, W>, expected: &str) -> bool {
 
 /// A value with a line feed by reference and white space as it stands, a declaration, line ends in a comment and in an
 /// instruction, a run of four records with a carriage return before a section that begins with a line feed, a run behind a deeper
-/// one, and a run of an empty section alone.
+/// one, a run of an empty section alone, and a run of an empty section and a text.
 const DOCUMENT: &[u8] =
-    b"<a b=\"&#10;\n\r\n\" xmlns:p=\"u&amp;v\"><!--c\r\n-->x<![CDATA[&y]]>z\r<![CDATA[\n]]><b>1&lt;2\r\n3</b>w<?t d\r?><c><![CDATA[]]></c></a>";
+    b"<a b=\"&#10;\n\r\n\" xmlns:p=\"u&amp;v\"><!--c\r\n-->x<![CDATA[&y]]>z\r<![CDATA[\n]]><b>1&lt;2\r\n3</b>w<?t d\r?><c><![CDATA[]]></c><d><![CDATA[]]>x</d></a>";
+
+const RECORDS: &[u64] = &[
+    0xdff0_0000_0000_0000,
+    0x0000_0001_0000_0001,
+    0x2000_0001_0000_0003,
+    0x4000_0008_0000_0006,
+    0x3000_2807_0000_0010,
+    0x4000_0007_0000_0019,
+    0x6000_0003_0000_0026,
+    0x5000_0001_0000_002c,
+    0xb000_0002_0000_0036,
+    0x5000_0002_0000_003b,
+    0xb000_0001_0000_0046,
+    0x0010_0001_0000_004b,
+    0x5010_0009_0000_004d,
+    0x5000_0001_0000_005a,
+    0x7000_0001_0000_005d,
+    0x8000_0002_0000_005f,
+    0x0010_0001_0000_0064,
+    0xb010_0000_0000_006f,
+    0x0010_0001_0000_0077,
+    0xb010_0000_0000_0082,
+    0x5010_0001_0000_0085,
+];
 
 #[test]
 fn contents_of_each_kind(rt: HostRuntime) -> Result<(), Fail> {
-    let words = Fixed {
-        words: &[
-            0xdff0_0000_0000_0000,
-            0x0000_0001_0000_0001,
-            0x2000_0001_0000_0003,
-            0x4000_0008_0000_0006,
-            0x3000_2807_0000_0010,
-            0x4000_0007_0000_0019,
-            0x6000_0003_0000_0026,
-            0x5000_0001_0000_002c,
-            0xb000_0002_0000_0036,
-            0x5000_0002_0000_003b,
-            0xb000_0001_0000_0046,
-            0x0010_0001_0000_004b,
-            0x5010_0009_0000_004d,
-            0x5000_0001_0000_005a,
-            0x7000_0001_0000_005d,
-            0x8000_0002_0000_005f,
-            0x0010_0001_0000_0064,
-            0xb010_0000_0000_006f,
-        ],
-    };
+    let words = Fixed { words: RECORDS };
     let table = Table::of(DOCUMENT, &words);
     let rows = [
-        (0, Kind::Root, "x&yz\n\n1<2\n3w", false),
-        (1, Kind::Element, "x&yz\n\n1<2\n3w", false),
+        (0, Kind::Root, "x&yz\n\n1<2\n3wx", false),
+        (1, Kind::Element, "x&yz\n\n1<2\n3wx", false),
         (2, Kind::Attribute, "\n  ", false),
         (6, Kind::Comment, "c\n", false),
         (7, Kind::Text, "x&yz\n\n", false),
@@ -84,6 +87,8 @@ fn contents_of_each_kind(rt: HostRuntime) -> Result<(), Fail> {
         (13, Kind::Text, "w", true),
         (14, Kind::Instruction, "d\n", false),
         (16, Kind::Element, "", false),
+        (18, Kind::Element, "x", false),
+        (19, Kind::Text, "x", false),
     ];
     for (at, kind, expected, stands) in rows {
         let Some(node) = table.node_at(at) else {
@@ -95,37 +100,42 @@ fn contents_of_each_kind(rt: HostRuntime) -> Result<(), Fail> {
         assert!(rt; !equals_str(Chars::of(&table, node), "w\n"));
         assert_eq!(rt; raw(&table, node).is_some(), stands);
     }
-    assert_eq!(rt; table.node_at(17), None);
+    for at in [17, 20] {
+        assert_eq!(rt; table.node_at(at), None);
+    }
     assert!(rt; spells(Chars::of_declaration(&table, 4), "u&v"));
     Ok(())
 }
 
-const PIECES: &[u8] = b"<a b=\"1\"><!--c-->x<![CDATA[y]]>z<?p d?><e>t</e></a>";
+/// Contents of one piece each, of which one is a front of the run's and one differs from it in the last character.
+const PIECES: &[u8] = b"<a b=\"xy\"><!--xyw-->x<![CDATA[y]]>z<?p d?><e>t</e></a>";
+
+const PIECE_RECORDS: &[u64] = &[
+    0xdff0_0000_0000_0000,
+    0x0000_0001_0000_0001,
+    0x2000_0001_0000_0003,
+    0x4000_0002_0000_0006,
+    0x6000_0003_0000_000e,
+    0x5000_0001_0000_0014,
+    0xb000_0001_0000_001e,
+    0x5000_0001_0000_0022,
+    0x7000_0001_0000_0025,
+    0x8000_0001_0000_0027,
+    0x0010_0001_0000_002b,
+    0x5010_0001_0000_002d,
+];
 
 #[test]
 fn contents_that_stand_as_they_are(rt: HostRuntime) -> Result<(), Fail> {
     let words = Fixed {
-        words: &[
-            0xdff0_0000_0000_0000,
-            0x0000_0001_0000_0001,
-            0x2000_0001_0000_0003,
-            0x4000_0001_0000_0006,
-            0x6000_0001_0000_000d,
-            0x5000_0001_0000_0011,
-            0xb000_0001_0000_001b,
-            0x5000_0001_0000_001f,
-            0x7000_0001_0000_0022,
-            0x8000_0001_0000_0024,
-            0x0010_0001_0000_0028,
-            0x5010_0001_0000_002a,
-        ],
+        words: PIECE_RECORDS,
     };
     let table = Table::of(PIECES, &words);
     let rows: [(u32, Option<&[u8]>); 7] = [
         (0, None),
         (1, None),
-        (2, Some(b"1")),
-        (4, Some(b"c")),
+        (2, Some(b"xy")),
+        (4, Some(b"xyw")),
         (5, None),
         (8, Some(b"d")),
         (11, Some(b"t")),
@@ -136,14 +146,44 @@ fn contents_that_stand_as_they_are(rt: HostRuntime) -> Result<(), Fail> {
         };
         assert_eq!(rt; raw(&table, node), expected);
     }
-    let Some(node) = table.node_at(5) else {
+    for (one, other, same) in [(5, 5, true), (2, 5, false), (5, 2, false), (4, 5, false)] {
+        let Some(one) = table.node_at(one) else {
+            return Err(Fail::from("no node"));
+        };
+        let Some(other) = table.node_at(other) else {
+            return Err(Fail::from("no node"));
+        };
+        assert_eq!(rt;
+            equals(Chars::of(&table, one), Chars::of(&table, other)),
+            same
+        );
+    }
+    Ok(())
+}
+
+const RUN: &[u8] = b"<a>x<![CDATA[y]]>z</a>";
+
+const RUN_RECORDS: &[u64] = &[
+    0xdff0_0000_0000_0000,
+    0x0000_0001_0000_0001,
+    0x5000_0001_0000_0003,
+    0xb000_0001_0000_000d,
+    0x5000_0001_0000_0011,
+];
+
+#[test]
+fn appended_contents(rt: HostRuntime) -> Result<(), Fail> {
+    let words = Fixed { words: RUN_RECORDS };
+    let table = Table::of(RUN, &words);
+    let Some(node) = table.node_at(2) else {
         return Err(Fail::from("no node"));
     };
-    let mut text = Text {
-        held: String::from_str(rt.alloc(), "w")?,
-    };
-    assert!(rt; append_to(rt.alloc(), Chars::of(&table, node), &mut text).is_ok());
-    assert_eq!(rt; text.held.as_str(), "wxyz");
-    assert!(rt; equals(Chars::of(&table, node), Chars::of(&table, node)));
+    for (before, expected) in [("", "xyz"), ("w", "wxyz")] {
+        let mut text = Text {
+            held: String::from_str(rt.alloc(), before)?,
+        };
+        assert!(rt; append_to(rt.alloc(), Chars::of(&table, node), &mut text).is_ok());
+        assert_eq!(rt; text.held.as_str(), expected);
+    }
     Ok(())
 }

@@ -64,6 +64,7 @@ impl<T: Drop> Lane<T> {
         ensures items { self.new.items.items ≡ self.old.items.items }
         ensures room { self.new.room ≡ self.old.room }
         ensures ok { OnOk result (vec_len self.new.items + count ≤ vec_capacity self.new.items) }
+        ensures full { OnErr result (self.old.room < count) }
     {
         if self.items.reserve(count as usize).is_err() {
             return Err(NoMemory);
@@ -128,12 +129,14 @@ impl WordVec {
         }
     }
 
-    /// Makes room for so many further words of each part. After `NoMemory` the lists and their room are as before.
+    /// Makes room for so many further words of each part. After `NoMemory` the lists and their room are as before; it comes only
+    /// where some part had less room.
     pub fn reserve(&mut self, counts: Counts) -> Result<(), NoMemory>
         ensures lists { self.new.lists ≡ self.old.lists }
         ensures room { OnOk result (HasRoom counts self.new.room) }
         ensures kept { KeepsRoom self.old.room self.new.room }
         ensures err { OnErr result (self.new ≡ self.old) }
+        ensures full { OnErr result (HasRoom counts self.old.room → ⊥) }
     {
         self.records.grow(counts.records)?;
         self.level1.grow(counts.level1)?;

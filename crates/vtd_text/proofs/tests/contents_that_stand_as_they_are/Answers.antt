@@ -7,8 +7,8 @@ use Rattle.vtd_text.proofs.tests.contents_that_stand_as_they_are.Goals as goal
 
 abbrev nest : Forest
 nest =
-    element (tag_with (codes "a") (attr (codes "b") (codes "1") ∷ []))
-    (single (Leaf.comment (codes "c")) (words (codes "x") (single (cdata (codes "y")) (words (codes "z")
+    element (tag_with (codes "a") (attr (codes "b") (codes "xy") ∷ []))
+    (single (Leaf.comment (codes "xyw")) (words (codes "x") (single (cdata (codes "y")) (words (codes "z")
     (single (Leaf.instruction (record { target = codes "p"; space = codes " "; content = codes "d" })) (elem (codes "e") (words (codes "t") done) done)))))) []
     done
 
