@@ -1,4 +1,4 @@
-ghost use Rattle.std.specs.Prelude.{◌≡◌};
+ghost use Rattle.std.specs.Prelude.{◌≡◌, ◌<◌, ◌^◌, length};
 
 use super::*;
 use std::test::Fail;
@@ -24,39 +24,84 @@ const RECORDS: [u64; 12] = [
     0x6ff0_0001_0000_002d,
 ];
 
+/// The words of the records of a document.
 #[derive(Drop)]
-struct Fixed([u64; 12]);
+struct Fixed<'a> {
+    words: &'a [u64],
+    ghost few: { length words.now < 2 ^ 32 },
+}
 
-impl Words for Fixed {
+impl<'a> Words for Fixed<'a> {
     ghost use Rattle.std.specs.Prelude.{[]};
 
-    ghost lists = { λ w. record { records = w.0; level1 = []; level2 = []; level3 = [] } };
+    ghost lists = { λ w. record { records = w.words.now; level1 = []; level2 = []; level3 = [] } };
 
     fn len(&self, part: Part) -> u32 {
         match part {
-            Part::Records => 12,
+            Part::Records => self.words.len() as u32,
             _ => 0,
         }
     }
 
     fn word(&self, part: Part, at: u32) -> u64 {
         match part {
-            Part::Records => self.0[at as usize],
+            Part::Records => self.words[at as usize],
             _ => 0,
         }
     }
 }
 
-fn nav(words: &Fixed) -> Nav<'_, Fixed>
-    requires { words.now.0 ≡ RECORDS }
+fn nav<'a>(words: &'a Fixed<'a>) -> Nav<'a, Fixed<'a>>
+    requires { words.now.words.now ≡ RECORDS }
     ensures { result.bytes ≡ DOCUMENT.now }
 {
     Nav::of(Table::of(DOCUMENT, words))
 }
 
+/// The records of `MERGED`.
+const MERGED_RECORDS: [u64; 8] = [
+    0xdff0_0000_0000_0000,
+    0x0000_0001_0000_0001,
+    0x5000_0001_0000_0003,
+    0xb000_0001_0000_000d,
+    0x5000_0001_0000_0011,
+    0x0010_0001_0000_0013,
+    0xb000_0000_0000_001f,
+    0x0010_0001_0000_0023,
+];
+
+/// A text of three pieces, and a CDATA section without content between two elements.
+const MERGED: &[u8] = b"<a>x<![CDATA[y]]>z<b/><![CDATA[]]><c/></a>";
+
+fn merged<'a>(words: &'a Fixed<'a>) -> Nav<'a, Fixed<'a>>
+    requires { words.now.words.now ≡ MERGED_RECORDS }
+{
+    Nav::of(Table::of(MERGED, words))
+}
+
+/// The records of `MARKED`.
+const MARKED_RECORDS: [u64; 2] = [0xdff0_0000_0000_0000, 0x0000_0001_0000_0004];
+
+/// An element behind a byte order mark.
+const MARKED: &[u8] = b"\xef\xbb\xbf<a/>";
+
+fn marked<'a>(words: &'a Fixed<'a>) -> Nav<'a, Fixed<'a>>
+    requires { words.now.words.now ≡ MARKED_RECORDS }
+{
+    Nav::of(Table::of(MARKED, words))
+}
+
+/// Whether the node at a record stands from one place to another.
+fn stands(nav: &Nav<'_, Fixed<'_>>, at: u32, start: u32, end: u32) -> bool {
+    match nav.table().node_at(at) {
+        Some(node) => span(nav, node) == Span { start, end },
+        None => false,
+    }
+}
+
 #[test]
-fn spans_of_all_kinds(rt: HostRuntime) -> Result<(), Fail> {
-    let words = Fixed(RECORDS);
+fn spans_of_all_kinds(rt: HostRuntime) {
+    let words = Fixed { words: &RECORDS };
     let nav = nav(&words);
     let rows = [
         (0, 0, 49),
@@ -71,17 +116,31 @@ fn spans_of_all_kinds(rt: HostRuntime) -> Result<(), Fail> {
         (11, 41, 49),
     ];
     for (at, start, end) in rows {
-        let Some(node) = nav.table().node_at(at) else {
-            return Err(Fail::from("no node"));
-        };
-        assert_eq!(rt; span(&nav, node), Span { start, end });
+        assert!(rt; stands(&nav, at, start, end), "{at}");
     }
-    Ok(())
+}
+
+#[test]
+fn spans_of_runs_and_behind_a_mark(rt: HostRuntime) {
+    let words = Fixed {
+        words: &MERGED_RECORDS,
+    };
+    let nav = merged(&words);
+    let rows = [(0, 0, 42), (1, 0, 42), (2, 3, 18), (5, 18, 22), (7, 34, 38)];
+    for (at, start, end) in rows {
+        assert!(rt; stands(&nav, at, start, end), "{at}");
+    }
+    let words = Fixed {
+        words: &MARKED_RECORDS,
+    };
+    let nav = marked(&words);
+    assert!(rt; stands(&nav, 0, 0, 7));
+    assert!(rt; stands(&nav, 1, 3, 7));
 }
 
 #[test]
 fn parts_of_tags(rt: HostRuntime) -> Result<(), Fail> {
-    let words = Fixed(RECORDS);
+    let words = Fixed { words: &RECORDS };
     let nav = nav(&words);
     let rows = [
         (1, 1, 2, 3, 37, false),
@@ -131,7 +190,7 @@ enum Move {
     Root,
 }
 
-fn go(cursor: &mut Cursor<'_, '_, Fixed>, to: Move) -> bool {
+fn go(cursor: &mut Cursor<'_, '_, Fixed<'_>>, to: Move) -> bool {
     match to {
         Move::Up => cursor.to_parent(),
         Move::First => cursor.to_first_child(),
@@ -149,8 +208,8 @@ fn go(cursor: &mut Cursor<'_, '_, Fixed>, to: Move) -> bool {
 
 // Where each move leads, and whether there is such a node.
 #[test]
-fn moves_over_all_nodes(rt: HostRuntime) {
-    let words = Fixed(RECORDS);
+fn moves_in_an_element(rt: HostRuntime) {
+    let words = Fixed { words: &RECORDS };
     let nav = nav(&words);
     let mut cursor = Cursor::new(rt.alloc(), &nav);
     let rows = [
@@ -172,6 +231,21 @@ fn moves_over_all_nodes(rt: HostRuntime) {
         (Move::First, false, 5),
         (Move::Attribute, false, 5),
         (Move::Up, true, 2),
+    ];
+    for (to, moved, at) in rows {
+        assert_eq!(rt; go(&mut cursor, to), moved);
+        assert_eq!(rt; cursor.node().at, at);
+    }
+}
+
+#[test]
+fn moves_among_children(rt: HostRuntime) {
+    let words = Fixed { words: &RECORDS };
+    let nav = nav(&words);
+    let mut cursor = Cursor::new(rt.alloc(), &nav);
+    let rows = [
+        (Move::First, true, 1),
+        (Move::First, true, 2),
         (Move::Next, true, 6),
         (Move::Last, false, 6),
         (Move::Next, true, 8),
@@ -200,8 +274,35 @@ fn moves_over_all_nodes(rt: HostRuntime) {
 }
 
 #[test]
+fn moves_over_runs(rt: HostRuntime) {
+    let words = Fixed {
+        words: &MERGED_RECORDS,
+    };
+    let nav = merged(&words);
+    let mut cursor = Cursor::new(rt.alloc(), &nav);
+    let rows = [
+        (Move::First, true, 1),
+        (Move::First, true, 2),
+        (Move::First, false, 2),
+        (Move::Back, false, 2),
+        (Move::Next, true, 5),
+        (Move::Next, true, 7),
+        (Move::Next, false, 7),
+        (Move::Back, true, 5),
+        (Move::Back, true, 2),
+        (Move::Up, true, 1),
+        (Move::Last, true, 7),
+        (Move::Up, true, 1),
+    ];
+    for (to, moved, at) in rows {
+        assert_eq!(rt; go(&mut cursor, to), moved);
+        assert_eq!(rt; cursor.node().at, at);
+    }
+}
+
+#[test]
 fn twenty_saved_places(rt: HostRuntime) -> Result<(), Fail> {
-    let words = Fixed(RECORDS);
+    let words = Fixed { words: &RECORDS };
     let nav = nav(&words);
     let mut cursor = Cursor::new(rt.alloc(), &nav);
     for _ in 0..10 {

@@ -62,20 +62,29 @@ pub declares_prefix : (name prefix cs p : List ℕ) → name ≡ encode_utf8_all
     (bytes_eq (take 6 name) (codes "xmlns:") && bytes_eq (drop 6 name) prefix) ≡ bytes_eq cs (declaring p)
 declares_prefix name prefix cs p e f z l = eq_split (codes "xmlns:") name prefix l ∙ ap₂ bytes_eq e (sym (with_mark prefix p f z)) ∙ eq_encoded cs (declaring p)
 
-pub mark_there : (name prefix front rest cs p : List ℕ) → name ≡ encode_utf8_all cs → prefix ≡ encode_utf8_all p → (length prefix ≡ 0 → ⊥) → 6 ≤ length name → front ≡ take 6 name → rest ≡ drop 6 name →
-    (r : Bool) → r ≡ bytes_eq rest prefix → bytes_eq front (codes "xmlns:") ≡ true → r ≡ bytes_eq cs (declaring p)
-mark_there name prefix front rest cs p e f z l g h r k t =
-    k ∙ ap (λ x. bytes_eq x prefix) h ∙ ap (λ b. b && bytes_eq (drop 6 name) prefix) (sym (ap (λ x. bytes_eq x (codes "xmlns:")) (sym g) ∙ t)) ∙ declares_prefix name prefix cs p e f z l
+and_there : (a b : Bool) → b ≡ true → a ≡ (a && b)
+and_there true b h = sym h
+and_there false b h = refl
 
-pub mark_missing : (name prefix front cs p : List ℕ) → name ≡ encode_utf8_all cs → prefix ≡ encode_utf8_all p → (length prefix ≡ 0 → ⊥) → 6 ≤ length name → front ≡ take 6 name →
-    (r : Bool) → r ≡ bytes_eq front (codes "xmlns:") → r ≡ false → r ≡ bytes_eq cs (declaring p)
-mark_missing name prefix front cs p e f z l g r k t =
-    t ∙ ap (λ b. b && bytes_eq (drop 6 name) prefix) (sym (ap (λ x. bytes_eq x (codes "xmlns:")) (sym g) ∙ sym k ∙ t)) ∙ declares_prefix name prefix cs p e f z l
+and_missing : (a b : Bool) → b ≡ false → b ≡ (a && b)
+and_missing true b h = refl
+and_missing false b h = h
 
-pub too_short : (name prefix cs p : List ℕ) → name ≡ encode_utf8_all cs → prefix ≡ encode_utf8_all p → (length prefix ≡ 0 → ⊥) → length name < 6 → false ≡ bytes_eq cs (declaring p)
-too_short name prefix cs p e f z l = sym (false_from_ne_true _ (λ t.
+pub rest_there : (name prefix front rest cs p : List ℕ) → name ≡ encode_utf8_all cs → prefix ≡ encode_utf8_all p → (length prefix ≡ 0 → ⊥) → length name ≡ 6 + length prefix → front ≡ take 6 name → rest ≡ drop 6 name →
+    (r : Bool) → r ≡ bytes_eq front (codes "xmlns:") → bytes_eq rest prefix ≡ true → r ≡ bytes_eq cs (declaring p)
+rest_there name prefix front rest cs p e f z l g h r k t =
+    k ∙ ap (λ x. bytes_eq x (codes "xmlns:")) g ∙ and_there (bytes_eq (take 6 name) (codes "xmlns:")) (bytes_eq (drop 6 name) prefix) (ap (λ x. bytes_eq x prefix) (sym h) ∙ t) ∙ declares_prefix name prefix cs p e f z (omega (arith, l))
+
+pub rest_missing : (name prefix rest cs p : List ℕ) → name ≡ encode_utf8_all cs → prefix ≡ encode_utf8_all p → (length prefix ≡ 0 → ⊥) → length name ≡ 6 + length prefix → rest ≡ drop 6 name →
+    (r : Bool) → r ≡ bytes_eq rest prefix → r ≡ false → r ≡ bytes_eq cs (declaring p)
+rest_missing name prefix rest cs p e f z l h r k t =
+    let same : r ≡ bytes_eq (drop 6 name) prefix = k ∙ ap (λ x. bytes_eq x prefix) h in
+    same ∙ and_missing (bytes_eq (take 6 name) (codes "xmlns:")) (bytes_eq (drop 6 name) prefix) (sym same ∙ t) ∙ declares_prefix name prefix cs p e f z (omega (arith, l))
+
+pub other_length : (name prefix cs p : List ℕ) → name ≡ encode_utf8_all cs → prefix ≡ encode_utf8_all p → (length prefix ≡ 0 → ⊥) → (length name ≡ 6 + length prefix → ⊥) → false ≡ bytes_eq cs (declaring p)
+other_length name prefix cs p e f z l = sym (false_from_ne_true _ (λ t.
     let same : name ≡ codes "xmlns:" ++ prefix = e ∙ ap encode_utf8_all ((bytes_eq-Decides cs (declaring p)).0 t) ∙ with_mark prefix p f z in
-    omega (arith, ap length same, length-append (codes "xmlns:") prefix)))
+    l (ap length same ∙ length-append (codes "xmlns:") prefix)))
 
 declares_own : (p : List ℕ) → declares (declaring p) ≡ true
 unfolding declares

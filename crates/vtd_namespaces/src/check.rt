@@ -12,13 +12,8 @@ use xml_model::DocFault;
 
 /// Whether the names of a document are accepted: no name of an attribute or a declaration repeats an earlier one of its tag, or
 /// else `Twice` at the first that does, and then no name offends Namespaces in XML 1.0, or else `Namespace` at the first that
-/// does, in the order of the records. A `Namespace` comes only where no name of the whole document repeats another. It takes
-/// no memory.
-///
-/// Each record is read a few times; in a tag with n names a name costs up to n steps where a filter takes it for an earlier one,
-/// and a name with a prefix up to the attributes of the tags that hold it and of its own, a few times. In a tag with more than
-/// 16 attributes one with a prefix is compared with earlier ones only where a filter takes its expanded name for one of theirs;
-/// each of those that has its local part costs as many steps again.
+/// does, in the order of the records. A `Namespace` comes only where in no tag a name repeats an earlier one. It takes no
+/// memory.
 pub fn check_names<W: Words>(table: &Table<'_, W>) -> Result<(), DocFault>
     ensures accepted { OnOk result ((nest : Forest) → IsNestOf table.now.bytes (W.lists table.now.words) nest → Accepted 8 table.now.bytes nest) }
     ensures layer { IfErr result (λ fault. 7 ≤ layer fault) }

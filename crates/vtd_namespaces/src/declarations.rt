@@ -29,11 +29,11 @@ fn is_declaring(name: &[u8], prefix: &[u8]) -> bool
     if prefix.is_empty() {
         return name == DEFAULT;
     }
-    if name.len() < DECLARING.len() {
+    if name.len() != DECLARING.len() + prefix.len() {
         return false;
     }
     let (front, rest) = name.split_at(DECLARING.len());
-    front == DECLARING && rest == prefix
+    rest == prefix && front == DECLARING
 }
 
 /// The record of the name of a tag's declaration of a prefix, or `None` where the tag has none; the records of the tag's

@@ -22,4 +22,6 @@ pub use nodes::{local_of, matches, prefix_of, uri_of};
 pub use uri::Uri;
 
 #[cfg(test)]
+mod many;
+#[cfg(test)]
 mod tests;

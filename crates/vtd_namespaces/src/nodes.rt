@@ -50,7 +50,7 @@ pub fn local_of<'a, W: Words>(table: &Table<'a, W>, node: Node) -> &'a [u8]
 
 /// The URI of a node's expanded name (Namespaces in XML 1.0, sections 2.1 and 6): that of the prefix, or of the default for an
 /// element without one; an attribute without a prefix and an instruction have none. The node is an element, an attribute or an
-/// instruction of the table. The search goes from each element to the one that holds it, by its records, up to the declaration.
+/// instruction of the table.
 pub fn uri_of<'a, W: Words>(table: &Table<'a, W>, node: Node) -> Uri<'a, W>
     requires node { IsNodeOf table.now.bytes (W.lists table.now.words) node }
     requires named { HasName node.kind }

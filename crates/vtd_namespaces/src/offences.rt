@@ -170,7 +170,7 @@ fn attribute_offends<W: Words>(
 }
 
 /// The number of attributes from which on a filter is worth its making.
-const MANY: u32 = 16;
+const MANY: u32 = 64;
 
 /// Where the first name of an attribute or a declaration of the nearest tag begins that offends; no two of them have one
 /// name, and the record of the first of them has the index `first`. Each is compared with those before it only where a filter
