@@ -1,5 +1,4 @@
-use Rattle.std.proofs.Common.{ℕ, List, [], ◌∷◌, refl, codes, lit<}
-use Rattle.xml_model.specs.Items.{Leaf}
+use Rattle.std.proofs.Common.{ℕ, ◌∷◌, refl, codes, lit<}
 use Rattle.xml_model.specs.Nest.{Forest, done}
 use Rattle.xml_model.specs.Accepted.{Accepted}
 use Rattle.xml_model.proofs.ExampleParts.{opened, hollow}

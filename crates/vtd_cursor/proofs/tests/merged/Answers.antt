@@ -1,4 +1,4 @@
-use Rattle.std.proofs.Common.{ℕ, List, [], ◌∷◌, refl, codes, lit<}
+use Rattle.std.proofs.Common.{ℕ, [], refl, codes, lit<}
 use Rattle.xml_model.specs.Items.{Leaf}
 use Rattle.xml_model.specs.Nest.{Forest, done, single}
 use Rattle.xml_model.specs.Accepted.{Accepted}

@@ -1,5 +1,4 @@
 use Rattle.std.proofs.Common.{List, [], ◌∷◌, refl, codes, lit<, ℕ}
-use Rattle.xml_model.specs.Items.{Attribute}
 use Rattle.xml_model.specs.Nest.{Forest, done, empty}
 use Rattle.xml_model.proofs.ExampleParts.{opened, attr, tag_with}
 use Rattle.vtd_namespaces.proofs.TestTables.{table_of}
