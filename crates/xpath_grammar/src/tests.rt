@@ -100,37 +100,44 @@ fn show_steps(out: &mut String, before: &str, steps: &Steps) -> Result<(), Alloc
     }
 }
 
-/// Two expressions with an operator before them, and the bracket that closes both.
-#[cycle(show)]
-fn show_pair(
-    out: &mut String,
-    operator: &str,
-    left: &Expr,
-    right: &Expr,
-) -> Result<(), AllocError> {
-    out.push_str(operator)?;
-    show(out, left)?;
-    out.push_str(" ")?;
-    show(out, right)?;
-    out.push_str(")")
-}
-
-/// The expression at which a path or a filter starts.
-#[cycle(show)]
-fn show_start(out: &mut String, start: &Expr) -> Result<(), AllocError> {
-    out.push_str("{")?;
-    show(out, start)?;
-    out.push_str("}")
-}
-
 #[cycle(show)]
 fn show(out: &mut String, expr: &Expr) -> Result<(), AllocError> {
     match expr {
-        Expr::Or(left, right) => show_pair(out, "(or ", left, right),
-        Expr::And(left, right) => show_pair(out, "(and ", left, right),
-        Expr::Compare(how, left, right) => show_pair(out, comparison_sign(*how), left, right),
-        Expr::Arithmetic(how, left, right) => show_pair(out, operator_sign(*how), left, right),
-        Expr::Union(left, right) => show_pair(out, "(| ", left, right),
+        Expr::Or(left, right) => {
+            out.push_str("(or ")?;
+            show(out, left)?;
+            out.push_str(" ")?;
+            show(out, right)?;
+            out.push_str(")")
+        }
+        Expr::And(left, right) => {
+            out.push_str("(and ")?;
+            show(out, left)?;
+            out.push_str(" ")?;
+            show(out, right)?;
+            out.push_str(")")
+        }
+        Expr::Compare(how, left, right) => {
+            out.push_str(comparison_sign(*how))?;
+            show(out, left)?;
+            out.push_str(" ")?;
+            show(out, right)?;
+            out.push_str(")")
+        }
+        Expr::Arithmetic(how, left, right) => {
+            out.push_str(operator_sign(*how))?;
+            show(out, left)?;
+            out.push_str(" ")?;
+            show(out, right)?;
+            out.push_str(")")
+        }
+        Expr::Union(left, right) => {
+            out.push_str("(| ")?;
+            show(out, left)?;
+            out.push_str(" ")?;
+            show(out, right)?;
+            out.push_str(")")
+        }
         Expr::Negate(part) => {
             out.push_str("-")?;
             show(out, part)
@@ -142,11 +149,15 @@ fn show(out: &mut String, expr: &Expr) -> Result<(), AllocError> {
             show_steps(out, "", steps)
         }
         Expr::From { start, steps } => {
-            show_start(out, start)?;
+            out.push_str("{")?;
+            show(out, start)?;
+            out.push_str("}")?;
             show_steps(out, "/", steps)
         }
         Expr::Filter { start, predicates } => {
-            show_start(out, start)?;
+            out.push_str("{")?;
+            show(out, start)?;
+            out.push_str("}")?;
             show_list(out, "[", predicates, "]")
         }
         Expr::Literal(text) => show_text(out, "'", text, "'"),
