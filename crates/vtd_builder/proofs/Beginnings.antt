@@ -1,4 +1,4 @@
--- The first two bytes of an item tell what it is.
+-- The first two bytes of an item say what it is.
 use Rattle.std.proofs.Common.{◌≡◌, ℕ, ◌+◌, ◌<◌, ◌≤◌, true, false, List, [], ◌∷◌, ◌++◌, length, get_or, refl, sym, ap, ap₂, subst, ◌∙◌, arith, append_assoc}
 use Rattle.std.specs.Prelude.{codes, ◌&&◌, ◌==◌, not}
 use Rattle.std.specs.List.{list_all}
@@ -21,12 +21,12 @@ use Rattle.vtd_builder.proofs.Counted.{begun_meets}
 use Rattle.vtd_builder.proofs.Cutting.{byte_is, first_byte, one_byte, name_chars, no_47}
 use Rattle.vtd_builder.proofs.Tagging.{begins_with, nil_no_name}
 
--- what stands behind a < of one byte
-behind : (bytes : List ℕ) (at : ℕ) (w : List ℕ) → Placed bytes at (60 ∷ w) → Placed bytes (at + 1) w
-behind bytes at w k = subst (λ (n : ℕ). Placed bytes (at + n) w) (one_byte 60 (omega arith)) (placed_back bytes at (60 ∷ []) w k)
+-- what is after a < of one byte
+after : (bytes : List ℕ) (at : ℕ) (w : List ℕ) → Placed bytes at (60 ∷ w) → Placed bytes (at + 1) w
+after bytes at w k = subst (λ (n : ℕ). Placed bytes (at + n) w) (one_byte 60 (omega arith)) (placed_back bytes at (60 ∷ []) w k)
 
 marked : (bytes : List ℕ) (at b : ℕ) (w : List ℕ) → b < 128 → Placed bytes at (60 ∷ (b ∷ w)) → beginning_by (get_or bytes at 0) (get_or bytes (at + 1) 0) ≡ beginning_by 60 b
-marked bytes at b w low k = ap₂ beginning_by (first_byte bytes at 60 (b ∷ w) (omega arith) k) (first_byte bytes (at + 1) b w low (behind bytes at (b ∷ w) k))
+marked bytes at b w low k = ap₂ beginning_by (first_byte bytes at 60 (b ∷ w) (omega arith) k) (first_byte bytes (at + 1) b w low (after bytes at (b ∷ w) k))
 
 other : (bytes : List ℕ) (at c second : ℕ) (w : List ℕ) → (c ≡ 60 → ⊥) → Placed bytes at (c ∷ w) → beginning_by (get_or bytes at 0) second ≡ beginnings.Text
 other bytes at c second w n k =
@@ -79,7 +79,7 @@ unmarked b x y z = rw (x, y, z) refl
 tag_here : (bytes : List ℕ) (at : ℕ) (n w : List ℕ) → is_name n ≡ true → Placed bytes at (codes "<" ++ (n ++ w)) → beginning_by (get_or bytes at 0) (get_or bytes (at + 1) 0) ≡ beginnings.Tag
 tag_here bytes at [] w h k = absurd (false≢true (sym nil_no_name ∙ h))
 tag_here bytes at (c ∷ n) w h k =
-    let b = begins_with bytes (at + 1) c (n ++ w) (behind bytes at (c ∷ (n ++ w)) k) in
+    let b = begins_with bytes (at + 1) c (n ++ w) (after bytes at (c ∷ (n ++ w)) k) in
     let name : is_name_char c ≡ true = (and_parts (is_name_char c) (list_all is_name_char n) (name_chars (c ∷ n) h)).0 in
     ap₂ beginning_by (first_byte bytes at 60 (c ∷ (n ++ w)) (omega arith) k) b.here
     ∙ unmarked b.byte (no_such c b.byte 47 (n ++ w) b.rest name no_47 (omega arith) b.is) (no_such c b.byte 33 (n ++ w) b.rest name no_33 (omega arith) b.is) (no_such c b.byte 63 (n ++ w) b.rest name no_63 (omega arith) b.is)
@@ -95,14 +95,14 @@ start_split n w sp = simp append_assoc
 empty_split : (n w sp : List ℕ) → codes "<" ++ n ++ w ++ sp ++ codes "/>" ≡ codes "<" ++ (n ++ (w ++ (sp ++ codes "/>")))
 empty_split n w sp = simp append_assoc
 
-pub beginning_told : (i : Item) (bytes : List ℕ) (at : ℕ) → at ≤ length bytes → begins_at bytes at i ≡ true → beginning_by (get_or bytes at 0) (get_or bytes (at + 1) 0) ≡ beginning_of (item_kind i)
+pub beginning_known : (i : Item) (bytes : List ℕ) (at : ℕ) → at ≤ length bytes → begins_at bytes at i ≡ true → beginning_by (get_or bytes at 0) (get_or bytes (at + 1) 0) ≡ beginning_of (item_kind i)
 unfolding meets
-beginning_told (leaf x) bytes at within h = leaf_by x bytes at (begun_meets bytes at (leaf x) h) (item_placed bytes at (leaf x) within h)
-beginning_told (end_tag name space) bytes at within h = marked bytes at 47 _ (omega arith) (item_placed bytes at (end_tag name space) within h)
-beginning_told (start_tag t) bytes at within h =
+beginning_known (leaf x) bytes at within h = leaf_by x bytes at (begun_meets bytes at (leaf x) h) (item_placed bytes at (leaf x) within h)
+beginning_known (end_tag name space) bytes at within h = marked bytes at 47 _ (omega arith) (item_placed bytes at (end_tag name space) within h)
+beginning_known (start_tag t) bytes at within h =
     tag_here bytes at t.name (written_attributes t.attributes ++ (t.space ++ codes ">")) (tag_named t (begun_meets bytes at (start_tag t) h))
     (placed_as bytes at (written (start_tag t)) (codes "<" ++ (t.name ++ (written_attributes t.attributes ++ (t.space ++ codes ">")))) (start_split t.name (written_attributes t.attributes) t.space) (item_placed bytes at (start_tag t) within h))
-beginning_told (empty_tag t) bytes at within h =
+beginning_known (empty_tag t) bytes at within h =
     tag_here bytes at t.name (written_attributes t.attributes ++ (t.space ++ codes "/>")) (tag_named t (begun_meets bytes at (empty_tag t) h))
     (placed_as bytes at (written (empty_tag t)) (codes "<" ++ (t.name ++ (written_attributes t.attributes ++ (t.space ++ codes "/>")))) (empty_split t.name (written_attributes t.attributes) t.space) (item_placed bytes at (empty_tag t) within h))
 

@@ -1,4 +1,4 @@
--- The bytes of a name tell its prefix, and whether it declares a namespace.
+-- The bytes of a name say its prefix, and whether it declares a namespace.
 use Rattle.std.proofs.Common.{◌≡◌, ℕ, suc, ◌<◌, ◌≤◌, Bool, true, false, inl, inr, cond, List, [], ◌∷◌, ◌++◌, length, take, drop, Some, None, refl, sym, ap, ap₂, ◌∙◌, arith}
 use Rattle.std.specs.Prelude.{codes, ◌==◌, ◌||◌, not, bytes_eq, unwrap_or, nat_lt}
 use Rattle.std.specs.List.{prefix_len, position}

@@ -6,12 +6,12 @@ use Rattle.std.proofs.lemmas.Bool.{and_parts, false≢true}
 use Rattle.std.proofs.lemmas.List.{length-append}
 use lib.Utf8.{encode, encodes}
 use Rattle.xml_model.specs.Chars.{begins, size, lacks}
-use Rattle.xml_model.specs.Items.{Attribute, Tag, Leaf, text, cdata, declaration, doctype, Item, leaf, start_tag, empty_tag, end_tag, quote_char, written, written_pieces, written_attribute, written_attributes, written_option, written_tag, written_units, before_value, spelling, meets, meets_piece, meets_leaf, ends_well, may_stand, first_place, begins_at, is_nil, walk_from, end_of_items}
-use Rattle.xml_model.specs.Records.{Token, attributes_tokens, declaration_part_tokens, declaration_attributes, attributes_place, depth_at, plain, text_tokens}
+use Rattle.xml_model.specs.Items.{Attribute, Tag, Leaf, text, cdata, declaration, doctype, Item, leaf, start_tag, empty_tag, end_tag, quote_char, written, written_pieces, written_attribute, written_attributes, written_option, written_tag, written_units, before_value, spelling, meets, meets_piece, meets_leaf, ends_well, may_begin_at, first_place, begins_at, is_nil, walk_from, end_of_items}
+use Rattle.xml_model.specs.Records.{Record, attributes_records, declaration_part_records, declaration_attributes, attributes_place, depth_at, plain, text_records}
 use Rattle.xml_chars.proofs.Points.{encode_pos}
-use Rattle.xml_chars.proofs.StandLemmas.{size-append}
+use Rattle.xml_chars.proofs.HoldLemmas.{size-append}
 use Rattle.xml_items.proofs.SpanLemmas.{spelled, size_1, size_comment, size_cdata, size_xml}
-use Rattle.xml_acceptance.specs.Machine.{item_tokens, level_after, items_tokens}
+use Rattle.xml_acceptance.specs.Machine.{item_records, level_after, items_records}
 
 one_pos : (c : ℕ) (cs : List ℕ) → 1 ≤ size (c ∷ cs)
 unfolding size
@@ -30,17 +30,17 @@ attribute_long a =
     let b : size (before_value a) ≡ size (a.name ++ a.left ++ codes "=" ++ a.right) + size (q ∷ []) = size-append (a.name ++ a.left ++ codes "=" ++ a.right) (q ∷ []) in
     omega (arith, w, v, u, b, one_pos q [])
 
-few_attributes : (xs : List Attribute) (depth at : ℕ) → length (attributes_tokens depth at xs) ≤ size (written_attributes xs)
+few_attributes : (xs : List Attribute) (depth at : ℕ) → length (attributes_records depth at xs) ≤ size (written_attributes xs)
 few_attributes [] depth at = omega arith
 few_attributes (a ∷ xs) depth at = omega (arith, few_attributes xs depth (at + size (written_attribute a)), attribute_long a, size-append (written_attribute a) (written_attributes xs))
 
-few_parts : (v : Attribute) (e s : Option Attribute) (sp : List ℕ) (depth at : ℕ) → length (declaration_part_tokens depth at (declaration_attributes record { version = v; encoding = e; standalone = s; space = sp })) ≤ 6
+few_parts : (v : Attribute) (e s : Option Attribute) (sp : List ℕ) (depth at : ℕ) → length (declaration_part_records depth at (declaration_attributes record { version = v; encoding = e; standalone = s; space = sp })) ≤ 6
 few_parts v None None sp depth at = omega arith
 few_parts v None (Some s) sp depth at = omega arith
 few_parts v (Some e) None sp depth at = omega arith
 few_parts v (Some e) (Some s) sp depth at = omega arith
 
-few_texts : (level : ℕ) (p : Token) → length (text_tokens level p) ≤ 1
+few_texts : (level : ℕ) (p : Record) → length (text_records level p) ≤ 1
 few_texts zero p = omega arith
 few_texts (suc level) p = omega arith
 
@@ -50,9 +50,9 @@ size_end = refl
 
 pub record Long (i : Item) (level at : ℕ) : Type 0 where
   pub some : 0 < length (spelling i)
-  pub few : length (item_tokens level at i) ≤ length (spelling i)
+  pub few : length (item_records level at i) ≤ length (spelling i)
 
-long_by : (i : Item) (level at : ℕ) → 0 < size (written i) → length (item_tokens level at i) ≤ size (written i) → Long i level at
+long_by : (i : Item) (level at : ℕ) → 0 < size (written i) → length (item_records level at i) ≤ size (written i) → Long i level at
 long_by i level at p f = record { some = omega (arith, p, spelled i); few = omega (arith, f, spelled i) }
 
 long_leaf : (x : Leaf) (level at : ℕ) → meets_leaf x ≡ true → Long (leaf x) level at
@@ -108,18 +108,18 @@ item_long (end_tag name space) level at m =
 pub begun_meets : (bytes : List ℕ) (at : ℕ) (i : Item) → begins_at bytes at i ≡ true → meets i ≡ true
 unfolding begins_at
 begun_meets bytes at i h =
-    let x = and_parts (meets i && begins (spelling i) (drop at bytes) && ends_well i (drop (at + length (spelling i)) bytes)) (may_stand i (first_place bytes) at) h in
+    let x = and_parts (meets i && begins (spelling i) (drop at bytes) && ends_well i (drop (at + length (spelling i)) bytes)) (may_begin_at i (first_place bytes) at) h in
     let y = and_parts (meets i && begins (spelling i) (drop at bytes)) (ends_well i (drop (at + length (spelling i)) bytes)) x.0 in
     (and_parts (meets i) (begins (spelling i) (drop at bytes)) y.0).0
 
 -- items in a row have at most as many records as bytes
-pub items_few : (is : List Item) (bytes : List ℕ) (level at : ℕ) → walk_from bytes at is ≡ true → at + length (items_tokens level at is) ≤ end_of_items at is
+pub items_few : (is : List Item) (bytes : List ℕ) (level at : ℕ) → walk_from bytes at is ≡ true → at + length (items_records level at is) ≤ end_of_items at is
 items_few [] bytes level at w = omega arith
 items_few (i ∷ is) bytes level at w =
     let h = and_parts (begins_at bytes at i) (walk_from bytes (at + length (spelling i)) is) w in
     let l = item_long i level at (begun_meets bytes at i h.0) in
     let so = items_few is bytes (level_after i level) (at + length (spelling i)) h.1 in
-    omega (arith, l.few, so, length-append (item_tokens level at i) (items_tokens (level_after i level) (at + length (spelling i)) is))
+    omega (arith, l.few, so, length-append (item_records level at i) (items_records (level_after i level) (at + length (spelling i)) is))
 
 pub items_rise : (is : List Item) (at : ℕ) → at ≤ end_of_items at is
 items_rise [] at = omega arith

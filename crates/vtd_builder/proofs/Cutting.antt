@@ -1,4 +1,4 @@
--- The bytes that end the parts of a tag tell where they lie.
+-- The bytes that end the parts of a tag say where they lie.
 use Rattle.std.proofs.Common.{◌≡◌, ℕ, ◌+◌, ◌<◌, ◌≤◌, Bool, true, false, inl, inr, List, [], ◌∷◌, ◌++◌, length, take, drop, get_or, refl, sym, ap, ap₂, subst, ◌∙◌, arith, append_assoc, add-zero}
 use Rattle.std.specs.Prelude.{codes, ◌&&◌, ◌==◌, not, nat_lt, nat_le}
 use Rattle.std.specs.List.{list_all, prefix_len}
@@ -10,7 +10,7 @@ use lib.Utf8.{encode, encodes}
 use Rattle.xml_model.specs.Chars.{size, in_ranges, is_char, is_space, is_blank, is_white, name_start_ranges, is_name_start, is_name_char, is_name}
 use Rattle.xml_model.specs.Items.{Piece, literal, entity, decimal, hexadecimal, Attribute, Quote, quote_char, before_value, written_piece, written_pieces, meets_piece, meets_attribute, is_number, number_of}
 use Rattle.xml_chars.proofs.Points.{stop_run, encode_pos}
-use Rattle.xml_chars.proofs.StandLemmas.{size-append}
+use Rattle.xml_chars.proofs.HoldLemmas.{size-append}
 use Rattle.vtd_builder.specs.declared.tags.AttributeCut.{AttributeCut}
 use Rattle.std.specs.Char.{is_digit}
 use Rattle.vtd_builder.specs.Cuts.{in_name, is_low, is_other, Placed, past_name, AttributeAt, cut_of}
@@ -172,7 +172,7 @@ space_run bytes at sp w h k s =
     let r : prefix_len is_low (encodes sp) ≡ length (encodes sp) = ap (prefix_len is_low) e ∙ all_run is_low sp (all_of is_space is_low space_is_low sp h) ∙ ap (λ (l : List ℕ). length l) (sym e) in
     run_to is_low bytes at sp w r k s
 
--- white space ends a name, and so does what ends one behind it
+-- white space ends a name, and so does what ends one after it
 pub space_stops : (sp w : List ℕ) → list_all is_space sp ≡ true → Stops in_name w → Stops in_name (sp ++ w)
 space_stops [] w h s = s
 space_stops (c ∷ sp) w h s =
@@ -216,13 +216,13 @@ parted a h =
     let y = and_parts (is_white a.space) (is_name a.name) x.0 in
     record { name = y.1; left = x.1; right = w.1; space = y.0; value = v.1 }
 
--- ---- a byte that stands in no name and in no reference
+-- ---- a byte that is in no name and in no reference
 
 -- what is false of a byte is true of no byte that is the same
 stop_by : (p : ℕ → Bool) (stop c : ℕ) → p stop ≡ false → p c ≡ true → is_other stop c ≡ true
 stop_by p stop c f h = true_from_ne_false _ (λ n. false≢true (sym f ∙ ap p (sym (eqb-true c stop (not-false (c == stop) n))) ∙ h))
 
--- the byte is ASCII, and stands in no reference
+-- the byte is ASCII, and is in no reference
 pub record Apart (stop : ℕ) : Type 0 where
   pub low : stop < 128
   pub name : is_name_char stop ≡ false
@@ -241,8 +241,8 @@ digits_of : (base : ℕ) (ds : List ℕ) → is_number base ds ≡ true → list
 digits_of base [] h = absurd (false≢true h)
 digits_of base (d ∷ ds) h = (and_parts (list_all (λ c. is_digit c base) (d ∷ ds)) (is_char (number_of base (d ∷ ds))) h).0
 
-in_reference : (stop : ℕ) (front middle : List ℕ) → Apart stop → list_all (is_other stop) front ≡ true → list_all (is_other stop) middle ≡ true → list_all (is_other stop) (front ++ middle ++ codes ";") ≡ true
-in_reference stop front middle k a b = append_all (is_other stop) (front ++ middle) (codes ";") (append_all (is_other stop) front middle a b) k.last
+in_reference : (stop : ℕ) (prefix middle : List ℕ) → Apart stop → list_all (is_other stop) prefix ≡ true → list_all (is_other stop) middle ≡ true → list_all (is_other stop) (prefix ++ middle ++ codes ";") ≡ true
+in_reference stop prefix middle k a b = append_all (is_other stop) (prefix ++ middle) (codes ";") (append_all (is_other stop) prefix middle a b) k.last
 
 pub name_other : (stop : ℕ) (n : List ℕ) → is_name_char stop ≡ false → is_name n ≡ true → list_all (is_other stop) n ≡ true
 name_other stop n f h = all_of is_name_char (is_other stop) (λ c k. stop_by is_name_char stop c f k) n (name_chars n h)
@@ -269,7 +269,7 @@ other_low stop b l h = omega (arith, eqb-true b stop (not-false (b == stop) h), 
 pub other_bytes : (stop : ℕ) (cs : List ℕ) → stop < 128 → list_all (is_other stop) cs ≡ true → prefix_len (is_other stop) (encodes cs) ≡ length (encodes cs)
 other_bytes stop cs l h = passed_bytes (is_other stop) (λ b k. other_low stop b l k) cs h
 
--- the next such byte stands behind them
+-- the next such byte is after them
 pub other_run : (bytes : List ℕ) (at stop : ℕ) (cs w : List ℕ) → stop < 128 → list_all (is_other stop) cs ≡ true → Placed bytes at (cs ++ (stop ∷ w)) → prefix_len (is_other stop) (drop at bytes) ≡ size cs
 other_run bytes at stop cs w l h k = run_to (is_other stop) bytes at cs (stop ∷ w) (other_bytes stop cs l h) k (stops_at (is_other stop) stop w l (ap not (eq-eqb stop stop refl)))
 

@@ -1,4 +1,4 @@
--- End tags and texts of an accepted document: the byte that ends them tells where they end.
+-- End tags and texts of an accepted document: the byte that ends them says where they end.
 use Rattle.std.proofs.Common.{◌≡◌, ℕ, zero, suc, ◌+◌, ◌-◌, ◌≤◌, true, false, List, [], ◌∷◌, ◌++◌, length, drop, refl, sym, ap, subst, ◌∙◌, arith, append_assoc}
 use Rattle.std.specs.Prelude.{codes, ◌&&◌, ◌==◌, not}
 use Rattle.std.specs.List.{list_all, prefix_len}
@@ -6,13 +6,13 @@ use Rattle.std.proofs.lemmas.Bool.{and_parts}
 use Rattle.std.proofs.lemmas.List.{append-nil, drop-drop}
 use lib.Utf8.{encode, encodes}
 use Rattle.xml_model.specs.Chars.{size, lacks, begins, in_ranges, is_char, is_space, is_blank, is_name, is_name_start, is_name_char}
-use Rattle.xml_model.specs.Items.{Piece, literal, Leaf, text, cdata, declaration, doctype, Item, leaf, start_tag, empty_tag, end_tag, written, written_pieces, meets, meets_piece, is_nil, begins_at, spelling, ends_well, may_stand, first_place}
-use Rattle.xml_model.specs.Records.{Token, depth_at, text_tokens}
-use Rattle.xml_chars.proofs.StandLemmas.{size-append}
+use Rattle.xml_model.specs.Items.{Piece, literal, Leaf, text, cdata, declaration, doctype, Item, leaf, start_tag, empty_tag, end_tag, written, written_pieces, meets, meets_piece, is_nil, begins_at, spelling, ends_well, may_begin_at, first_place}
+use Rattle.xml_model.specs.Records.{Record, depth_at, text_records}
+use Rattle.xml_chars.proofs.HoldLemmas.{size-append}
 use Rattle.xml_items.specs.Shown.{leaf_kind, item_kind}
 use Rattle.xml_items.proofs.SpanLemmas.{spelled}
 use Rattle.xml_chars.proofs.Readers.{begins_split}
-use Rattle.xml_acceptance.specs.Machine.{item_tokens, level_after, one_less}
+use Rattle.xml_acceptance.specs.Machine.{item_records, level_after, one_less}
 use Rattle.vtd_builder.specs.declared.offers.Beginning.TheVariants as beginnings
 use Rattle.vtd_builder.specs.Found.{plain_span}
 use Rattle.vtd_builder.specs.Cuts.{is_other, Placed, beginning_of}
@@ -33,11 +33,11 @@ size_open : size (codes "</") ≡ 2
 unfolding size encode
 size_open = refl
 
--- where the end tag at a place ends, and how many elements stand open behind it; it has no record
+-- where the end tag at a place ends, and how many elements are open after it; it has no record
 pub record EndFacts (bytes : List ℕ) (at level : ℕ) (i : Item) : Type 0 where
   pub first : at + 2 ≤ length bytes
   pub past : at + length (spelling i) ≡ at + 2 + prefix_len (is_other 62) (drop (at + 2) bytes) + 1
-  pub tokens : ◌≡◌ {A = List Token} (item_tokens level at i) []
+  pub tokens : ◌≡◌ {A = List Record} (item_records level at i) []
   pub inside : level_after i level ≡ level - 1
 
 one_less_is : (level : ℕ) → one_less level ≡ level - 1
@@ -96,14 +96,14 @@ run_well ps (b ∷ more) e h = full_run (is_other 60) (encodes (written_pieces p
 
 pub record TextFacts (bytes : List ℕ) (at level : ℕ) (i : Item) : Type 0 where
   pub run : prefix_len (is_other 60) (drop at bytes) ≡ length (spelling i)
-  pub tokens : item_tokens level at i ≡ text_tokens level (plain_span 5 (depth_at level) record { start = at; end = at + length (spelling i) })
+  pub tokens : item_records level at i ≡ text_records level (plain_span 5 (depth_at level) record { start = at; end = at + length (spelling i) })
   pub inside : level_after i level ≡ level
 
 text_run : (ps : List Piece) (bytes : List ℕ) (at : ℕ) → begins_at bytes at (leaf (text ps)) ≡ true → list_all (is_other 60) (written_pieces ps) ≡ true → prefix_len (is_other 60) (drop at bytes) ≡ length (spelling (leaf (text ps)))
 unfolding begins_at spelling
 text_run ps bytes at h o =
     let i = leaf (text ps) in
-    let x = and_parts (meets i && begins (spelling i) (drop at bytes) && ends_well i (drop (at + length (spelling i)) bytes)) (may_stand i (first_place bytes) at) h in
+    let x = and_parts (meets i && begins (spelling i) (drop at bytes) && ends_well i (drop (at + length (spelling i)) bytes)) (may_begin_at i (first_place bytes) at) h in
     let y = and_parts (meets i && begins (spelling i) (drop at bytes)) (ends_well i (drop (at + length (spelling i)) bytes)) x.0 in
     let z = and_parts (meets i) (begins (spelling i) (drop at bytes)) y.0 in
     let split : drop at bytes ≡ encodes (written_pieces ps) ++ drop (at + length (spelling i)) bytes =
@@ -119,7 +119,7 @@ text_facts_of ps bytes at level h =
     let end : size (written_pieces ps) ≡ length (spelling i) = sym (spelled i) in
     record {
       run = text_run ps bytes at h (pieces_other 60 (λ c. false) less_apart text_literal ps n.1);
-      tokens = ap (text_tokens level) (plain_is 5 (depth_at level) at (written_pieces ps) ∙ ap (λ (m : ℕ). plain_span 5 (depth_at level) record { start = at; end = at + m }) end);
+      tokens = ap (text_records level) (plain_is 5 (depth_at level) at (written_pieces ps) ∙ ap (λ (m : ℕ). plain_span 5 (depth_at level) record { start = at; end = at + m }) end);
       inside = refl;
     }
 
@@ -135,26 +135,26 @@ text_facts (empty_tag t) bytes at level h k = absurd cc
 text_facts (end_tag name space) bytes at level h k = absurd cc
 
 -- the record of a text that ends at a place
-abbrev pub text_span : ℕ → ℕ → ℕ → Token
+abbrev pub text_span : ℕ → ℕ → ℕ → Record
 text_span level at end = plain_span 5 (depth_at level) record { start = at; end = end }
 
 -- the record of a text, where an element holds it
-pub text_none : (level : ℕ) (p : Token) → level ≡ 0 → text_tokens level p ≡ []
+pub text_none : (level : ℕ) (p : Record) → level ≡ 0 → text_records level p ≡ []
 text_none zero p h = refl
 text_none (suc d) p h = absurd (omega arith)
 
-pub text_one : (level : ℕ) (p : Token) → (level ≡ 0 → ⊥) → text_tokens level p ≡ p ∷ []
+pub text_one : (level : ℕ) (p : Record) → (level ≡ 0 → ⊥) → text_records level p ≡ p ∷ []
 text_one zero p h = absurd (h refl)
 text_one (suc d) p h = refl
 
 -- all that is known of a text once its end is found
 pub record Ended (bytes : List ℕ) (at level end : ℕ) (i : Item) : Type 0 where
   pub place : end ≡ at + length (spelling i)
-  pub tokens : item_tokens level at i ≡ text_tokens level (text_span level at end)
+  pub tokens : item_records level at i ≡ text_records level (text_span level at end)
   pub inside : level_after i level ≡ level
 
 pub ended_of : (i : Item) (bytes : List ℕ) (at level end : ℕ) → begins_at bytes at i ≡ true → beginning_of (item_kind i) ≡ beginnings.Text → end ≡ at + prefix_len (is_other 60) (drop at bytes) → Ended bytes at level end i
 ended_of i bytes at level end b k e =
     let f = text_facts i bytes at level b k in
     let p : end ≡ at + length (spelling i) = e ∙ ap (λ (n : ℕ). at + n) f.run in
-    record { place = p; tokens = f.tokens ∙ ap (λ (n : ℕ). text_tokens level (text_span level at n)) (sym p); inside = f.inside }
+    record { place = p; tokens = f.tokens ∙ ap (λ (n : ℕ). text_records level (text_span level at n)) (sym p); inside = f.inside }

@@ -1,4 +1,4 @@
--- What stands at a place of the bytes, in parts.
+-- What is at a place of the bytes, in parts.
 use Rattle.std.proofs.Common.{◌≡◌, ℕ, ◌+◌, ◌-◌, ◌≤◌, List, ◌++◌, length, take, drop, refl, sym, ap, ◌∙◌, arith, append_assoc}
 use lib.Utf8.{encodes}
 use Rattle.std.proofs.lemmas.List.{take_at, drop_at, length-append, length-drop, drop-drop}
@@ -11,8 +11,8 @@ use Rattle.vtd_builder.specs.Cuts.{Placed}
 placed_both : (bytes : List ℕ) (at : ℕ) (v w : List ℕ) → (p : Placed bytes at (v ++ w)) → drop at bytes ≡ encodes v ++ (encodes w ++ p.more)
 placed_both bytes at v w p = p.here ∙ ap (λ (l : List ℕ). l ++ p.more) (encodes-append v w) ∙ append_assoc (encodes v) (encodes w) p.more
 
-pub placed_front : (bytes : List ℕ) (at : ℕ) (v w : List ℕ) → Placed bytes at (v ++ w) → Placed bytes at v
-placed_front bytes at v w p = record {
+pub placed_prefix : (bytes : List ℕ) (at : ℕ) (v w : List ℕ) → Placed bytes at (v ++ w) → Placed bytes at v
+placed_prefix bytes at v w p = record {
   more = encodes w ++ p.more;
   here = placed_both bytes at v w p;
   within = p.within;
@@ -27,7 +27,7 @@ unfolding size
 placed_back bytes at v w p = record {
   more = p.more;
   here = sym (drop-drop (size v) at bytes) ∙ ap (drop (size v)) (placed_both bytes at v w p) ∙ drop_at (encodes v) (encodes w ++ p.more) (size v) refl;
-  within = placed_end bytes at v (placed_front bytes at v w p);
+  within = placed_end bytes at v (placed_prefix bytes at v w p);
 }
 
 pub placed_as : (bytes : List ℕ) (at : ℕ) (v w : List ℕ) → v ≡ w → Placed bytes at v → Placed bytes at w

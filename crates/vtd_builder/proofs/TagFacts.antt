@@ -1,24 +1,24 @@
--- What stands at a tag of an accepted document.
+-- What is at a tag of an accepted document.
 use Rattle.std.proofs.Common.{◌≡◌, ℕ, ◌+◌, ◌<◌, ◌≤◌, true, inl, inr, ◌⊎◌, List, [], ◌∷◌, ◌++◌, length, drop, get_or, map, Result, Ok, Err, refl, sym, ap, subst, ◌∙◌, arith, append_assoc}
 use Rattle.std.specs.Prelude.{codes, ◌&&◌, ◌==◌}
 use Rattle.std.specs.List.{list_all, prefix_len}
 use Rattle.std.proofs.lemmas.Bool.{and_parts, false≢true, eqb-true, eq-eqb}
 use Rattle.xml_model.specs.Chars.{size, is_space, is_white, is_name, is_blank}
 use Rattle.xml_model.specs.Items.{Attribute, Tag, Leaf, text, cdata, declaration, doctype, Item, leaf, start_tag, empty_tag, end_tag, written, written_tag, written_attribute, written_attributes, meets, meets_tag, meets_attribute, spelling, begins_at}
-use Rattle.xml_model.specs.Records.{Token, word, attributes_tokens}
+use Rattle.xml_model.specs.Records.{Record, word, attributes_records}
 use Rattle.xml_model.specs.declared.Span.{Span}
 use Rattle.vtd_builder.specs.Offered.{outcome, offer, CanOffer}
 use Rattle.vtd_builder.proofs.InParts.{Test, offer_ok, offer_err, offer_count, can_rest}
 use lib.Utf8.{encode}
 use Rattle.xml_chars.specs.Places.{span_from}
-use Rattle.xml_chars.proofs.StandLemmas.{size-append}
+use Rattle.xml_chars.proofs.HoldLemmas.{size-append}
 use Rattle.xml_items.specs.Shown.{leaf_kind, item_kind}
 use Rattle.vtd_builder.specs.declared.offers.Beginning.TheVariants as beginnings
 use Rattle.xml_items.proofs.SpanLemmas.{spelled, size_1}
-use Rattle.xml_acceptance.specs.Machine.{item_tokens, level_after}
+use Rattle.xml_acceptance.specs.Machine.{item_records, level_after}
 use Rattle.vtd_builder.specs.Found.{IsWithin, named_span}
 use Rattle.vtd_builder.specs.Cuts.{in_name, is_close, Placed, past_name, AttributesAt, beginning_of, IsPast}
-use Rattle.vtd_builder.proofs.Placed.{placed_front, placed_back, placed_as, placed_span}
+use Rattle.vtd_builder.proofs.Placed.{placed_prefix, placed_back, placed_as, placed_span}
 use Rattle.vtd_builder.proofs.Recorded.{named_is, item_placed}
 use Rattle.vtd_builder.proofs.Counted.{begun_meets}
 use Rattle.vtd_builder.proofs.Cutting.{Stops, stops_at, space_low, space_ends_name, space_stops, name_run, parted, first_byte}
@@ -57,7 +57,7 @@ pub record TagFacts (bytes : List ℕ) (at level : ℕ) (i : Item) : Type 0 wher
   pub name : prefix_len in_name (drop (at + 1) bytes) ≡ size tag.name
   pub within : IsWithin bytes (span_from (at + 1) tag.name)
   pub attributes : AttributesAt bytes (at + 1 + size tag.name) tag.attributes tag.space close
-  pub tokens : item_tokens level at i ≡ named_span bytes 0 level (span_from (at + 1) tag.name) ∷ attributes_tokens level (at + 1 + size tag.name) tag.attributes
+  pub tokens : item_records level at i ≡ named_span bytes 0 level (span_from (at + 1) tag.name) ∷ attributes_records level (at + 1 + size tag.name) tag.attributes
   pub inside : at + 1 + size tag.name + size (written_attributes tag.attributes) + size tag.space < length bytes
   pub closing : Closing bytes at level i (at + 1 + size tag.name + size (written_attributes tag.attributes) + size tag.space)
 
@@ -66,7 +66,7 @@ record Common (bytes : List ℕ) (at level : ℕ) (t : Tag) (c : ℕ) (close : L
   pub name : prefix_len in_name (drop (at + 1) bytes) ≡ size t.name
   pub within : IsWithin bytes (span_from (at + 1) t.name)
   pub attributes : AttributesAt bytes (at + 1 + size t.name) t.attributes t.space (c ∷ close)
-  pub tokens : ◌≡◌ {A = List Token} (item_tokens level at (start_tag t)) (named_span bytes 0 level (span_from (at + 1) t.name) ∷ attributes_tokens level (at + 1 + size t.name) t.attributes)
+  pub tokens : ◌≡◌ {A = List Record} (item_records level at (start_tag t)) (named_span bytes 0 level (span_from (at + 1) t.name) ∷ attributes_records level (at + 1 + size t.name) t.attributes)
   pub inside : at + 1 + size t.name + size (written_attributes t.attributes) + size t.space < length bytes
   pub byte : get_or bytes (at + 1 + size t.name + size (written_attributes t.attributes) + size t.space) 0 ≡ c
 
@@ -78,7 +78,7 @@ common bytes at level t c close m low closes p =
     let w = t.space ++ (c ∷ close) in
     let rest = written_attributes t.attributes ++ w in
     let n : Placed bytes (at + 1) (t.name ++ rest) = subst (λ (k : ℕ). Placed bytes (at + k) (t.name ++ rest)) size_1 (placed_back bytes at (codes "<") (t.name ++ rest) p) in
-    let name = placed_front bytes (at + 1) t.name rest n in
+    let name = placed_prefix bytes (at + 1) t.name rest n in
     let a = placed_back bytes (at + 1) t.name rest n in
     let s = placed_back bytes (at + 1 + size t.name) (written_attributes t.attributes) w a in
     let e = placed_back bytes (at + 1 + size t.name + size (written_attributes t.attributes)) t.space (c ∷ close) s in
@@ -87,7 +87,7 @@ common bytes at level t c close m low closes p =
       name = name_run bytes (at + 1) t.name rest y.0 n (attributes_stop t.attributes t.space (c ∷ close) y.1 x.1 closes);
       within = placed_span bytes (at + 1) t.name name;
       attributes = record { placed = a; meets = y.1; blank = x.1; closed = closes };
-      tokens = ap (λ (r : Token). r ∷ attributes_tokens level (at + 1 + size t.name) t.attributes) (named_is bytes 0 level (at + 1) t.name name);
+      tokens = ap (λ (r : Record). r ∷ attributes_records level (at + 1 + size t.name) t.attributes) (named_is bytes 0 level (at + 1) t.name name);
       inside = (begins_with bytes (at + 1 + size t.name + size (written_attributes t.attributes) + size t.space) c close e).within;
       byte = first_byte bytes (at + 1 + size t.name + size (written_attributes t.attributes) + size t.space) c close low e;
     }
@@ -158,18 +158,18 @@ tag_facts (empty_tag t) bytes at level within h k =
 
 -- ---- offering the name and then the attributes
 
-pub tag_passed : (first : Test) (before : List ℕ) (start : ℕ) (name : Token) (others : List Token) (token : Token) (now : Test) (taken taken2 : List ℕ) (n : ℕ) (answer : Result ℕ ℕ)
+pub tag_passed : (first : Test) (before : List ℕ) (start : ℕ) (name : Record) (others : List Record) (token : Record) (now : Test) (taken taken2 : List ℕ) (n : ℕ) (answer : Result ℕ ℕ)
     → token ≡ name → outcome taken (Ok n) ≡ offer first before start (word token ∷ []) → now ≡ first → outcome taken2 answer ≡ offer now taken n (map word others) → outcome taken2 answer ≡ offer first before start (map word (name ∷ others))
 tag_passed first before start name others token now taken taken2 n answer s e t f =
-    let g : outcome taken (Ok n) ≡ offer first before start (word name ∷ []) = e ∙ ap (λ (x : Token). offer first before start (word x ∷ [])) s in
+    let g : outcome taken (Ok n) ≡ offer first before start (word name ∷ []) = e ∙ ap (λ (x : Record). offer first before start (word x ∷ [])) s in
     f ∙ ap (λ (r : Test). offer r taken n (map word others)) t ∙ sym (offer_ok first before start (word name ∷ []) (map word others) taken n g)
 
-pub tag_stopped : (first : Test) (before : List ℕ) (start : ℕ) (name : Token) (others : List Token) (token : Token) (taken : List ℕ) (k : ℕ)
+pub tag_stopped : (first : Test) (before : List ℕ) (start : ℕ) (name : Record) (others : List Record) (token : Record) (taken : List ℕ) (k : ℕ)
     → token ≡ name → outcome taken (Err k) ≡ offer first before start (word token ∷ []) → outcome taken (Err k) ≡ offer first before start (map word (name ∷ others))
 tag_stopped first before start name others token taken k s e =
-    offer_err first before start (word name ∷ []) (map word others) taken k (e ∙ ap (λ (x : Token). offer first before start (word x ∷ [])) s)
+    offer_err first before start (word name ∷ []) (map word others) taken k (e ∙ ap (λ (x : Record). offer first before start (word x ∷ [])) s)
 
-pub tag_room : (first : Test) (before : List ℕ) (start : ℕ) (name : Token) (others : List Token) (w : ℕ) (taken : List ℕ) (n : ℕ) → CanOffer start (name ∷ others) → outcome taken (Ok n) ≡ offer first before start (w ∷ []) → CanOffer n others
+pub tag_room : (first : Test) (before : List ℕ) (start : ℕ) (name : Record) (others : List Record) (w : ℕ) (taken : List ℕ) (n : ℕ) → CanOffer start (name ∷ others) → outcome taken (Ok n) ≡ offer first before start (w ∷ []) → CanOffer n others
 tag_room first before start name others w taken n c e = can_rest start n (name ∷ []) others c (offer_count first before start (w ∷ []) taken n e)
 
 -- the name's span
@@ -199,7 +199,7 @@ pub record Named (bytes : List ℕ) (at level e : ℕ) (i : Item) : Type 0 where
   pub space : List ℕ
   pub close : List ℕ
   pub attributes : AttributesAt bytes e xs space close
-  pub tokens : item_tokens level at i ≡ named_span bytes 0 level record { start = at + 1; end = e } ∷ attributes_tokens level e xs
+  pub tokens : item_records level at i ≡ named_span bytes 0 level record { start = at + 1; end = e } ∷ attributes_records level e xs
   pub closing : Closing bytes at level i (e + size (written_attributes xs) + size space)
   pub inside : e + size (written_attributes xs) + size space < length bytes
 
@@ -212,7 +212,7 @@ named_of i bytes at level e within b t h =
       space = f.tag.space;
       close = f.close;
       attributes = subst (λ (m : ℕ). AttributesAt bytes m f.tag.attributes f.tag.space f.close) place f.attributes;
-      tokens = f.tokens ∙ ap (λ (m : ℕ). named_span bytes 0 level record { start = at + 1; end = m } ∷ attributes_tokens level m f.tag.attributes) place;
+      tokens = f.tokens ∙ ap (λ (m : ℕ). named_span bytes 0 level record { start = at + 1; end = m } ∷ attributes_records level m f.tag.attributes) place;
       closing = subst (λ (m : ℕ). Closing bytes at level i (m + size (written_attributes f.tag.attributes) + size f.tag.space)) place f.closing;
       inside = subst (λ (m : ℕ). m + size (written_attributes f.tag.attributes) + size f.tag.space < length bytes) place f.inside;
     }

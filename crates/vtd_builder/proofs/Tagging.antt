@@ -8,17 +8,17 @@ use Rattle.std.proofs.lemmas.Slice.Eq.{bytes_eq-Decides}
 use lib.Utf8.{encode, encodes}
 use Rattle.xml_model.specs.Chars.{size, is_space, is_white, is_name_char, is_name}
 use Rattle.xml_model.specs.Items.{Attribute, quote_char, before_value, written_pieces, written_attribute, written_attributes, meets_attribute}
-use Rattle.xml_model.specs.Records.{Token, named, name_token, attribute_tokens, attributes_tokens}
+use Rattle.xml_model.specs.Records.{Record, named, name_token, attribute_records, attributes_records}
 use Rattle.xml_chars.specs.Places.{span_from}
 use Rattle.xml_chars.proofs.Points.{encode_pos}
-use Rattle.xml_chars.proofs.StandLemmas.{size-append}
+use Rattle.xml_chars.proofs.HoldLemmas.{size-append}
 use Rattle.xml_model.specs.Records.{word}
 use Rattle.vtd_builder.specs.declared.tags.AttributeCut.{AttributeCut}
 use Rattle.vtd_builder.specs.Offered.{outcome, offer, CanOffer}
 use Rattle.vtd_builder.proofs.InParts.{Test, Offers, offers_none, offers_more, offers_stopped, offers_all}
 use Rattle.vtd_builder.specs.Found.{bytes_of, attribute_found, HasPlaces}
 use Rattle.vtd_builder.specs.Cuts.{is_low, closes_tag, is_close, Placed, past_name, AttributeAt, AttributesAt, cut_of}
-use Rattle.vtd_builder.proofs.Placed.{placed_front, placed_back, placed_as, placed_end, placed_span}
+use Rattle.vtd_builder.proofs.Placed.{placed_prefix, placed_back, placed_as, placed_end, placed_span}
 use Rattle.vtd_builder.proofs.Recorded.{plain_is, named_is, kind_is}
 use Rattle.vtd_builder.proofs.Cutting.{Stops, stops_at, stops_char, byte_is, space_run, parted, one_byte, first_byte, name_chars, name_high, quote_ascii, no_47, no_62}
 
@@ -88,10 +88,10 @@ name_stops : (n w : List ℕ) → is_name n ≡ true → Stops is_low (n ++ w)
 name_stops [] w h = absurd (false≢true (sym nil_no_name ∙ h))
 name_stops (c ∷ n) w h = stops_char is_low low_ascii c (n ++ w) (name_not_low c (and_parts (is_name_char c) (list_all is_name_char n) (name_chars (c ∷ n) h)).0)
 
-attribute_is : (bytes : List ℕ) (depth at : ℕ) (a : Attribute) (w : List ℕ) → Placed bytes at (a.name ++ w) → attribute_tokens depth at a ≡ attribute_found bytes depth (cut_of at a).item
+attribute_is : (bytes : List ℕ) (depth at : ℕ) (a : Attribute) (w : List ℕ) → Placed bytes at (a.name ++ w) → attribute_records depth at a ≡ attribute_found bytes depth (cut_of at a).item
 attribute_is bytes depth at a w k =
-    let n = placed_front bytes at a.name w k in
-    ap₂ (λ (x y : Token). x ∷ (y ∷ []))
+    let n = placed_prefix bytes at a.name w k in
+    ap₂ (λ (x y : Record). x ∷ (y ∷ []))
     (ap (λ (t : ℕ). named t depth a.name at) (kind_is bytes at a.name n) ∙ named_is bytes (name_token (bytes_of bytes (span_from at a.name))) depth at a.name n)
     (plain_is 4 depth (at + size (before_value a)) (written_pieces a.value))
 
@@ -101,10 +101,10 @@ pub record OpenAt (bytes : List ℕ) (p depth : ℕ) (a : Attribute) (others : L
   pub opens : closes_tag (get_or bytes (p + size a.space) 0) ≡ false
   pub within : p + size a.space < length bytes
   pub places : HasPlaces bytes (cut_of (p + size a.space) a).item
-  pub found : attribute_tokens depth (p + size a.space) a ≡ attribute_found bytes depth (cut_of (p + size a.space) a).item
+  pub found : attribute_records depth (p + size a.space) a ≡ attribute_found bytes depth (cut_of (p + size a.space) a).item
   pub end : (cut_of (p + size a.space) a).end ≡ p + size (written_attribute a)
   pub past : p + size (written_attribute a) ≤ length bytes
-  pub behind : AttributesAt bytes (p + size (written_attribute a)) others space close
+  pub after : AttributesAt bytes (p + size (written_attribute a)) others space close
 
 pub past_split : (a : Attribute) (w : List ℕ) → written_attribute a ++ w ≡ a.space ++ (a.name ++ (past_name a ++ w))
 past_split a w = simp append_assoc
@@ -119,7 +119,7 @@ attributes_open bytes p depth a others space close k =
     let s : Placed bytes p (a.space ++ (a.name ++ (past_name a ++ w))) = placed_as bytes p (written_attribute a ++ w) (a.space ++ (a.name ++ (past_name a ++ w))) (past_split a w) all in
     let n = placed_back bytes p a.space (a.name ++ (past_name a ++ w)) s in
     let o = name_opens bytes q a.name (past_name a ++ w) h.name n in
-    let f = placed_front bytes q (a.name ++ past_name a) w (placed_as bytes q (a.name ++ (past_name a ++ w)) ((a.name ++ past_name a) ++ w) (sym (append_assoc a.name (past_name a) w)) n) in
+    let f = placed_prefix bytes q (a.name ++ past_name a) w (placed_as bytes q (a.name ++ (past_name a ++ w)) ((a.name ++ past_name a) ++ w) (sym (append_assoc a.name (past_name a) w)) n) in
     let x = size-append (a.space ++ before_value a ++ written_pieces a.value) (quote_char a.quote ∷ []) in
     let y = size-append (a.space ++ before_value a) (written_pieces a.value) in
     let z = size-append a.space (before_value a) in
@@ -128,11 +128,11 @@ attributes_open bytes p depth a others space close k =
       attribute = record { meets = m.0; placed = f };
       opens = o.0;
       within = o.1;
-      places = record { name = placed_span bytes q a.name (placed_front bytes q a.name (past_name a ++ w) n); value = omega arith };
+      places = record { name = placed_span bytes q a.name (placed_prefix bytes q a.name (past_name a ++ w) n); value = omega arith };
       found = attribute_is bytes depth q a (past_name a ++ w) n;
       end = omega (arith, x, y, z, one_byte (quote_char a.quote) (quote_ascii a.quote));
-      past = placed_end bytes p (written_attribute a) (placed_front bytes p (written_attribute a) w all);
-      behind = record { placed = placed_back bytes p (written_attribute a) w all; meets = m.1; blank = k.blank; closed = k.closed };
+      past = placed_end bytes p (written_attribute a) (placed_prefix bytes p (written_attribute a) w all);
+      after = record { placed = placed_back bytes p (written_attribute a) w all; meets = m.1; blank = k.blank; closed = k.closed };
     }
 
 pub record ClosedAt (bytes : List ℕ) (p : ℕ) (space : List ℕ) : Type 0 where
@@ -167,14 +167,14 @@ attributes_closed bytes p space close k = elim (close_is close k.closed) [
 pub record LeftAt (bytes : List ℕ) (begin depth : ℕ) (xs : List Attribute) (space close : List ℕ) (first : Test) (before : List ℕ) (start name : ℕ) (now : Test) (taken : List ℕ) (count : ℕ) : Type 0 where
   pub place : ℕ
   pub left : List Attribute
-  pub stands : AttributesAt bytes place left space close
+  pub holds : AttributesAt bytes place left space close
   pub named : name ≡ place + prefix_len is_low (drop place bytes)
-  pub offers : Offers first before start (attributes_tokens depth begin xs) now taken count (attributes_tokens depth place left)
+  pub offers : Offers first before start (attributes_records depth begin xs) now taken count (attributes_records depth place left)
   pub sum : place + size (written_attributes left) ≡ begin + size (written_attributes xs)
 
-pub left_first : (bytes : List ℕ) (begin depth : ℕ) (xs : List Attribute) (space close : List ℕ) (first : Test) (before : List ℕ) (start name : ℕ) → CanOffer start (attributes_tokens depth begin xs) → AttributesAt bytes begin xs space close → name ≡ begin + prefix_len is_low (drop begin bytes)
+pub left_first : (bytes : List ℕ) (begin depth : ℕ) (xs : List Attribute) (space close : List ℕ) (first : Test) (before : List ℕ) (start name : ℕ) → CanOffer start (attributes_records depth begin xs) → AttributesAt bytes begin xs space close → name ≡ begin + prefix_len is_low (drop begin bytes)
     → LeftAt bytes begin depth xs space close first before start name first before start
-left_first bytes begin depth xs space close first before start name c k e = record { place = begin; left = xs; stands = k; named = e; offers = offers_none first before start (attributes_tokens depth begin xs) c; sum = refl }
+left_first bytes begin depth xs space close first before start name c k e = record { place = begin; left = xs; holds = k; named = e; offers = offers_none first before start (attributes_records depth begin xs) c; sum = refl }
 
 pub record Turn (bytes : List ℕ) (begin depth : ℕ) (xs : List Attribute) (space close : List ℕ) (first : Test) (before : List ℕ) (start name : ℕ) (now : Test) (taken : List ℕ) (count : ℕ) : Type 0 where
   pub a : Attribute
@@ -182,16 +182,16 @@ pub record Turn (bytes : List ℕ) (begin depth : ℕ) (xs : List Attribute) (sp
   pub attribute : AttributeAt bytes name a
   pub within : name < length bytes
   pub places : HasPlaces bytes (cut_of name a).item
-  pub offers : Offers first before start (attributes_tokens depth begin xs) now taken count (attribute_found bytes depth (cut_of name a).item ++ attributes_tokens depth (cut_of name a).end others)
+  pub offers : Offers first before start (attributes_records depth begin xs) now taken count (attribute_found bytes depth (cut_of name a).item ++ attributes_records depth (cut_of name a).end others)
   pub past : (cut_of name a).end ≤ length bytes
-  pub behind : AttributesAt bytes (cut_of name a).end others space close
+  pub after : AttributesAt bytes (cut_of name a).end others space close
   pub sum : (cut_of name a).end + size (written_attributes others) ≡ begin + size (written_attributes xs)
 
 pub turn_of : (bytes : List ℕ) (begin depth : ℕ) (xs : List Attribute) (space close : List ℕ) (first : Test) (before : List ℕ) (start name : ℕ) (now : Test) (taken : List ℕ) (count : ℕ)
     → LeftAt bytes begin depth xs space close first before start name now taken count → closes_tag (get_or bytes name 0) ≡ false → Turn bytes begin depth xs space close first before start name now taken count
-turn_of bytes begin depth xs space close first before start name now taken count k f = go k.left k.stands k.offers k.sum
+turn_of bytes begin depth xs space close first before start name now taken count k f = go k.left k.holds k.offers k.sum
   where
-    go : (ys : List Attribute) → AttributesAt bytes k.place ys space close → Offers first before start (attributes_tokens depth begin xs) now taken count (attributes_tokens depth k.place ys) → k.place + size (written_attributes ys) ≡ begin + size (written_attributes xs)
+    go : (ys : List Attribute) → AttributesAt bytes k.place ys space close → Offers first before start (attributes_records depth begin xs) now taken count (attributes_records depth k.place ys) → k.place + size (written_attributes ys) ≡ begin + size (written_attributes xs)
         → Turn bytes begin depth xs space close first before start name now taken count
     go [] s o e =
         let c = attributes_closed bytes k.place space close s in
@@ -201,17 +201,17 @@ turn_of bytes begin depth xs space close first before start name now taken count
         let c = attributes_open bytes k.place depth a others space close s in
         let at : k.place + size a.space ≡ name = sym (k.named ∙ ap (λ (m : ℕ). k.place + m) c.name) in
         let end : k.place + size (written_attribute a) ≡ (cut_of name a).end = sym c.end ∙ ap (λ (m : ℕ). (cut_of m a).end) at in
-        let tokens : attributes_tokens depth k.place (a ∷ others) ≡ attribute_found bytes depth (cut_of name a).item ++ attributes_tokens depth (cut_of name a).end others =
-        ap₂ (λ (x y : List Token). x ++ y) (c.found ∙ ap (λ (m : ℕ). attribute_found bytes depth (cut_of m a).item) at) (ap (λ (m : ℕ). attributes_tokens depth m others) end) in
+        let tokens : attributes_records depth k.place (a ∷ others) ≡ attribute_found bytes depth (cut_of name a).item ++ attributes_records depth (cut_of name a).end others =
+        ap₂ (λ (x y : List Record). x ++ y) (c.found ∙ ap (λ (m : ℕ). attribute_found bytes depth (cut_of m a).item) at) (ap (λ (m : ℕ). attributes_records depth m others) end) in
         record {
           a = a;
           others = others;
           attribute = subst (λ (m : ℕ). AttributeAt bytes m a) at c.attribute;
           within = subst (λ (m : ℕ). m < length bytes) at c.within;
           places = subst (λ (m : ℕ). HasPlaces bytes (cut_of m a).item) at c.places;
-          offers = subst (λ (l : List Token). Offers first before start (attributes_tokens depth begin xs) now taken count l) tokens o;
+          offers = subst (λ (l : List Record). Offers first before start (attributes_records depth begin xs) now taken count l) tokens o;
           past = subst (λ (m : ℕ). m ≤ length bytes) end c.past;
-          behind = subst (λ (m : ℕ). AttributesAt bytes m others space close) end c.behind;
+          after = subst (λ (m : ℕ). AttributesAt bytes m others space close) end c.after;
           sum = omega (arith, e, end, size-append (written_attribute a) (written_attributes others));
         }
 
@@ -223,32 +223,32 @@ left_more bytes begin depth xs space close first before start name now taken cou
     record {
       place = (cut_of name t.a).end;
       left = t.others;
-      stands = t.behind;
+      holds = t.after;
       named = m ∙ ap (λ (p : ℕ). p + prefix_len is_low (drop p bytes)) end;
-      offers = offers_more first before start (attributes_tokens depth begin xs) now taken count (attribute_found bytes depth (cut_of name t.a).item) (attributes_tokens depth (cut_of name t.a).end t.others) later taken1 n t.offers
+      offers = offers_more first before start (attributes_records depth begin xs) now taken count (attribute_found bytes depth (cut_of name t.a).item) (attributes_records depth (cut_of name t.a).end t.others) later taken1 n t.offers
           (e ∙ ap (λ (x : AttributeCut). offer now taken count (map word (attribute_found bytes depth x.item))) c) l;
       sum = t.sum;
     }
 
 pub left_stopped : (bytes : List ℕ) (begin depth : ℕ) (xs : List Attribute) (space close : List ℕ) (first : Test) (before : List ℕ) (start name : ℕ) (now : Test) (taken : List ℕ) (count : ℕ) (taken1 : List ℕ) (k : ℕ) (cut : AttributeCut)
-    → (t : Turn bytes begin depth xs space close first before start name now taken count) → cut ≡ cut_of name t.a → outcome taken1 (Err k) ≡ offer now taken count (map word (attribute_found bytes depth cut.item)) → outcome taken1 (Err k) ≡ offer first before start (map word (attributes_tokens depth begin xs))
+    → (t : Turn bytes begin depth xs space close first before start name now taken count) → cut ≡ cut_of name t.a → outcome taken1 (Err k) ≡ offer now taken count (map word (attribute_found bytes depth cut.item)) → outcome taken1 (Err k) ≡ offer first before start (map word (attributes_records depth begin xs))
 left_stopped bytes begin depth xs space close first before start name now taken count taken1 k cut t c e =
-    offers_stopped first before start (attributes_tokens depth begin xs) now taken count (attribute_found bytes depth (cut_of name t.a).item) (attributes_tokens depth (cut_of name t.a).end t.others) taken1 k t.offers
+    offers_stopped first before start (attributes_records depth begin xs) now taken count (attribute_found bytes depth (cut_of name t.a).item) (attributes_records depth (cut_of name t.a).end t.others) taken1 k t.offers
     (e ∙ ap (λ (x : AttributeCut). offer now taken count (map word (attribute_found bytes depth x.item))) c)
 
 pub record Ended (bytes : List ℕ) (begin depth : ℕ) (xs : List Attribute) (space : List ℕ) (first : Test) (before : List ℕ) (start name : ℕ) (taken : List ℕ) (count : ℕ) : Type 0 where
-  pub answer : outcome taken (Ok count) ≡ offer first before start (map word (attributes_tokens depth begin xs))
+  pub answer : outcome taken (Ok count) ≡ offer first before start (map word (attributes_records depth begin xs))
   pub place : name ≡ begin + size (written_attributes xs) + size space
 
 pub left_end : (bytes : List ℕ) (begin depth : ℕ) (xs : List Attribute) (space close : List ℕ) (first : Test) (before : List ℕ) (start name : ℕ) (now : Test) (taken : List ℕ) (count : ℕ)
     → LeftAt bytes begin depth xs space close first before start name now taken count → closes_tag (get_or bytes name 0) ≡ true → Ended bytes begin depth xs space first before start name taken count
-left_end bytes begin depth xs space close first before start name now taken count k f = go k.left k.stands k.offers k.sum
+left_end bytes begin depth xs space close first before start name now taken count k f = go k.left k.holds k.offers k.sum
   where
-    go : (ys : List Attribute) → AttributesAt bytes k.place ys space close → Offers first before start (attributes_tokens depth begin xs) now taken count (attributes_tokens depth k.place ys) → k.place + size (written_attributes ys) ≡ begin + size (written_attributes xs)
+    go : (ys : List Attribute) → AttributesAt bytes k.place ys space close → Offers first before start (attributes_records depth begin xs) now taken count (attributes_records depth k.place ys) → k.place + size (written_attributes ys) ≡ begin + size (written_attributes xs)
         → Ended bytes begin depth xs space first before start name taken count
     go [] s o e =
         let c = attributes_closed bytes k.place space close s in
-        record { answer = offers_all first before start (attributes_tokens depth begin xs) now taken count [] o refl; place = omega (arith, k.named, c.name, e, size_nil) }
+        record { answer = offers_all first before start (attributes_records depth begin xs) now taken count [] o refl; place = omega (arith, k.named, c.name, e, size_nil) }
     go (a ∷ others) s o e =
         let c = attributes_open bytes k.place depth a others space close s in
         let at : k.place + size a.space ≡ name = sym (k.named ∙ ap (λ (m : ℕ). k.place + m) c.name) in
@@ -257,7 +257,7 @@ left_end bytes begin depth xs space close first before start name now taken coun
 -- whatever the name's place is, it lies in the bytes
 pub left_within : (bytes : List ℕ) (begin depth : ℕ) (xs : List Attribute) (space close : List ℕ) (first : Test) (before : List ℕ) (start name : ℕ) (now : Test) (taken : List ℕ) (count : ℕ)
     → LeftAt bytes begin depth xs space close first before start name now taken count → name < length bytes
-left_within bytes begin depth xs space close first before start name now taken count k = go k.left k.stands
+left_within bytes begin depth xs space close first before start name now taken count k = go k.left k.holds
   where
     go : (ys : List Attribute) → AttributesAt bytes k.place ys space close → name < length bytes
     go [] s = let c = attributes_closed bytes k.place space close s in omega (arith, k.named, c.name, c.within)
@@ -265,4 +265,4 @@ left_within bytes begin depth xs space close first before start name now taken c
 
 -- the loop's state, whatever the attributes are
 pub record Attributing (bytes : List ℕ) (begin depth : ℕ) (first : Test) (before : List ℕ) (start name : ℕ) (now : Test) (taken : List ℕ) (count : ℕ) : Type 0 where
-  pub each : (xs : List Attribute) (space close : List ℕ) → AttributesAt bytes begin xs space close → CanOffer start (attributes_tokens depth begin xs) → LeftAt bytes begin depth xs space close first before start name now taken count
+  pub each : (xs : List Attribute) (space close : List ℕ) → AttributesAt bytes begin xs space close → CanOffer start (attributes_records depth begin xs) → LeftAt bytes begin depth xs space close first before start name now taken count

@@ -1,4 +1,4 @@
--- Where the parts of a tag lie, told by the bytes that end them (this project's own). The tag is one of an accepted document.
+-- Where the parts of a tag lie, known by the bytes that end them (this project's own). The tag is one of an accepted document.
 use Rattle.std.specs.Prelude.{◌≡◌, ℕ, ◌+◌, ◌≤◌, Bool, true, cond, ◌&&◌, ◌||◌, ◌==◌, not, nat_le, nat_lt, bytes_eq, Result, Ok, Err, List, [], ◌∷◌, ◌++◌, length, drop, codes, encode_utf8_all}
 use Rattle.std.specs.List.{list_all}
 use Rattle.xml_model.specs.Chars.{size, is_space}
@@ -12,7 +12,7 @@ use Rattle.vtd_builder.specs.declared.offers.Beginning.{Beginning}
 use Rattle.vtd_builder.specs.declared.offers.Beginning.TheVariants as beginnings
 use Rattle.vtd_builder.specs.declared.offers.Reached.{Reached}
 use Rattle.vtd_builder.specs.declared.offers.Passed.{Passed}
-use Rattle.xml_acceptance.specs.Machine.{item_tokens, level_after}
+use Rattle.xml_acceptance.specs.Machine.{item_records, level_after}
 use Rattle.vtd_builder.specs.Offered.{CanOffer}
 
 -- no white space, and none of / = >
@@ -27,7 +27,7 @@ is_low b = nat_le b 32
 abbrev pub is_other : ℕ → ℕ → Bool
 is_other byte b = not (b == byte)
 
--- the characters stand at the place, and more bytes follow
+-- the characters are at the place, and more bytes follow
 pub record Placed (bytes : List ℕ) (at : ℕ) (cs : List ℕ) : Type 0 where
   pub more : List ℕ
   pub here : drop at bytes ≡ encode_utf8_all cs ++ more
@@ -53,11 +53,11 @@ cut_of at a = record {
 abbrev pub closes_tag : ℕ → Bool
 closes_tag b = b == 62 || b == 47
 
--- what closes a tag behind its white space: > or />
+-- what closes a tag after its white space: > or />
 abbrev pub is_close : List ℕ → Bool
 is_close close = bytes_eq close (codes ">") || bytes_eq close (codes "/>")
 
--- the attributes of a tag stand at the place, each behind white space, and then the white space and what closes it
+-- the attributes of a tag are at the place, each after white space, and then the white space and what closes it
 pub record AttributesAt (bytes : List ℕ) (at : ℕ) (xs : List Attribute) (space close : List ℕ) : Type 0 where
   pub placed : Placed bytes at (written_attributes xs ++ (space ++ close))
   pub meets : list_all meets_attribute xs ≡ true
@@ -85,7 +85,7 @@ beginning_by first second = cond (first == 60) (cond (second == 47) beginnings.E
 pub record BeginsAs (bytes : List ℕ) (at level count : ℕ) (beginning : Beginning) (i : Item) : Type 0 where
   pub begins : begins_at bytes at i ≡ true
   pub kind : beginning_of (item_kind i) ≡ beginning
-  pub can : CanOffer count (item_tokens level at i)
+  pub can : CanOffer count (item_records level at i)
 
 -- what was passed is an item that begins at a place, with so many elements open round it
 pub record IsPast (at level : ℕ) (i : Item) (p : Passed) : Type 0 where

@@ -94,7 +94,7 @@ fn check_recorded(bytes: &[u8], words: &WordVec) -> Result<(), DocFault>
     check_names(&Table::of(bytes, words))
 }
 
-/// The document of the bytes, with the words of its records; its levels are empty. All memory is taken at once, behind
+/// The document of the bytes, with the words of its records; its levels are empty. All memory is taken at once, after
 /// `check`, so `NoMemory` comes only where that refuses nothing; the names are checked by the records.
 ///
 /// # Errors

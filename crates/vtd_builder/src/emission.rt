@@ -44,7 +44,7 @@ fn offer_records<R: RecordSink>(bytes: &[u8], into: &mut R) -> Result<u32, u32>
 /// Hands over the words of all records of an accepted document, in order. It takes no memory.
 ///
 /// # Errors
-/// `Err(k)` exactly where the sink refuses record k, behind what it had taken and the records before k; these were then
+/// `Err(k)` exactly where the sink refuses record k, after what it had taken and the records before k; these were then
 /// taken.
 pub fn emit<R: RecordSink>(bytes: &[u8], into: &mut R) -> Result<(), u32>
     requires size { length bytes.now < 2 ^ 30 }

@@ -1,5 +1,5 @@
-//! What a record tells of a name: how long its prefix is, and whether it declares a namespace (Namespaces in XML 1.0,
-//! productions 1 to 3 and 7 to 10). A colon is one byte, and so is each letter of `xmlns`: all is told by the bytes.
+//! What a record says of a name: how long its prefix is, and whether it declares a namespace (Namespaces in XML 1.0,
+//! productions 1 to 3 and 7 to 10). A colon is one byte, and so is each letter of `xmlns`: all is known by the bytes.
 
 ghost use Rattle.std.specs.Prelude.{◌≡◌, ◌≤◌, ◌==◌, length, position};
 ghost use Rattle.xml_model.specs.Chars.{prefix_of};
@@ -13,7 +13,7 @@ fn first_colon(name: &[u8]) -> Option<usize>
     name.iter().position(|b| *b == b':')
 }
 
-/// How many bytes stand before the first colon; 0 where there is no colon.
+/// How many bytes are before the first colon; 0 where there is no colon.
 #[inline(always)]
 pub fn prefix_len(name: &[u8]) -> usize
     ensures value { result ≡ length (prefix_of name.now) }

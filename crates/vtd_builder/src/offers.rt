@@ -1,4 +1,4 @@
-//! The records of one item, offered to a sink in order. Each function is told how many records came before and answers
+//! The records of one item, offered to a sink in order. Each function is known how many records came before and answers
 //! how many there are then, or as an error the number of the record that the sink refused.
 
 ghost use Rattle.std.specs.Prelude.{◌≡◌, ℕ, List, IfOk, ◌+◌, ◌-◌, ◌<◌, ◌≤◌, ◌^◌, [], ◌∷◌, length, map, slice_index, true};
@@ -6,14 +6,14 @@ ghost use Rattle.std.specs.List.{AllByRecursion};
 ghost use Rattle.std.specs.Str.{IsUtf8, IsCharBoundary};
 ghost use Rattle.xml_model.specs.Items.{Item as ModelItem, begins_at};
 ghost use Rattle.xml_model.specs.Records.{word, depth_at};
-ghost use Rattle.vtd_words.specs.Packed.{fits, token_of};
+ghost use Rattle.vtd_words.specs.Packed.{fits, record_of};
 ghost use Rattle.xml_items.specs.AttributeList.{attributes_left};
 ghost use Rattle.xml_items.specs.Shown.{item_kind};
-ghost use Rattle.xml_acceptance.specs.Machine.{item_tokens};
+ghost use Rattle.xml_acceptance.specs.Machine.{item_records};
 ghost use Rattle.vtd_builder.specs.Offered.{offer, outcome, CanOffer};
 ghost use Rattle.xml_model.specs.Chars.{size};
 ghost use Rattle.xml_model.specs.Items.{Attribute, written_attributes};
-ghost use Rattle.xml_model.specs.Records.{attributes_tokens};
+ghost use Rattle.xml_model.specs.Records.{attributes_records};
 ghost use Rattle.vtd_builder.specs.Cuts.{AttributesAt, closes_tag, counted, beginning_of, beginning_by, BeginsAs, IsPast, passed_count};
 ghost use Rattle.vtd_builder.specs.Found.{bytes_of, IsWithin, plain_span, named_span, attribute_found, part_found, parts_found, ShowsItem, AreOrdered, HasPlaces};
 
@@ -28,7 +28,7 @@ use xml_model::Span;
 #[inline(always)]
 fn plain_parts(token: u8, depth: u8, span: Span) -> Parts
     requires { span.start ≤ span.end }
-    ensures { token_of result ≡ plain_span token depth span }
+    ensures { record_of result ≡ plain_span token depth span }
 {
     Parts {
         token,
@@ -52,7 +52,7 @@ fn bytes_of(bytes: &[u8], span: Span) -> &[u8]
 #[inline(always)]
 fn name_parts(bytes: &[u8], token: u8, depth: u8, name: Span) -> Parts
     requires { IsWithin bytes.now name }
-    ensures { token_of result ≡ named_span bytes.now token depth name }
+    ensures { record_of result ≡ named_span bytes.now token depth name }
 {
     Parts {
         token,
@@ -68,7 +68,7 @@ fn name_parts(bytes: &[u8], token: u8, depth: u8, name: Span) -> Parts
 pub fn offer<R: RecordSink>(parts: Parts, count: u32, into: &mut R) -> Result<u32, u32>
     requires fits { fits parts ≡ true }
     requires counted { count + 1 < 2 ^ 32 }
-    ensures outcome { outcome (R.taken into.new) result ≡ offer (R.refuses into.old) (R.taken into.old) count (word (token_of parts) ∷ []) }
+    ensures outcome { outcome (R.taken into.new) result ≡ offer (R.refuses into.old) (R.taken into.old) count (word (record_of parts) ∷ []) }
     ensures rest { R.rest into.new ≡ R.rest into.old }
     ensures test { R.refuses into.new ≡ R.refuses into.old }
 {
@@ -121,7 +121,7 @@ pub struct Reached {
     pub at: u32,
 }
 
-/// What was passed: how many records there were then, the place behind it, and how many elements stand open there.
+/// What was passed: how many records there were then, the place after it, and how many elements are open there.
 #[derive(Clone, Copy, Debug, PartialEq, Eq)]
 pub struct Passed {
     pub count: u32,
@@ -138,7 +138,7 @@ fn closes_tag(byte: u8) -> bool
 }
 
 /// Offers the records of the attributes of a tag, which begin at a place with the white space before them. The place
-/// reached is that of the `>` or `/>` behind them.
+/// reached is that of the `>` or `/>` after them.
 fn offer_attributes<R: RecordSink>(
     bytes: &[u8],
     at: u32,
@@ -147,10 +147,10 @@ fn offer_attributes<R: RecordSink>(
     into: &mut R,
 ) -> Result<Reached, u32>
     requires size { length bytes.now < 2 ^ 30 }
-    requires attributes { (xs : List Attribute) × (space : List ℕ) × (close : List ℕ) × AttributesAt bytes.now at xs space close × CanOffer count (attributes_tokens depth at xs) }
-    ensures outcome { (xs : List Attribute) (space close : List ℕ) → AttributesAt bytes.now at xs space close → CanOffer count (attributes_tokens depth at xs) →
-        outcome (R.taken into.new) (counted result) ≡ offer (R.refuses into.old) (R.taken into.old) count (map word (attributes_tokens depth at xs)) }
-    ensures reached { (xs : List Attribute) (space close : List ℕ) → AttributesAt bytes.now at xs space close → CanOffer count (attributes_tokens depth at xs) → IfOk result (λ r. r.at ≡ at + size (written_attributes xs) + size space) }
+    requires attributes { (xs : List Attribute) × (space : List ℕ) × (close : List ℕ) × AttributesAt bytes.now at xs space close × CanOffer count (attributes_records depth at xs) }
+    ensures outcome { (xs : List Attribute) (space close : List ℕ) → AttributesAt bytes.now at xs space close → CanOffer count (attributes_records depth at xs) →
+        outcome (R.taken into.new) (counted result) ≡ offer (R.refuses into.old) (R.taken into.old) count (map word (attributes_records depth at xs)) }
+    ensures reached { (xs : List Attribute) (space close : List ℕ) → AttributesAt bytes.now at xs space close → CanOffer count (attributes_records depth at xs) → IfOk result (λ r. r.at ≡ at + size (written_attributes xs) + size space) }
     ensures rest { R.rest into.new ≡ R.rest into.old }
     ensures test { R.refuses into.new ≡ R.refuses into.old }
 {
@@ -244,7 +244,7 @@ pub fn offer_tag<R: RecordSink>(
     requires place { at ≤ length bytes.now }
     requires tag { (i : ModelItem) × BeginsAs bytes.now at level count Beginning.Tag i }
     ensures outcome { (i : ModelItem) → BeginsAs bytes.now at level count Beginning.Tag i →
-        outcome (R.taken into.new) (passed_count result) ≡ offer (R.refuses into.old) (R.taken into.old) count (map word (item_tokens level at i)) }
+        outcome (R.taken into.new) (passed_count result) ≡ offer (R.refuses into.old) (R.taken into.old) count (map word (item_records level at i)) }
     ensures passed { (i : ModelItem) → BeginsAs bytes.now at level count Beginning.Tag i → IfOk result (IsPast at level i) }
     ensures rest { R.rest into.new ≡ R.rest into.old }
     ensures test { R.refuses into.new ≡ R.refuses into.old }
@@ -285,7 +285,7 @@ fn offer_text<R: RecordSink>(
     requires level { level ≤ 256 }
     requires text { (i : ModelItem) × BeginsAs bytes.now at level count Beginning.Text i }
     ensures outcome { (i : ModelItem) → BeginsAs bytes.now at level count Beginning.Text i →
-        outcome (R.taken into.new) (passed_count result) ≡ offer (R.refuses into.old) (R.taken into.old) count (map word (item_tokens level at i)) }
+        outcome (R.taken into.new) (passed_count result) ≡ offer (R.refuses into.old) (R.taken into.old) count (map word (item_records level at i)) }
     ensures passed { (i : ModelItem) → BeginsAs bytes.now at level count Beginning.Text i → IfOk result (IsPast at level i) }
     ensures rest { R.rest into.new ≡ R.rest into.old }
     ensures test { R.refuses into.new ≡ R.refuses into.old }
@@ -337,9 +337,9 @@ fn offer_marked<R: RecordSink>(
     requires start { item.span.start ≤ length bytes.now }
     requires level { level ≤ 256 }
     requires kind { beginning_of item.kind ≡ Beginning.Mark }
-    requires item { (i : ModelItem) × ShowsItem bytes.now item i × CanOffer count (item_tokens level item.span.start i) }
+    requires item { (i : ModelItem) × ShowsItem bytes.now item i × CanOffer count (item_records level item.span.start i) }
     ensures outcome { (i : ModelItem) → ShowsItem bytes.now item i →
-        outcome (R.taken into.new) result ≡ offer (R.refuses into.old) (R.taken into.old) count (map word (item_tokens level item.span.start i)) }
+        outcome (R.taken into.new) result ≡ offer (R.refuses into.old) (R.taken into.old) count (map word (item_records level item.span.start i)) }
     ensures rest { R.rest into.new ≡ R.rest into.old }
     ensures test { R.refuses into.new ≡ R.refuses into.old }
 {
@@ -373,7 +373,7 @@ fn offer_mark<R: RecordSink>(
     requires level { level ≤ 256 }
     requires item { (i : ModelItem) × BeginsAs bytes.now at level count Beginning.Mark i }
     ensures outcome { (i : ModelItem) → BeginsAs bytes.now at level count Beginning.Mark i →
-        outcome (R.taken into.new) (passed_count result) ≡ offer (R.refuses into.old) (R.taken into.old) count (map word (item_tokens level at i)) }
+        outcome (R.taken into.new) (passed_count result) ≡ offer (R.refuses into.old) (R.taken into.old) count (map word (item_records level at i)) }
     ensures passed { (i : ModelItem) → BeginsAs bytes.now at level count Beginning.Mark i → IfOk result (IsPast at level i) }
     ensures rest { R.rest into.new ≡ R.rest into.old }
     ensures test { R.refuses into.new ≡ R.refuses into.old }
@@ -402,7 +402,7 @@ fn beginning_by(first: u8, second: u8) -> Beginning
     }
 }
 
-/// The byte at a place, or 0 behind the end.
+/// The byte at a place, or 0 after the end.
 #[inline(always)]
 fn byte_at(bytes: &[u8], at: u32) -> u8
     ensures { result ≡ slice_index bytes.now at }
@@ -434,10 +434,10 @@ pub fn offer_item<R: RecordSink>(
     requires place { IsCharBoundary bytes.now at }
     requires inside { at < length bytes.now }
     requires level { level ≤ 256 }
-    requires item { (i : ModelItem) × (begins_at bytes.now at i ≡ true) × CanOffer count (item_tokens level at i) }
-    ensures outcome { (i : ModelItem) → begins_at bytes.now at i ≡ true → CanOffer count (item_tokens level at i) →
-        outcome (R.taken into.new) (passed_count result) ≡ offer (R.refuses into.old) (R.taken into.old) count (map word (item_tokens level at i)) }
-    ensures passed { (i : ModelItem) → begins_at bytes.now at i ≡ true → CanOffer count (item_tokens level at i) → IfOk result (IsPast at level i) }
+    requires item { (i : ModelItem) × (begins_at bytes.now at i ≡ true) × CanOffer count (item_records level at i) }
+    ensures outcome { (i : ModelItem) → begins_at bytes.now at i ≡ true → CanOffer count (item_records level at i) →
+        outcome (R.taken into.new) (passed_count result) ≡ offer (R.refuses into.old) (R.taken into.old) count (map word (item_records level at i)) }
+    ensures passed { (i : ModelItem) → begins_at bytes.now at i ≡ true → CanOffer count (item_records level at i) → IfOk result (IsPast at level i) }
     ensures rest { R.rest into.new ≡ R.rest into.old }
     ensures test { R.refuses into.new ≡ R.refuses into.old }
 {

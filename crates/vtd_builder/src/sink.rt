@@ -14,7 +14,7 @@ pub trait RecordSink {
 
     ghost refuses: { Self → List ℕ → ℕ → Bool };
 
-    /// Takes a word, or answers false exactly where the test refuses it behind the words taken so far; nothing is taken
+    /// Takes a word, or answers false exactly where the test refuses it after the words taken so far; nothing is taken
     /// then.
     fn take(&mut self, word: u64) -> bool
         ensures answer { result ≡ not (refuses self.old (taken self.old) word) }

@@ -1,4 +1,4 @@
-//! The tags and the texts of an accepted document, cut at the bytes that end their parts. What may stand in them was checked
+//! The tags and the texts of an accepted document, cut at the bytes that end their parts. What may be in them was checked
 //! before, so a byte is looked at once.
 
 ghost use Rattle.std.specs.Prelude.{◌≡◌, ◌+◌, ◌≤◌, ◌<◌, ◌^◌, length, drop};
@@ -21,7 +21,7 @@ pub struct AttributeCut {
     pub end: u32,
 }
 
-/// Whether the byte may stand in a name: it is no white space, and none of `/`, `=`, `>`.
+/// Whether the byte may be in a name: it is no white space, and none of `/`, `=`, `>`.
 #[inline(always)]
 fn in_name(byte: u8) -> bool
     ensures { result ≡ in_name byte }

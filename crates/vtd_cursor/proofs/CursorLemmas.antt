@@ -17,13 +17,13 @@ root_there : (nest : Forest) (first : ℕ) → Contains (all nest first) (root_e
 unfolding all
 root_there nest first = contains_here (root_entry nest first) _
 
-pub root_stands : (bytes : List ℕ) (lists : Lists) → IsNav bytes lists → IsNodeOf bytes lists root_node
-root_stands bytes lists n =
-    record { nest = n.nest; shown = nest_of_table bytes lists n.nest n.shown; entry = root_entry n.nest (first_place bytes); stands = (root_there n.nest (first_place bytes), refl, refl) }
+pub root_holds : (bytes : List ℕ) (lists : Lists) → IsNav bytes lists → IsNodeOf bytes lists root_node
+root_holds bytes lists n =
+    record { nest = n.nest; shown = nest_of_table bytes lists n.nest n.shown; entry = root_entry n.nest (first_place bytes); holds = (root_there n.nest (first_place bytes), refl, refl) }
 
--- beside any node of a document stands its root
+-- beside any node of a document is its root
 pub root_beside : (bytes : List ℕ) (lists : Lists) (node : Node) → IsNodeOf bytes lists node → IsNodeOf bytes lists root_node
-root_beside bytes lists node n = record { nest = n.nest; shown = n.shown; entry = root_entry n.nest (first_place bytes); stands = (root_there n.nest (first_place bytes), refl, refl) }
+root_beside bytes lists node n = record { nest = n.nest; shown = n.shown; entry = root_entry n.nest (first_place bytes); holds = (root_there n.nest (first_place bytes), refl, refl) }
 
 each_left : {X : Type 0} (P : X → Type 0) (xs ys : List X) → Each P (xs ++ ys) → Each P xs
 each_left P [] ys h = tt

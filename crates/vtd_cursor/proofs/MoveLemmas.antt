@@ -8,10 +8,10 @@ use Rattle.xml_model.specs.declared.Node.{Node}
 use Rattle.xml_model.specs.declared.Axis.TheVariants as axes
 use Rattle.xml_model.specs.Items.{first_place}
 use Rattle.xml_model.specs.Nest.{Forest}
-use Rattle.xml_model.specs.Records.{Token, records}
-use Rattle.xml_model.specs.Tree.{Thing, Entry, Path, Stands, before, steps, steps_under, step_eq, is_some_steps, kind_of, on_axis, axis_list}
+use Rattle.xml_model.specs.Records.{Record, records}
+use Rattle.xml_model.specs.Tree.{Thing, Entry, Path, Identifies, before, steps, steps_under, step_eq, is_some_steps, kind_of, on_axis, axis_list}
 use Rattle.xml_model.specs.Scan.{level_of, record_at, holder_by_scan}
-use Rattle.xml_model.specs.Laws.{PlacesTell, nodes_above, is_child_thing, is_attribute_thing, is_root_thing, is_under, is_one_under, same_parent, holder_place, by_places}
+use Rattle.xml_model.specs.Laws.{IndexesDecide, nodes_above, is_child_thing, is_attribute_thing, is_root_thing, is_under, is_one_under, same_parent, holder_index, by_indexes}
 use Rattle.xml_model.proofs.NodeLaws.{axis_of_two, places_of_two, siblings_of_child, parent_of_node}
 use Rattle.xml_model.proofs.Each.{each_at}
 use Rattle.xml_model.proofs.Axes.{formed, Formed}
@@ -22,17 +22,17 @@ use Rattle.vtd_cursor.specs.Searches.{IsWanted, Passes, FirstFrom, LastBefore, i
 use Rattle.vtd_cursor.proofs.AxisEnds.{none_of, first_is}
 use Rattle.vtd_cursor.proofs.Families.{Holds, Keeps, Meets, OneUnder, one_under_out, one_under_back, first_meets, last_meets, nested, child_no_root, attribute_no_root, above_held, above_root}
 use Rattle.vtd_cursor.proofs.Kinship.{root_first, root_kind, no_root_element, known, keeps, held_by, attributes_pass, element_holds, root_holds, holds_by_kind}
-use Rattle.vtd_cursor.proofs.SearchLemmas.{child_behind, child_kind, one_kind, attribute_kind}
+use Rattle.vtd_cursor.proofs.SearchLemmas.{child_after, child_kind, one_kind, attribute_kind}
 use Rattle.vtd_cursor.proofs.TagLemmas.{attribute_of, attribute_held}
 
-within_low : (level : ℕ) (r : Token) → is_within level r ≡ true → level ≤ level_of r
+within_low : (level : ℕ) (r : Record) → is_within level r ≡ true → level ≤ level_of r
 within_low level r h = leb-true level (level_of r) h
 
-part_low : (level : ℕ) (r : Token) → is_attribute_part level r ≡ true → level ≤ level_of r
+part_low : (level : ℕ) (r : Record) → is_attribute_part level r ≡ true → level ≤ level_of r
 part_low level r h = omega (arith, eqb-true (level_of r) level (and_parts (r.token == 2 || r.token == 3 || r.token == 4) (level_of r == level) h).1)
 
 -- records in a node pass
-inside_pass : (rs : List Token) (z : Entry) (level from to : ℕ) → Holds rs z level → z.place < from → to ≤ z.past → Passes (is_within level) rs from to
+inside_pass : (rs : List Record) (z : Entry) (level from to : ℕ) → Holds rs z level → z.index < from → to ≤ z.past → Passes (is_within level) rs from to
 inside_pass rs z level from to h a b = λ k low high. Rattle.std.proofs.lemmas.Bool.le-leb level (level_of (record_at k rs)) (h.inside k (omega (arith, a, low)) (omega (arith, b, high)))
 
 kind_root : (w : Thing) → kind_of w ≡ kinds.Root → is_root_thing w ≡ true
@@ -45,18 +45,18 @@ kind_root (Thing.instruction i) h = absurd cc
 
 -- Tests.
 
--- a child or an attribute of z, behind an index
+-- a child or an attribute of z, after an index
 abbrev WantedUnder : (Thing → Bool) → Entry → Entry → Bool
 WantedUnder want z y = is_one_under z y && want y.what
 
 under_meets : (P : Entry → Bool) (want : Thing → Bool) (es : List Entry) (z : Entry) (level : ℕ) → nodes_above z ≡ level → ((w : Thing) → want w ≡ true → is_root_thing w ≡ false) → ((y : Entry) → Contains es y → P y ≡ WantedUnder want z y) →
-    Meets P want es z level (suc z.place) z.past
+    Meets P want es z level (suc z.index) z.past
 under_meets P want es z level a r e = record {
   out = λ y c p.
       let q = and_parts (is_one_under z y) (want y.what) (sym (e y c) ∙ p) in
       let o = one_under_out z y level a (r y.what q.1) q.0 in
-      (record { held = o.held; wanted = q.1 }, o.behind, o.before);
-  back = λ y c w f t. e y c ∙ and_from (is_one_under z y) (want y.what) (one_under_back z y level a (r y.what w.wanted) (record { behind = f; before = t; held = w.held })) w.wanted;
+      (record { held = o.held; wanted = q.1 }, o.after, o.before);
+  back = λ y c w f t. e y c ∙ and_from (is_one_under z y) (want y.what) (one_under_back z y level a (r y.what w.wanted) (record { after = f; before = t; held = w.held })) w.wanted;
 }
 
 meets_suc : (P : Entry → Bool) (want : Thing → Bool) (es : List Entry) (z : Entry) (level from to n : ℕ) → from ≡ n → Meets P want es z level from to → Meets P want es z level n to
@@ -66,14 +66,14 @@ some_under : (b : Bool) (o : Option Path) → is_some_steps (steps_under b o) �
 some_under true o h = h
 some_under false o h = absurd (false≢true h)
 
--- a later child or attribute of the parent stands behind the end of its sibling
-later_behind : (nest : Forest) (bytes : List ℕ) (lists : Lists) → IsNestOf bytes lists nest → (e y : Entry) → Contains (nodes_of bytes nest) e → Contains (nodes_of bytes nest) y → nodes_above e ≡ nodes_above y → e.place < y.place → e.past ≤ y.place
-later_behind nest bytes lists s e y c d a l = elim (cases_lt y.place e.past) [
-  | inr behind ↦ behind
+-- a later child or attribute of the parent is after the end of its sibling
+later_after : (nest : Forest) (bytes : List ℕ) (lists : Lists) → IsNestOf bytes lists nest → (e y : Entry) → Contains (nodes_of bytes nest) e → Contains (nodes_of bytes nest) y → nodes_above e ≡ nodes_above y → e.index < y.index → e.past ≤ y.index
+later_after nest bytes lists s e y c d a l = elim (cases_lt y.index e.past) [
+  | inr after ↦ after
   | inl inside ↦ absurd (
       let first = first_place bytes in
-      let t : PlacesTell e y = places_of_two nest first e y c d in
-      let under : is_under e y ≡ true = and_from _ _ (lt-ltb e.place y.place l) (lt-ltb y.place e.past inside) in
+      let t : IndexesDecide e y = places_of_two nest first e y c d in
+      let under : is_under e y ≡ true = and_from _ _ (lt-ltb e.index y.index l) (lt-ltb y.index e.past inside) in
       let f : Formed e = each_at Formed (nodes_of bytes nest) e (formed nest first) c in
       let g : Formed y = each_at Formed (nodes_of bytes nest) y (formed nest first) d in
       omega (arith, longer e.path y.path (t.under ∙ under), f.depth, g.depth, a)
@@ -88,7 +88,7 @@ later_behind nest bytes lists s e y c d a l = elim (cases_lt y.place e.past) [
 
 -- The children of a node.
 
-pub first_child_is : (bytes : List ℕ) (lists : Lists) (nest : Forest) → IsNestOf bytes lists nest → (z : Entry) → Contains (nodes_of bytes nest) z → (level from : ℕ) → Holds (records nest (first_place bytes)) z level → from ≡ suc z.place → (o : Option Node) →
+pub first_child_is : (bytes : List ℕ) (lists : Lists) (nest : Forest) → IsNestOf bytes lists nest → (z : Entry) → Contains (nodes_of bytes nest) z → (level from : ℕ) → Holds (records nest (first_place bytes)) z level → from ≡ suc z.index → (o : Option Node) →
     FirstFrom (is_within level) is_child_thing level (records nest (first_place bytes)) (nodes_of bytes nest) from o → o ≡ first_of (axis_list axes.Child z.path (nodes_of bytes nest))
 unfolding axis_list
 first_child_is bytes lists nest s z c level from h e o f =
@@ -97,8 +97,8 @@ first_child_is bytes lists nest s z c level from h e o f =
     let es = nodes_of bytes nest in
     let P : Entry → Bool = λ y. on_axis axes.Child z.path y.path in
     let m : Meets P is_child_thing es z level from z.past =
-    meets_suc P is_child_thing es z level (suc z.place) z.past from (sym e) (under_meets P is_child_thing es z level h.above child_no_root (λ y d. axis_of_two nest first s.accepted.document.nests axes.Child z y c d)) in
-    first_meets P is_child_thing (is_within level) rs es z level from (known bytes lists nest s) h (omega (arith, e, h.some)) m (within_low level) (λ y d p. inside_pass rs z level from y.place h (omega (arith, e)) (omega (arith, (m.out y d p).2))) o f
+    meets_suc P is_child_thing es z level (suc z.index) z.past from (sym e) (under_meets P is_child_thing es z level h.above child_no_root (λ y d. axis_of_two nest first s.accepted.document.nests axes.Child z y c d)) in
+    first_meets P is_child_thing (is_within level) rs es z level from (known bytes lists nest s) h (omega (arith, e, h.some)) m (within_low level) (λ y d p. inside_pass rs z level from y.index h (omega (arith, e)) (omega (arith, (m.out y d p).2))) o f
 
 pub last_child_is : (bytes : List ℕ) (lists : Lists) (nest : Forest) → IsNestOf bytes lists nest → (z : Entry) → Contains (nodes_of bytes nest) z → (level end : ℕ) → Holds (records nest (first_place bytes)) z level → end ≡ z.past → (o : Option Node) →
     LastBefore (is_within level) is_child_thing level (records nest (first_place bytes)) (nodes_of bytes nest) end o → o ≡ last_of (axis_list axes.Child z.path (nodes_of bytes nest))
@@ -108,10 +108,10 @@ last_child_is bytes lists nest s z c level end h e o f =
     let rs = records nest first in
     let es = nodes_of bytes nest in
     let P : Entry → Bool = λ y. on_axis axes.Child z.path y.path in
-    let m : Meets P is_child_thing es z level (suc z.place) end =
-    subst (λ n. Meets P is_child_thing es z level (suc z.place) n) (sym e) (under_meets P is_child_thing es z level h.above child_no_root (λ y d. axis_of_two nest first s.accepted.document.nests axes.Child z y c d)) in
-    last_meets P is_child_thing (is_within level) rs es z level end (known bytes lists nest s) h (omega (arith, e, h.some)) (omega (arith, e)) m (child_behind bytes lists nest s) (within_low level)
-    (λ y d p. inside_pass rs z level (suc y.place) end h (omega (arith, (m.out y d p).1)) (omega (arith, e))) o f
+    let m : Meets P is_child_thing es z level (suc z.index) end =
+    subst (λ n. Meets P is_child_thing es z level (suc z.index) n) (sym e) (under_meets P is_child_thing es z level h.above child_no_root (λ y d. axis_of_two nest first s.accepted.document.nests axes.Child z y c d)) in
+    last_meets P is_child_thing (is_within level) rs es z level end (known bytes lists nest s) h (omega (arith, e, h.some)) (omega (arith, e)) m (child_after bytes lists nest s) (within_low level)
+    (λ y d p. inside_pass rs z level (suc y.index) end h (omega (arith, (m.out y d p).1)) (omega (arith, e))) o f
 
 -- a node directly under another is so under one that holds it, which is of the same kind
 held_kind : (bytes : List ℕ) (lists : Lists) (nest : Forest) → IsNestOf bytes lists nest → (z y : Entry) → Contains (nodes_of bytes nest) z → Contains (nodes_of bytes nest) y → is_root_thing y.what ≡ false → is_one_under z y ≡ true →
@@ -122,9 +122,9 @@ held_kind bytes lists nest s z y c d r h =
     let x = held_by bytes lists nest s y d r in
     let a = parent_of_node nest first n y z d c in
     let b = parent_of_node nest first n y x.0 d x.1.there in
-    let p = and_parts (not (is_root_thing y.what)) (z.place == holder_by_scan y.place (records nest first)) (sym a ∙ axis_of_two nest first n axes.Parent y z d c ∙ h) in
-    let q = and_parts (not (is_root_thing y.what)) (x.0.place == holder_by_scan y.place (records nest first)) (sym b ∙ axis_of_two nest first n axes.Parent y x.0 d x.1.there ∙ x.1.above) in
-    let same : z.place ≡ x.0.place = eqb-true z.place _ p.1 ∙ sym (eqb-true x.0.place _ q.1) in
+    let p = and_parts (not (is_root_thing y.what)) (z.index == holder_by_scan y.index (records nest first)) (sym a ∙ axis_of_two nest first n axes.Parent y z d c ∙ h) in
+    let q = and_parts (not (is_root_thing y.what)) (x.0.place == holder_by_scan y.index (records nest first)) (sym b ∙ axis_of_two nest first n axes.Parent y x.0 d x.1.there ∙ x.1.above) in
+    let same : z.index ≡ x.0.place = eqb-true z.index _ p.1 ∙ sym (eqb-true x.0.place _ q.1) in
     let kind : kind_of z.what ≡ kind_of x.0.what = one_kind bytes lists nest s z x.0 c x.1.there same in
     elim x.1.kind [
       | inl root ↦ inl (kind ∙ root_kind x.0.what root)
@@ -168,23 +168,23 @@ next_is bytes lists nest s e c w level from l b o f =
     let child : on_axis axes.Child z.path e.path ≡ true = axis_of_two nest first n axes.Child z e x.1.there c ∙ and_from _ _ x.1.above w in
     let P : Entry → Bool = λ y. on_axis axes.FollowingSibling e.path y.path in
     let keep : Keeps rs e = keeps bytes lists nest s e c r in
-    let tell : (y : Entry) → Contains es y → P y ≡ (by_places axes.Child z y && nat_lt e.place y.place) = λ y d. (siblings_of_child nest first n z e y x.1.there c d child).following in
+    let decide : (y : Entry) → Contains es y → P y ≡ (by_indexes axes.Child z y && nat_lt e.index y.index) = λ y d. (siblings_of_child nest first n z e y x.1.there c d child).following in
     let m : Meets P is_child_thing es z level from z.past = record {
       out = λ y d p.
-          let q = and_parts (by_places axes.Child z y) (nat_lt e.place y.place) (sym (tell y d) ∙ p) in
+          let q = and_parts (by_indexes axes.Child z y) (nat_lt e.index y.index) (sym (decide y d) ∙ p) in
           let t = and_parts (is_one_under z y) (is_child_thing y.what) q.0 in
           let u : OneUnder z y level = one_under_out z y level same (child_no_root y.what t.1) t.0 in
-          let behind : e.past ≤ y.place = later_behind nest bytes lists s e y c d (omega (arith, above_held e r, above_held y (child_no_root y.what t.1), l, u.held)) (ltb-true e.place y.place q.1) in
-          (record { held = u.held; wanted = t.1 }, omega (arith, b, behind), u.before);
+          let after : e.past ≤ y.index = later_after nest bytes lists s e y c d (omega (arith, above_held e r, above_held y (child_no_root y.what t.1), l, u.held)) (ltb-true e.index y.index q.1) in
+          (record { held = u.held; wanted = t.1 }, omega (arith, b, after), u.before);
       back = λ y d k a t.
-          tell y d ∙ and_from _ _ (and_from (is_one_under z y) (is_child_thing y.what) (one_under_back z y level same (child_no_root y.what k.wanted) (record { behind = omega (arith, a, b, keep.some, up.behind); before = t; held = k.held })) k.wanted)
-          (lt-ltb e.place y.place (omega (arith, a, b, keep.some)));
+          decide y d ∙ and_from _ _ (and_from (is_one_under z y) (is_child_thing y.what) (one_under_back z y level same (child_no_root y.what k.wanted) (record { after = omega (arith, a, b, keep.some, up.after); before = t; held = k.held })) k.wanted)
+          (lt-ltb e.index y.index (omega (arith, a, b, keep.some)));
     } in
     let ends : e.past ≤ z.past = nested rs z e level h keep (omega (arith, l)) up.before in
     first_meets P is_child_thing (is_within level) rs es z level from (known bytes lists nest s) h (omega (arith, b, ends)) m (within_low level)
-    (λ y d p. inside_pass rs z level from y.place h (omega (arith, b, keep.some, up.behind)) (omega (arith, (m.out y d p).2))) o f
+    (λ y d p. inside_pass rs z level from y.index h (omega (arith, b, keep.some, up.after)) (omega (arith, (m.out y d p).2))) o f
 
-pub previous_is : (bytes : List ℕ) (lists : Lists) (nest : Forest) → IsNestOf bytes lists nest → (e : Entry) → Contains (nodes_of bytes nest) e → is_child_thing e.what ≡ true → (level end : ℕ) → level ≡ length e.holders → end ≡ e.place → (o : Option Node) →
+pub previous_is : (bytes : List ℕ) (lists : Lists) (nest : Forest) → IsNestOf bytes lists nest → (e : Entry) → Contains (nodes_of bytes nest) e → is_child_thing e.what ≡ true → (level end : ℕ) → level ≡ length e.holders → end ≡ e.index → (o : Option Node) →
     LastBefore (is_within level) is_child_thing level (records nest (first_place bytes)) (nodes_of bytes nest) end o → o ≡ first_of (axis_list axes.PrecedingSibling e.path (nodes_of bytes nest))
 unfolding axis_list
 previous_is bytes lists nest s e c w level end l b o f =
@@ -200,24 +200,24 @@ previous_is bytes lists nest s e c w level end l b o f =
     let h : Holds rs z level = subst (λ k. Holds rs z k) same x.1.holds in
     let child : on_axis axes.Child z.path e.path ≡ true = axis_of_two nest first n axes.Child z e x.1.there c ∙ and_from _ _ x.1.above w in
     let P : Entry → Bool = λ y. on_axis axes.PrecedingSibling e.path y.path in
-    let tell : (y : Entry) → Contains es y → P y ≡ (by_places axes.Child z y && nat_lt y.place e.place) = λ y d. (siblings_of_child nest first n z e y x.1.there c d child).preceding in
-    let m : Meets P is_child_thing es z level (suc z.place) end = record {
+    let decide : (y : Entry) → Contains es y → P y ≡ (by_indexes axes.Child z y && nat_lt y.index e.index) = λ y d. (siblings_of_child nest first n z e y x.1.there c d child).preceding in
+    let m : Meets P is_child_thing es z level (suc z.index) end = record {
       out = λ y d p.
-          let q = and_parts (by_places axes.Child z y) (nat_lt y.place e.place) (sym (tell y d) ∙ p) in
+          let q = and_parts (by_indexes axes.Child z y) (nat_lt y.index e.index) (sym (decide y d) ∙ p) in
           let t = and_parts (is_one_under z y) (is_child_thing y.what) q.0 in
           let u : OneUnder z y level = one_under_out z y level same (child_no_root y.what t.1) t.0 in
-          (record { held = u.held; wanted = t.1 }, u.behind, omega (arith, b, ltb-true y.place e.place q.1));
+          (record { held = u.held; wanted = t.1 }, u.after, omega (arith, b, ltb-true y.index e.index q.1));
       back = λ y d k a t.
-          tell y d ∙ and_from _ _ (and_from (is_one_under z y) (is_child_thing y.what) (one_under_back z y level same (child_no_root y.what k.wanted) (record { behind = a; before = omega (arith, t, b, up.before); held = k.held })) k.wanted)
-          (lt-ltb y.place e.place (omega (arith, t, b)));
+          decide y d ∙ and_from _ _ (and_from (is_one_under z y) (is_child_thing y.what) (one_under_back z y level same (child_no_root y.what k.wanted) (record { after = a; before = omega (arith, t, b, up.before); held = k.held })) k.wanted)
+          (lt-ltb y.index e.index (omega (arith, t, b)));
     } in
-    last_meets P is_child_thing (is_within level) rs es z level end (known bytes lists nest s) h (omega (arith, b, up.behind)) (omega (arith, b, up.before)) m (child_behind bytes lists nest s) (within_low level)
-    (λ y d p. inside_pass rs z level (suc y.place) end h (omega (arith, (m.out y d p).1)) (omega (arith, b, up.before))) o f
+    last_meets P is_child_thing (is_within level) rs es z level end (known bytes lists nest s) h (omega (arith, b, up.after)) (omega (arith, b, up.before)) m (child_after bytes lists nest s) (within_low level)
+    (λ y d p. inside_pass rs z level (suc y.index) end h (omega (arith, (m.out y d p).1)) (omega (arith, b, up.before))) o f
 
 -- the root and attributes have no siblings
-no_sibling_pair : (e y : Entry) → is_child_thing e.what ≡ false → (by_places axes.FollowingSibling e y ≡ true → ⊥) × (by_places axes.PrecedingSibling e y ≡ true → ⊥)
+no_sibling_pair : (e y : Entry) → is_child_thing e.what ≡ false → (by_indexes axes.FollowingSibling e y ≡ true → ⊥) × (by_indexes axes.PrecedingSibling e y ≡ true → ⊥)
 no_sibling_pair e y h =
-    let no : same_parent e y ≡ false = ap (λ b. (b && is_child_thing y.what) && holder_place e.holders == holder_place y.holders) h in
+    let no : same_parent e y ≡ false = ap (λ b. (b && is_child_thing y.what) && holder_index e.holders == holder_index y.holders) h in
     ((λ k. false≢true (sym no ∙ (and_parts (same_parent e y) _ k).0)), (λ k. false≢true (sym no ∙ (and_parts (same_parent e y) _ k).0)))
 
 pub no_next : (bytes : List ℕ) (lists : Lists) (nest : Forest) → IsNestOf bytes lists nest → (e : Entry) → Contains (nodes_of bytes nest) e → is_child_thing e.what ≡ false → None ≡ first_of (axis_list axes.FollowingSibling e.path (nodes_of bytes nest))
@@ -232,7 +232,7 @@ no_previous bytes lists nest s e c w =
 
 -- The attributes of a node.
 
-pub first_attribute_is : (bytes : List ℕ) (lists : Lists) (nest : Forest) → IsNestOf bytes lists nest → (z : Entry) → Contains (nodes_of bytes nest) z → kind_of z.what ≡ kinds.Element → (level from : ℕ) → level ≡ suc (length z.holders) → from ≡ z.place + 1 → (o : Option Node) →
+pub first_attribute_is : (bytes : List ℕ) (lists : Lists) (nest : Forest) → IsNestOf bytes lists nest → (z : Entry) → Contains (nodes_of bytes nest) z → kind_of z.what ≡ kinds.Element → (level from : ℕ) → level ≡ suc (length z.holders) → from ≡ z.index + 1 → (o : Option Node) →
     FirstFrom (is_attribute_part level) is_attribute_thing level (records nest (first_place bytes)) (nodes_of bytes nest) from o → o ≡ first_of (axis_list axes.Attribute z.path (nodes_of bytes nest))
 unfolding axis_list
 first_attribute_is bytes lists nest s z c k level from l e o f =
@@ -241,15 +241,15 @@ first_attribute_is bytes lists nest s z c k level from l e o f =
     let es = nodes_of bytes nest in
     let h : Holds rs z level = subst (λ n. Holds rs z n) (sym l) (element_holds bytes lists nest s z c k) in
     let P : Entry → Bool = λ y. on_axis axes.Attribute z.path y.path in
-    let under : Meets P is_attribute_thing es z level (suc z.place) z.past = under_meets P is_attribute_thing es z level h.above attribute_no_root (λ y d. axis_of_two nest first s.accepted.document.nests axes.Attribute z y c d) in
-    let m : Meets P is_attribute_thing es z level from z.past = meets_suc P is_attribute_thing es z level (suc z.place) z.past from (omega (arith, e)) under in
+    let under : Meets P is_attribute_thing es z level (suc z.index) z.past = under_meets P is_attribute_thing es z level h.above attribute_no_root (λ y d. axis_of_two nest first s.accepted.document.nests axes.Attribute z y c d) in
+    let m : Meets P is_attribute_thing es z level from z.past = meets_suc P is_attribute_thing es z level (suc z.index) z.past from (omega (arith, e)) under in
     first_meets P is_attribute_thing (is_attribute_part level) rs es z level from (known bytes lists nest s) h (omega (arith, e, h.some)) m (part_low level)
     (λ y d p. let q = under.out y d p in attribute_run bytes lists nest s z c k y d level from l e q.0 q.1 q.2) o f
   where
-    attribute_run : (bytes : List ℕ) (lists : Lists) (nest : Forest) → IsNestOf bytes lists nest → (z : Entry) → Contains (nodes_of bytes nest) z → kind_of z.what ≡ kinds.Element → (y : Entry) → Contains (nodes_of bytes nest) y → (level from : ℕ) → level ≡ suc (length z.holders) → from ≡ z.place + 1 →
-        IsWanted is_attribute_thing level y → suc z.place ≤ y.place → y.place < z.past → Passes (is_attribute_part level) (records nest (first_place bytes)) from y.place
+    attribute_run : (bytes : List ℕ) (lists : Lists) (nest : Forest) → IsNestOf bytes lists nest → (z : Entry) → Contains (nodes_of bytes nest) z → kind_of z.what ≡ kinds.Element → (y : Entry) → Contains (nodes_of bytes nest) y → (level from : ℕ) → level ≡ suc (length z.holders) → from ≡ z.index + 1 →
+        IsWanted is_attribute_thing level y → suc z.index ≤ y.index → y.index < z.past → Passes (is_attribute_part level) (records nest (first_place bytes)) from y.index
     attribute_run bytes lists nest s z c k y d level from l e w a b = λ i low high.
-        let all : Passes (is_attribute_part (suc (length z.holders))) (records nest (first_place bytes)) (z.place + 1) y.place = attributes_pass bytes lists nest s z c k y d (record { held = w.held ∙ l; wanted = w.wanted }) (omega (arith, a)) b in
+        let all : Passes (is_attribute_part (suc (length z.holders))) (records nest (first_place bytes)) (z.index + 1) y.index = attributes_pass bytes lists nest s z c k y d (record { held = w.held ∙ l; wanted = w.wanted }) (omega (arith, a)) b in
         ap (λ n. is_attribute_part n (record_at i (records nest (first_place bytes)))) l ∙ all i (omega (arith, low, e)) high
 
 pub no_attributes : (bytes : List ℕ) (lists : Lists) (nest : Forest) → IsNestOf bytes lists nest → (z : Entry) → Contains (nodes_of bytes nest) z → (kind_of z.what ≡ kinds.Element → ⊥) → None ≡ first_of (axis_list axes.Attribute z.path (nodes_of bytes nest))
@@ -299,24 +299,24 @@ next_attribute_is bytes lists nest s e z c d k g level from l b o f =
     let mine : level ≡ suc (length z.holders) = omega (arith, same, above_held z (no_root_element z.what tag)) in
     let keep : Keeps rs e = keeps bytes lists nest s e c r in
     let P : Entry → Bool = λ y. on_axis axes.Attribute z.path y.path && before e.path y.path in
-    let tell : (y : Entry) → Contains es y → P y ≡ ((is_one_under z y && is_attribute_thing y.what) && nat_lt e.place y.place) = λ y q.
-    let t : PlacesTell e y = places_of_two nest first e y c q in ap₂ (λ u v. u && v) (axis_of_two nest first n axes.Attribute z y d q) t.order in
+    let decide : (y : Entry) → Contains es y → P y ≡ ((is_one_under z y && is_attribute_thing y.what) && nat_lt e.index y.index) = λ y q.
+    let t : IndexesDecide e y = places_of_two nest first e y c q in ap₂ (λ u v. u && v) (axis_of_two nest first n axes.Attribute z y d q) t.order in
     let m : Meets P is_attribute_thing es z level from z.past = record {
       out = λ y q i.
-          let a = and_parts (is_one_under z y && is_attribute_thing y.what) (nat_lt e.place y.place) (sym (tell y q) ∙ i) in
+          let a = and_parts (is_one_under z y && is_attribute_thing y.what) (nat_lt e.index y.index) (sym (decide y q) ∙ i) in
           let t = and_parts (is_one_under z y) (is_attribute_thing y.what) a.0 in
           let u : OneUnder z y level = one_under_out z y level same (attribute_no_root y.what t.1) t.0 in
-          let behind : e.past ≤ y.place = later_behind nest bytes lists s e y c q (omega (arith, above_held e r, above_held y (attribute_no_root y.what t.1), l, u.held)) (ltb-true e.place y.place a.1) in
-          (record { held = u.held; wanted = t.1 }, omega (arith, b, behind), u.before);
+          let after : e.past ≤ y.index = later_after nest bytes lists s e y c q (omega (arith, above_held e r, above_held y (attribute_no_root y.what t.1), l, u.held)) (ltb-true e.index y.index a.1) in
+          (record { held = u.held; wanted = t.1 }, omega (arith, b, after), u.before);
       back = λ y q w i t.
-          tell y q ∙ and_from _ _ (and_from (is_one_under z y) (is_attribute_thing y.what) (one_under_back z y level same (attribute_no_root y.what w.wanted) (record { behind = omega (arith, i, b, keep.some, up.behind); before = t; held = w.held })) w.wanted)
-          (lt-ltb e.place y.place (omega (arith, i, b, keep.some)));
+          decide y q ∙ and_from _ _ (and_from (is_one_under z y) (is_attribute_thing y.what) (one_under_back z y level same (attribute_no_root y.what w.wanted) (record { after = omega (arith, i, b, keep.some, up.after); before = t; held = w.held })) w.wanted)
+          (lt-ltb e.index y.index (omega (arith, i, b, keep.some)));
     } in
     let ends : e.past ≤ z.past = nested rs z e level h keep (omega (arith, l)) up.before in
-    let passes : (y : Entry) → Contains es y → P y ≡ true → Passes (is_attribute_part level) rs from y.place = λ y q i j low high.
+    let passes : (y : Entry) → Contains es y → P y ≡ true → Passes (is_attribute_part level) rs from y.index = λ y q i j low high.
     let w = m.out y q i in
-    let all : Passes (is_attribute_part (suc (length z.holders))) rs (z.place + 1) y.place = attributes_pass bytes lists nest s z d tag y q (record { held = w.0.held ∙ mine; wanted = w.0.wanted }) (omega (arith, w.1, b, keep.some, up.behind)) w.2 in
-    ap (λ v. is_attribute_part v (record_at j rs)) mine ∙ all j (omega (arith, low, b, keep.some, up.behind)) high in
+    let all : Passes (is_attribute_part (suc (length z.holders))) rs (z.index + 1) y.index = attributes_pass bytes lists nest s z d tag y q (record { held = w.0.held ∙ mine; wanted = w.0.wanted }) (omega (arith, w.1, b, keep.some, up.after)) w.2 in
+    ap (λ v. is_attribute_part v (record_at j rs)) mine ∙ all j (omega (arith, low, b, keep.some, up.after)) high in
     first_meets P is_attribute_thing (is_attribute_part level) rs es z level from (known bytes lists nest s) h (omega (arith, b, ends)) m (part_low level) passes o f
     ∙ ap first_of (sym (filter_both (λ y. on_axis axes.Attribute z.path y.path) (λ y. before e.path y.path) es))
 
@@ -339,39 +339,39 @@ parent_is bytes lists nest s e c owner p =
     let rs = records nest first in
     let es = nodes_of bytes nest in
     let P : Entry → Bool = λ y. on_axis axes.Parent e.path y.path in
-    let place : (x : Entry) → Contains es x → P x ≡ true → x.place ≡ holder_by_scan e.place rs = λ x d q.
-    eqb-true x.place _ (and_parts (not (is_root_thing e.what)) (x.place == holder_by_scan e.place rs) (sym (parent_of_node nest first n e x c d) ∙ q)).1 in
+    let place : (x : Entry) → Contains es x → P x ≡ true → x.index ≡ holder_by_scan e.index rs = λ x d q.
+    eqb-true x.index _ (and_parts (not (is_root_thing e.what)) (x.index == holder_by_scan e.index rs) (sym (parent_of_node nest first n e x c d) ∙ q)).1 in
     let k = known bytes lists nest s in
-    let same : owner ≡ node_of p.entry = owner_same owner p.entry p.stands.1 p.stands.2 in
-    ap (λ v. Some v) same ∙ sym (first_is P es k.rises p.entry p.stands.0 p.above (λ x d q. omega (arith, place x d q, place p.entry p.stands.0 p.above)))
+    let same : owner ≡ node_of p.entry = owner_same owner p.entry p.holds.1 p.holds.2 in
+    ap (λ v. Some v) same ∙ sym (first_is P es k.rises p.entry p.holds.0 p.above (λ x d q. omega (arith, place x d q, place p.entry p.holds.0 p.above)))
   where
-    owner_same : (owner : Node) (y : Entry) → kind_of y.what ≡ owner.kind → y.place ≡ owner.at → owner ≡ node_of y
+    owner_same : (owner : Node) (y : Entry) → kind_of y.what ≡ owner.kind → y.index ≡ owner.at → owner ≡ node_of y
     owner_same owner y a b = ap₂ node_made (sym a) (sym b)
 
 -- What the calls on neighbours answer, of a node in each nest of its table.
 
-pub parent_found : (bytes : List ℕ) (lists : Lists) (nest : Forest) → IsNestOf bytes lists nest → (kind : Kind) (at : ℕ) (e : Entry) → Stands kind at e (nodes_of bytes nest) → (o : Option Node) → (IsNone o → kind ≡ kinds.Root) →
+pub parent_found : (bytes : List ℕ) (lists : Lists) (nest : Forest) → IsNestOf bytes lists nest → (kind : Kind) (at : ℕ) (e : Entry) → Identifies kind at e (nodes_of bytes nest) → (o : Option Node) → (IsNone o → kind ≡ kinds.Root) →
     IfSome o (λ owner. IsParent (nodes_of bytes nest) e owner) → o ≡ first_of (axis_list axes.Parent e.path (nodes_of bytes nest))
 parent_found bytes lists nest s kind at e w None r p = no_parent bytes lists nest s e w.0 (w.1 ∙ r refl)
 parent_found bytes lists nest s kind at e w (Some owner) r p = parent_is bytes lists nest s e w.0 owner p
 
-pub root_first_child : (bytes : List ℕ) (lists : Lists) (nest : Forest) → IsNestOf bytes lists nest → (kind : Kind) (at : ℕ) (e : Entry) → Stands kind at e (nodes_of bytes nest) → kind ≡ kinds.Root → (o : Option Node) →
+pub root_first_child : (bytes : List ℕ) (lists : Lists) (nest : Forest) → IsNestOf bytes lists nest → (kind : Kind) (at : ℕ) (e : Entry) → Identifies kind at e (nodes_of bytes nest) → kind ≡ kinds.Root → (o : Option Node) →
     FirstFrom (is_within 0) is_child_thing 0 (records nest (first_place bytes)) (nodes_of bytes nest) 1 o → o ≡ first_of (axis_list axes.Child e.path (nodes_of bytes nest))
 root_first_child bytes lists nest s kind at e w k o f =
     let r = kind_root e.what (w.1 ∙ k) in
     first_child_is bytes lists nest s e w.0 0 1 (root_holds bytes lists nest s e w.0 r) (omega (arith, root_first bytes lists nest s e w.0 r)) o f
 
-pub element_first_child : (bytes : List ℕ) (lists : Lists) (nest : Forest) → IsNestOf bytes lists nest → (kind : Kind) (at : ℕ) (e : Entry) → Stands kind at e (nodes_of bytes nest) → kind ≡ kinds.Element → (level from : ℕ) → level ≡ length e.holders → from ≡ at + 1 → (o : Option Node) →
+pub element_first_child : (bytes : List ℕ) (lists : Lists) (nest : Forest) → IsNestOf bytes lists nest → (kind : Kind) (at : ℕ) (e : Entry) → Identifies kind at e (nodes_of bytes nest) → kind ≡ kinds.Element → (level from : ℕ) → level ≡ length e.holders → from ≡ at + 1 → (o : Option Node) →
     FirstFrom (is_within (level + 1)) is_child_thing (level + 1) (records nest (first_place bytes)) (nodes_of bytes nest) from o → o ≡ first_of (axis_list axes.Child e.path (nodes_of bytes nest))
 element_first_child bytes lists nest s kind at e w k level from l b o f =
     let same : suc (length e.holders) ≡ level + 1 = omega (arith, l) in
     first_child_is bytes lists nest s e w.0 (level + 1) from (subst (λ n. Holds (records nest (first_place bytes)) e n) same (element_holds bytes lists nest s e w.0 (w.1 ∙ k))) (omega (arith, b, w.2)) o f
 
-pub root_last_child : (bytes : List ℕ) (lists : Lists) (nest : Forest) → IsNestOf bytes lists nest → (kind : Kind) (at : ℕ) (e : Entry) → Stands kind at e (nodes_of bytes nest) → kind ≡ kinds.Root → (end : ℕ) → end ≡ e.past → (o : Option Node) →
+pub root_last_child : (bytes : List ℕ) (lists : Lists) (nest : Forest) → IsNestOf bytes lists nest → (kind : Kind) (at : ℕ) (e : Entry) → Identifies kind at e (nodes_of bytes nest) → kind ≡ kinds.Root → (end : ℕ) → end ≡ e.past → (o : Option Node) →
     LastBefore (is_within 0) is_child_thing 0 (records nest (first_place bytes)) (nodes_of bytes nest) end o → o ≡ last_of (axis_list axes.Child e.path (nodes_of bytes nest))
 root_last_child bytes lists nest s kind at e w k end b o f = last_child_is bytes lists nest s e w.0 0 end (root_holds bytes lists nest s e w.0 (kind_root e.what (w.1 ∙ k))) b o f
 
-pub element_last_child : (bytes : List ℕ) (lists : Lists) (nest : Forest) → IsNestOf bytes lists nest → (kind : Kind) (at : ℕ) (e : Entry) → Stands kind at e (nodes_of bytes nest) → kind ≡ kinds.Element → (level end : ℕ) → level ≡ length e.holders → end ≡ e.past → (o : Option Node) →
+pub element_last_child : (bytes : List ℕ) (lists : Lists) (nest : Forest) → IsNestOf bytes lists nest → (kind : Kind) (at : ℕ) (e : Entry) → Identifies kind at e (nodes_of bytes nest) → kind ≡ kinds.Element → (level end : ℕ) → level ≡ length e.holders → end ≡ e.past → (o : Option Node) →
     LastBefore (is_within (level + 1)) is_child_thing (level + 1) (records nest (first_place bytes)) (nodes_of bytes nest) end o → o ≡ last_of (axis_list axes.Child e.path (nodes_of bytes nest))
 element_last_child bytes lists nest s kind at e w k level end l b o f =
     let same : suc (length e.holders) ≡ level + 1 = omega (arith, l) in

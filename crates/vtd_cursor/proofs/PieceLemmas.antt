@@ -4,23 +4,23 @@ use Rattle.std.specs.Str.{IsUtf8}
 use Rattle.std.proofs.lemmas.Bool.{cases_lt, false≢true}
 use Rattle.std.proofs.lemmas.Str.{IsUtf8-drop}
 use Rattle.xml_model.specs.Items.{Tag, Item, end_tag, begins_at}
-use Rattle.xml_model.specs.Records.{Token}
+use Rattle.xml_model.specs.Records.{Record}
 use Rattle.xml_model.specs.Tree.{one_if}
 use Rattle.xml_model.specs.Scan.{record_at}
 use Rattle.xml_items.specs.declared.Item.{Item as ItemShown}
 use Rattle.xml_items.specs.declared.ItemKind.{ItemKind}
 use Rattle.xml_items.specs.declared.ItemKind.TheVariants as kinds
 use Rattle.vtd_words.specs.declared.packing.Parts.{Parts}
-use Rattle.vtd_words.specs.Packed.{token_of}
+use Rattle.vtd_words.specs.Packed.{record_of}
 use Rattle.vtd_words.specs.Table.{Shows}
 use Rattle.xml_items.specs.Reading.{tag_item}
 use Rattle.xml_items.specs.Shown.{item_shown, tag_kind, IsItemAt}
 use Rattle.xml_items.proofs.WalkLemmas.{one_item}
-use Rattle.vtd_cursor.specs.Endings.{token_end, ends_tag, is_tag_item, EndTagAt, EndTags, HasTagAt, HasTagOf, IsNearestTag, IsTagOf, IsLastPiece, in_leaf, in_tag, IsEnding}
+use Rattle.vtd_cursor.specs.Endings.{record_end, ends_tag, is_tag_item, EndTagAt, EndTags, HasTagAt, HasTagOf, IsNearestTag, IsTagOf, IsLastPiece, in_leaf, in_tag, IsEnding}
 use Rattle.vtd_cursor.proofs.TagPlaces.{tag_place}
 
--- a starting tag with none behind it up to a record is the nearest
-pub nearest_is : (rs : List Token) (at n m : ℕ) → ((k : ℕ) → n < k → k ≤ at → (record_at k rs).token ≡ 0 → ⊥) → n ≤ at → (record_at n rs).token ≡ 0 → IsNearestTag rs at m → n ≡ m
+-- a starting tag with none after it up to a record is the nearest
+pub nearest_is : (rs : List Record) (at n m : ℕ) → ((k : ℕ) → n < k → k ≤ at → (record_at k rs).token ≡ 0 → ⊥) → n ≤ at → (record_at n rs).token ≡ 0 → IsNearestTag rs at m → n ≡ m
 nearest_is rs at n m none within tag h = elim (cases_lt n m) [
   | inl low ↦ absurd (none m low h.within h.tag)
   | inr high ↦ elim (cases_lt m n) [
@@ -44,14 +44,14 @@ pub end_tag_there : (bytes : List ℕ) (at : ℕ) → EndTagAt bytes at → HasT
 end_tag_there bytes at tag = record { item = end_tag tag.name tag.space; tags = refl; begins = tag.begins }
 
 -- the last of the records so far
-pub ending_last : (bytes : List ℕ) (rs : List Token) (level stop last : ℕ) (h : IsEnding bytes rs level stop (suc last)) → IsLastPiece bytes rs level last h.place h.opened
+pub ending_last : (bytes : List ℕ) (rs : List Record) (level stop last : ℕ) (h : IsEnding bytes rs level stop (suc last)) → IsLastPiece bytes rs level last h.place h.opened
 ending_last bytes rs level stop last h = subst (λ n. IsLastPiece bytes rs level n h.place h.opened) (omega (arith, h.count)) h.piece
 
 -- of a tag that a record is of, the place
-pub tag_found : (bytes : List ℕ) (rs : List Token) (n place first : ℕ) (closed : Bool) (t : Tag) (parts : Parts) → (is : IsTagOf bytes rs n place closed t) → first ≡ is.first → token_of parts ≡ record_at first rs → parts.offset ≡ place + 1
+pub tag_found : (bytes : List ℕ) (rs : List Record) (n place first : ℕ) (closed : Bool) (t : Tag) (parts : Parts) → (is : IsTagOf bytes rs n place closed t) → first ≡ is.first → record_of parts ≡ record_at first rs → parts.offset ≡ place + 1
 tag_found bytes rs n place first closed t parts is f p = ap (λ r. r.offset) p ∙ ap (λ k. (record_at k rs).offset) f ∙ is.offset
 
-pub found_there : (bytes : List ℕ) (rs : List Token) (n place offset : ℕ) (closed : Bool) (t : Tag) → IsTagOf bytes rs n place closed t → offset ≡ place + 1 → HasTagAt bytes (offset - 1)
+pub found_there : (bytes : List ℕ) (rs : List Record) (n place offset : ℕ) (closed : Bool) (t : Tag) → IsTagOf bytes rs n place closed t → offset ≡ place + 1 → HasTagAt bytes (offset - 1)
 found_there bytes rs n place offset closed t is e =
     let before : place ≡ offset - 1 = omega (arith, e) in subst (HasTagAt bytes) before (tag_there bytes place closed t is.begins)
 
@@ -61,19 +61,19 @@ found_shown bytes place offset i found b e f =
 
 -- The last piece, where it is a tag.
 
-abbrev pub FindsTag : List ℕ → List Token → ℕ → ItemShown → Type 0
+abbrev pub FindsTag : List ℕ → List Record → ℕ → ItemShown → Type 0
 FindsTag bytes rs last found = (place : ℕ) (closed : Bool) (t : Tag) → IsTagOf bytes rs last place closed t → found ≡ item_shown place (tag_item closed t)
 
 pub tag_kind_of : (closed : Bool) (place : ℕ) (t : Tag) → (item_shown place (tag_item closed t)).kind ≡ tag_kind closed
 tag_kind_of true place t = refl
 tag_kind_of false place t = refl
 
-pub tag_piece_end : (bytes : List ℕ) (rs : List Token) (level last place opened : ℕ) (parts : Parts) (found : ItemShown) → token_of parts ≡ record_at last rs → ends_tag parts.token ≡ true → FindsTag bytes rs last found →
+pub tag_piece_end : (bytes : List ℕ) (rs : List Record) (level last place opened : ℕ) (parts : Parts) (found : ItemShown) → record_of parts ≡ record_at last rs → ends_tag parts.token ≡ true → FindsTag bytes rs last found →
     IsLastPiece bytes rs level last place opened → found.span.end ≡ place
 tag_piece_end bytes rs level last place opened parts found p e f (in_leaf t q d) = absurd (false≢true (sym t ∙ ap (λ r. ends_tag r.token) (sym p) ∙ e))
 tag_piece_end bytes rs level last place opened parts found p e f (in_tag at closed t k is q d) = ap (λ x. x.span.end) (f at closed t is) ∙ sym q
 
-pub tag_piece_opened : (bytes : List ℕ) (rs : List Token) (level last place opened : ℕ) (parts : Parts) (found : ItemShown) (b : Bool) → token_of parts ≡ record_at last rs → ends_tag parts.token ≡ true → FindsTag bytes rs last found →
+pub tag_piece_opened : (bytes : List ℕ) (rs : List Record) (level last place opened : ℕ) (parts : Parts) (found : ItemShown) (b : Bool) → record_of parts ≡ record_at last rs → ends_tag parts.token ≡ true → FindsTag bytes rs last found →
     ((c : Bool) → found.kind ≡ tag_kind c → c ≡ b) → IsLastPiece bytes rs level last place opened → parts.depth + one_if (not b) ≡ level + opened
 tag_piece_opened bytes rs level last place opened parts found b p e f k (in_leaf t q d) = absurd (false≢true (sym t ∙ ap (λ r. ends_tag r.token) (sym p) ∙ e))
 tag_piece_opened bytes rs level last place opened parts found b p e f k (in_tag at closed t h is q d) =
@@ -88,15 +88,15 @@ pub start_kind : (kind : ItemKind) (c : Bool) → (kind ≡ kinds.EmptyTag → �
 start_kind kind true e h = absurd (e h)
 start_kind kind false e h = refl
 
-pub leaf_piece_end : (bytes : List ℕ) (rs : List Token) (level last place opened : ℕ) (parts : Parts) → token_of parts ≡ record_at last rs → ends_tag parts.token ≡ false → IsLastPiece bytes rs level last place opened → token_end (token_of parts) ≡ place
-leaf_piece_end bytes rs level last place opened parts p e (in_leaf t q d) = ap token_end p ∙ sym q
+pub leaf_piece_end : (bytes : List ℕ) (rs : List Record) (level last place opened : ℕ) (parts : Parts) → record_of parts ≡ record_at last rs → ends_tag parts.token ≡ false → IsLastPiece bytes rs level last place opened → record_end (record_of parts) ≡ place
+leaf_piece_end bytes rs level last place opened parts p e (in_leaf t q d) = ap record_end p ∙ sym q
 leaf_piece_end bytes rs level last place opened parts p e (in_tag at closed t k is q d) = absurd (false≢true (sym e ∙ ap (λ r. ends_tag r.token) p ∙ k))
 
-pub leaf_piece_opened : (bytes : List ℕ) (rs : List Token) (level last place opened : ℕ) (parts : Parts) → token_of parts ≡ record_at last rs → ends_tag parts.token ≡ false → IsLastPiece bytes rs level last place opened → parts.depth + 1 ≡ level + opened
+pub leaf_piece_opened : (bytes : List ℕ) (rs : List Record) (level last place opened : ℕ) (parts : Parts) → record_of parts ≡ record_at last rs → ends_tag parts.token ≡ false → IsLastPiece bytes rs level last place opened → parts.depth + 1 ≡ level + opened
 leaf_piece_opened bytes rs level last place opened parts p e (in_leaf t q d) = ap (λ r. r.depth + 1) p ∙ d
 leaf_piece_opened bytes rs level last place opened parts p e (in_tag at closed t k is q d) = absurd (false≢true (sym e ∙ ap (λ r. ends_tag r.token) p ∙ k))
 
-pub tag_piece_has : (bytes words : List ℕ) (rs : List Token) (level last place opened : ℕ) (parts : Parts) → Shows words rs → token_of parts ≡ record_at last rs → ends_tag parts.token ≡ true → IsLastPiece bytes rs level last place opened → HasTagOf bytes words last
+pub tag_piece_has : (bytes words : List ℕ) (rs : List Record) (level last place opened : ℕ) (parts : Parts) → Shows words rs → record_of parts ≡ record_at last rs → ends_tag parts.token ≡ true → IsLastPiece bytes rs level last place opened → HasTagOf bytes words last
 tag_piece_has bytes words rs level last place opened parts s p e (in_leaf t q d) = absurd (false≢true (sym t ∙ ap (λ r. ends_tag r.token) (sym p) ∙ e))
 tag_piece_has bytes words rs level last place opened parts s p e (in_tag at closed t k is q d) = record { rs = rs; shows = s; at = at; closed = closed; tag = t; is = is }
 

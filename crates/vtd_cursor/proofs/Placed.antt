@@ -1,4 +1,4 @@
--- The pieces of a document stand in its bytes one behind another, and in an element stands content alone.
+-- The pieces of a document are in its bytes one after another, and in an element is content alone.
 use Rattle.std.proofs.Common.{◌≡◌, ℕ, suc, Bool, true, ◌&&◌, List, [], ◌∷◌, ◌++◌, length, refl, ap, sym, ◌∙◌, append_assoc, append-nil, ⊎_elim, nat_le, ◌==◌, eqb-true}
 use Rattle.std.specs.Prelude.{⊤}
 use Rattle.std.proofs.lemmas.Bool.{and_parts, or_cases, false≢true}
@@ -12,7 +12,7 @@ use Rattle.vtd_words.proofs.Fitting.{past_items}
 abbrev pub any_leaf : Leaf → Bool
 any_leaf x = true
 
--- the leaves of a list pass a test, and what stands in its elements is content
+-- the leaves of a list pass a test, and what is in its elements is content
 abbrev pub Fit : (Leaf → Bool) → Forest → Type 0
 Fit may done = ⊤
 Fit may (single x f) = (may x ≡ true) × Fit may f
@@ -57,7 +57,7 @@ nest_fits (single x f) h = ⊎_elim (λ k. (refl, head_fits f (and_parts (is_dec
 nest_fits (empty t f) h = head_fits (empty t f) h
 nest_fits (element t inside space f) h = head_fits (element t inside space f) h
 
--- the tags of a list of pieces stand in the bytes, from a place on; and its leaves pass a test
+-- the tags of a list of pieces are in the bytes, from a place on; and its leaves pass a test
 abbrev pub Placed : (Leaf → Bool) → List ℕ → ℕ → Forest → Type 0
 Placed may bytes at done = ⊤
 Placed may bytes at (single x f) = (may x ≡ true) × Placed may bytes (past_leaf at x) f
@@ -78,9 +78,9 @@ placed (empty t f) may bytes at js fit w =
     ((p.0, r.0), r.1)
 placed (element t inside space f) may bytes at js fit w =
     let p = and_parts (begins_at bytes at (start_tag t)) _ w in
-    let behind = end_tag t.name space ∷ flat f in
-    let q : walk_from bytes (past_start at t) (flat inside ++ (behind ++ js)) ≡ true = ap (walk_from bytes (past_start at t)) (sym (append_assoc (flat inside) behind js)) ∙ p.1 in
-    let i = placed inside is_content_leaf bytes (past_start at t) (behind ++ js) fit.0 q in
+    let after = end_tag t.name space ∷ flat f in
+    let q : walk_from bytes (past_start at t) (flat inside ++ (after ++ js)) ≡ true = ap (walk_from bytes (past_start at t)) (sym (append_assoc (flat inside) after js)) ∙ p.1 in
+    let i = placed inside is_content_leaf bytes (past_start at t) (after ++ js) fit.0 q in
     let e = and_parts (begins_at bytes (past_forest (past_start at t) inside) (end_tag t.name space)) _ i.1 in
     let r = placed f may bytes (past_element at t inside space) js fit.1 e.1 in
     ((p.0, i.0, e.0, r.0), r.1)

@@ -8,14 +8,14 @@ use Rattle.xml_model.specs.declared.Kind.TheVariants as kinds
 use Rattle.xml_model.specs.declared.Node.{Node}
 use Rattle.xml_model.specs.Items.{first_place}
 use Rattle.xml_model.specs.Nest.{Forest}
-use Rattle.xml_model.specs.Records.{Token, records}
-use Rattle.xml_model.specs.Tree.{Thing, Entry, at_place, kind_of}
+use Rattle.xml_model.specs.Records.{Record, records}
+use Rattle.xml_model.specs.Tree.{Thing, Entry, at_index, kind_of}
 use Rattle.xml_model.specs.Scan.{level_of, record_at, kind_of_token, is_text_token}
 use Rattle.xml_model.specs.Laws.{FirstRecordShows, is_attribute_thing, is_child_thing}
 use Rattle.xml_model.proofs.NodeLaws.{first_record_of_node}
 use Rattle.vtd_words.specs.declared.packing.Parts.{Parts}
 use Rattle.vtd_words.specs.Lists.{Lists}
-use Rattle.vtd_words.specs.Packed.{token_of}
+use Rattle.vtd_words.specs.Packed.{record_of}
 use Rattle.vtd_cursor.proofs.SpanLemmas.{PartsAt}
 use Rattle.vtd_words.specs.Table.{IsNestOf, node_of, nodes_of}
 use Rattle.vtd_words.proofs.Fitting.{nest_shown}
@@ -24,58 +24,58 @@ use Rattle.vtd_cursor.specs.Searches.{is_child_kind, is_within, is_attribute_par
 
 -- Nodes by the index of their first record.
 
-has_place : (n : ℕ) (es : List Entry) (e : Entry) → Contains es e → e.place ≡ n → is_some (find (λ x. x.place == n) es) ≡ true
+has_place : (n : ℕ) (es : List Entry) (e : Entry) → Contains es e → e.index ≡ n → is_some (find (λ x. x.index == n) es) ≡ true
 has_place n [] e c h = absurd (omega (arith, c.1))
-has_place n (x ∷ es) e (zero, l, s) h = ap (λ b. is_some (cond b (Some x) (find (λ x. x.place == n) es))) (eq-eqb x.place n (ap (λ y. y.place) s ∙ h))
-has_place n (x ∷ es) e (suc k, l, s) h = either (x.place == n) (has_place n es e (k, omega (arith, l), s) h)
+has_place n (x ∷ es) e (zero, l, s) h = ap (λ b. is_some (cond b (Some x) (find (λ x. x.index == n) es))) (eq-eqb x.index n (ap (λ y. y.index) s ∙ h))
+has_place n (x ∷ es) e (suc k, l, s) h = either (x.index == n) (has_place n es e (k, omega (arith, l), s) h)
   where
-    either : (b : Bool) → is_some (find (λ x. x.place == n) es) ≡ true → is_some (cond b (Some x) (find (λ x. x.place == n) es)) ≡ true
+    either : (b : Bool) → is_some (find (λ x. x.index == n) es) ≡ true → is_some (cond b (Some x) (find (λ x. x.index == n) es)) ≡ true
     either true r = refl
     either false r = r
 
-there : (n : ℕ) (es : List Entry) (e : Entry) → Contains es e → e.place ≡ n → is_some (at_place n es) ≡ true
-unfolding at_place
+there : (n : ℕ) (es : List Entry) (e : Entry) → Contains es e → e.index ≡ n → is_some (at_index n es) ≡ true
+unfolding at_index
 there n es e c h = has_place n es e c h
 
-find_contains : (n : ℕ) (es : List Entry) (e : Entry) → find (λ x. x.place == n) es ≡ Some e → Contains es e × (e.place ≡ n)
+find_contains : (n : ℕ) (es : List Entry) (e : Entry) → find (λ x. x.index == n) es ≡ Some e → Contains es e × (e.index ≡ n)
 find_contains n [] e k = absurd (none-some _ k)
-find_contains n (x ∷ es) e k = by (x.place == n) refl k (λ g. find_contains n es e g)
+find_contains n (x ∷ es) e k = by (x.index == n) refl k (λ g. find_contains n es e g)
   where
-    by : (b : Bool) → (x.place == n) ≡ b → cond b (Some x) (find (λ x. x.place == n) es) ≡ Some e → (find (λ x. x.place == n) es ≡ Some e → Contains es e × (e.place ≡ n)) → Contains (x ∷ es) e × (e.place ≡ n)
+    by : (b : Bool) → (x.index == n) ≡ b → cond b (Some x) (find (λ x. x.index == n) es) ≡ Some e → (find (λ x. x.index == n) es ≡ Some e → Contains es e × (e.index ≡ n)) → Contains (x ∷ es) e × (e.index ≡ n)
     by true t k rec =
         let same : x ≡ e = cc in
-        let place : e.place ≡ n = ap (λ y. y.place) (sym same) ∙ eqb-true x.place n t in
+        let place : e.index ≡ n = ap (λ y. y.index) (sym same) ∙ eqb-true x.index n t in
         ((0, (omega arith), same), place)
     by false t k rec =
         let r = rec k in
         ((suc r.0.0, omega (arith, r.0.1), r.0.2), r.1)
 
-place_found : (n : ℕ) (es : List Entry) (e : Entry) → at_place n es ≡ Some e → Contains es e × (e.place ≡ n)
-unfolding at_place
+place_found : (n : ℕ) (es : List Entry) (e : Entry) → at_index n es ≡ Some e → Contains es e × (e.index ≡ n)
+unfolding at_index
 place_found n es e h = find_contains n es e h
 
 none_there : (o : Option Entry) → None ≡ option_map node_of o → is_some o ≡ true → ⊥
 none_there None h k = false≢true k
 none_there (Some e) h k = none-some _ h
 
-pub none_at : (want : Thing → Bool) (es : List Entry) (at : ℕ) → None ≡ option_map node_of (at_place at es) → NodeAt want es at None
-none_at want es at h = λ x c w p. none_there (at_place at es) h (there at es x c p)
+pub none_at : (want : Thing → Bool) (es : List Entry) (at : ℕ) → None ≡ option_map node_of (at_index at es) → NodeAt want es at None
+none_at want es at h = λ x c w p. none_there (at_index at es) h (there at es x c p)
 
 record NodeThere (es : List Entry) (at : ℕ) (node : Node) : Type 0 where
   entry : Entry
   contains : Contains es entry
   shown : node ≡ node_of entry
-  place : entry.place ≡ at
+  index : entry.index ≡ at
 
-some_there : (es : List Entry) (at : ℕ) (node : Node) (o : Option Entry) → at_place at es ≡ o → Some node ≡ option_map node_of o → NodeThere es at node
+some_there : (es : List Entry) (at : ℕ) (node : Node) (o : Option Entry) → at_index at es ≡ o → Some node ≡ option_map node_of o → NodeThere es at node
 some_there es at node None e h = absurd (none-some _ (sym h))
-some_there es at node (Some x) e h = let f = place_found at es x e in record { entry = x; contains = f.0; shown = cc; place = f.1 }
+some_there es at node (Some x) e h = let f = place_found at es x e in record { entry = x; contains = f.0; shown = cc; index = f.1 }
 
 kinds_same : (j k : Kind) → Some j ≡ Some k → j ≡ k
 kinds_same j k h = cc
 
 -- two nodes at one place are of one kind
-pub one_kind : (bytes : List ℕ) (lists : Lists) (nest : Forest) → IsNestOf bytes lists nest → (x y : Entry) → Contains (nodes_of bytes nest) x → Contains (nodes_of bytes nest) y → x.place ≡ y.place → kind_of x.what ≡ kind_of y.what
+pub one_kind : (bytes : List ℕ) (lists : Lists) (nest : Forest) → IsNestOf bytes lists nest → (x y : Entry) → Contains (nodes_of bytes nest) x → Contains (nodes_of bytes nest) y → x.index ≡ y.index → kind_of x.what ≡ kind_of y.what
 one_kind bytes lists nest s x y c d p =
     let first = first_place bytes in
     let rs = records nest first in
@@ -109,17 +109,17 @@ attribute_kind (Thing.comment cs) h = absurd (false≢true h)
 attribute_kind (Thing.instruction i) h = absurd (false≢true h)
 
 -- a node that was found is wanted, or it is not
-pub wanted_at : (want : Thing → Bool) (es : List Entry) (at : ℕ) (node : Node) → Some node ≡ option_map node_of (at_place at es) → ((what : Thing) → kind_of what ≡ node.kind → want what ≡ true) → NodeAt want es at (Some node)
+pub wanted_at : (want : Thing → Bool) (es : List Entry) (at : ℕ) (node : Node) → Some node ≡ option_map node_of (at_index at es) → ((what : Thing) → kind_of what ≡ node.kind → want what ≡ true) → NodeAt want es at (Some node)
 wanted_at want es at node h w =
-    let n = some_there es at node (at_place at es) refl h in
-    record { entry = n.entry; there = n.contains; shown = n.shown; place = n.place; wanted = w n.entry.what (sym (ap (λ k. k.kind) n.shown)) }
+    let n = some_there es at node (at_index at es) refl h in
+    record { entry = n.entry; there = n.contains; shown = n.shown; index = n.index; wanted = w n.entry.what (sym (ap (λ k. k.kind) n.shown)) }
 
-pub unwanted_at : (bytes : List ℕ) (lists : Lists) (nest : Forest) → IsNestOf bytes lists nest → (want : Thing → Bool) (at : ℕ) (node : Node) → Some node ≡ option_map node_of (at_place at (nodes_of bytes nest)) →
+pub unwanted_at : (bytes : List ℕ) (lists : Lists) (nest : Forest) → IsNestOf bytes lists nest → (want : Thing → Bool) (at : ℕ) (node : Node) → Some node ≡ option_map node_of (at_index at (nodes_of bytes nest)) →
     ((what : Thing) → kind_of what ≡ node.kind → want what ≡ true → ⊥) → NodeAt want (nodes_of bytes nest) at None
 unwanted_at bytes lists nest s want at node h w = λ x c t p.
     let es = nodes_of bytes nest in
-    let n = some_there es at node (at_place at es) refl h in
-    w x.what (one_kind bytes lists nest s x n.entry c n.contains (p ∙ sym n.place) ∙ sym (ap (λ k. k.kind) n.shown)) t
+    let n = some_there es at node (at_index at es) refl h in
+    w x.what (one_kind bytes lists nest s x n.entry c n.contains (p ∙ sym n.index) ∙ sym (ap (λ k. k.kind) n.shown)) t
 
 pub child_wanted : (kind : Kind) → is_child_kind kind ≡ true → (what : Thing) → kind_of what ≡ kind → is_child_thing what ≡ true
 child_wanted kind h what e = child_kind what ∙ ap is_child_kind e ∙ h
@@ -135,116 +135,116 @@ attribute_unwanted kind h what e t = h (sym e ∙ attribute_kind what t)
 
 -- What the records passed so far leave.
 
-pub record PassedFrom (pass : Token → Bool) (want : Thing → Bool) (level : ℕ) (rs : List Token) (es : List Entry) (from at : ℕ) : Type 0 where
+pub record PassedFrom (pass : Record → Bool) (want : Thing → Bool) (level : ℕ) (rs : List Record) (es : List Entry) (from at : ℕ) : Type 0 where
   pub passes : Passes pass rs from at
-  pub none : (x : Entry) → Contains es x → IsWanted want level x → from ≤ x.place → x.place < at → ⊥
+  pub none : (x : Entry) → Contains es x → IsWanted want level x → from ≤ x.index → x.index < at → ⊥
 
-pub record PassedBefore (pass : Token → Bool) (want : Thing → Bool) (level : ℕ) (rs : List Token) (es : List Entry) (end at : ℕ) : Type 0 where
+pub record PassedBefore (pass : Record → Bool) (want : Thing → Bool) (level : ℕ) (rs : List Record) (es : List Entry) (end at : ℕ) : Type 0 where
   pub passes : Passes pass rs at end
-  pub none : (x : Entry) → Contains es x → IsWanted want level x → at ≤ x.place → x.place < end → ⊥
+  pub none : (x : Entry) → Contains es x → IsWanted want level x → at ≤ x.index → x.index < end → ⊥
 
--- no wanted node stands at an index
+-- no wanted node is at an index
 abbrev pub NoneAt : (Thing → Bool) → ℕ → List Entry → ℕ → Type 0
-NoneAt want level es at = (x : Entry) → Contains es x → IsWanted want level x → x.place ≡ at → ⊥
+NoneAt want level es at = (x : Entry) → Contains es x → IsWanted want level x → x.index ≡ at → ⊥
 
 -- the first record of a wanted node passes
-abbrev pub WantedPass : (Token → Bool) → (Thing → Bool) → ℕ → List Token → List Entry → Type 0
-WantedPass pass want level rs es = (x : Entry) → Contains es x → IsWanted want level x → pass (record_at x.place rs) ≡ true
+abbrev pub WantedPass : (Record → Bool) → (Thing → Bool) → ℕ → List Record → List Entry → Type 0
+WantedPass pass want level rs es = (x : Entry) → Contains es x → IsWanted want level x → pass (record_at x.index rs) ≡ true
 
-pub start_from : (pass : Token → Bool) (want : Thing → Bool) (level : ℕ) (rs : List Token) (es : List Entry) (from : ℕ) → PassedFrom pass want level rs es from from
+pub start_from : (pass : Record → Bool) (want : Thing → Bool) (level : ℕ) (rs : List Record) (es : List Entry) (from : ℕ) → PassedFrom pass want level rs es from from
 start_from pass want level rs es from = record { passes = λ k l h. absurd (omega (arith, l, h)); none = λ x c w l h. omega (arith, l, h) }
 
-pub start_before : (pass : Token → Bool) (want : Thing → Bool) (level : ℕ) (rs : List Token) (es : List Entry) (end : ℕ) → PassedBefore pass want level rs es end end
+pub start_before : (pass : Record → Bool) (want : Thing → Bool) (level : ℕ) (rs : List Record) (es : List Entry) (end : ℕ) → PassedBefore pass want level rs es end end
 start_before pass want level rs es end = record { passes = λ k l h. absurd (omega (arith, l, h)); none = λ x c w l h. omega (arith, l, h) }
 
-pub on_from : (pass : Token → Bool) (want : Thing → Bool) (level : ℕ) (rs : List Token) (es : List Entry) (from at : ℕ) → PassedFrom pass want level rs es from at → pass (record_at at rs) ≡ true → NoneAt want level es at →
+pub on_from : (pass : Record → Bool) (want : Thing → Bool) (level : ℕ) (rs : List Record) (es : List Entry) (from at : ℕ) → PassedFrom pass want level rs es from at → pass (record_at at rs) ≡ true → NoneAt want level es at →
     PassedFrom pass want level rs es from (at + 1)
 on_from pass want level rs es from at p r n = record {
   passes = λ k l h. elim (cases_lt k at) [
     | inl low ↦ p.passes k l low
     | inr high ↦ let same : at ≡ k = omega (arith, high, h) in subst (λ j. pass (record_at j rs) ≡ true) same r
   ];
-  none = λ x c w l h. elim (cases_lt x.place at) [
+  none = λ x c w l h. elim (cases_lt x.index at) [
     | inl low ↦ p.none x c w l low
     | inr high ↦ n x c w (omega (arith, high, h))
   ];
 }
 
-pub on_before : (pass : Token → Bool) (want : Thing → Bool) (level : ℕ) (rs : List Token) (es : List Entry) (end at : ℕ) → PassedBefore pass want level rs es end (at + 1) → pass (record_at at rs) ≡ true → NoneAt want level es at →
+pub on_before : (pass : Record → Bool) (want : Thing → Bool) (level : ℕ) (rs : List Record) (es : List Entry) (end at : ℕ) → PassedBefore pass want level rs es end (at + 1) → pass (record_at at rs) ≡ true → NoneAt want level es at →
     PassedBefore pass want level rs es end at
 on_before pass want level rs es end at p r n = record {
   passes = λ k l h. elim (cases_lt at k) [
     | inl low ↦ p.passes k (omega (arith, low)) h
     | inr high ↦ let same : at ≡ k = omega (arith, high, l) in subst (λ j. pass (record_at j rs) ≡ true) same r
   ];
-  none = λ x c w l h. elim (cases_lt at x.place) [
+  none = λ x c w l h. elim (cases_lt at x.index) [
     | inl low ↦ p.none x c w (omega (arith, low)) h
     | inr high ↦ n x c w (omega (arith, high, l))
   ];
 }
 
 -- the walk stops at a record that does not pass
-pub stop_from : (pass : Token → Bool) (want : Thing → Bool) (level : ℕ) (rs : List Token) (es : List Entry) (from at : ℕ) → from ≤ at → PassedFrom pass want level rs es from at → WantedPass pass want level rs es → pass (record_at at rs) ≡ false →
+pub stop_from : (pass : Record → Bool) (want : Thing → Bool) (level : ℕ) (rs : List Record) (es : List Entry) (from at : ℕ) → from ≤ at → PassedFrom pass want level rs es from at → WantedPass pass want level rs es → pass (record_at at rs) ≡ false →
     FirstFrom pass want level rs es from None
-stop_from pass want level rs es from at f p q r = λ x c w l h. elim (cases_lt x.place at) [
+stop_from pass want level rs es from at f p q r = λ x c w l h. elim (cases_lt x.index at) [
   | inl low ↦ p.none x c w l low
-  | inr high ↦ elim (cases_lt at x.place) [
+  | inr high ↦ elim (cases_lt at x.index) [
     | inl later ↦ false≢true (sym r ∙ h at f later)
-    | inr here ↦ let same : x.place ≡ at = omega (arith, high, here) in false≢true (sym r ∙ ap (λ k. pass (record_at k rs)) (sym same) ∙ q x c w)
+    | inr here ↦ let same : x.index ≡ at = omega (arith, high, here) in false≢true (sym r ∙ ap (λ k. pass (record_at k rs)) (sym same) ∙ q x c w)
   ]
 ]
 
-pub stop_before : (pass : Token → Bool) (want : Thing → Bool) (level : ℕ) (rs : List Token) (es : List Entry) (end at : ℕ) → at < end → PassedBefore pass want level rs es end (at + 1) → WantedPass pass want level rs es → pass (record_at at rs) ≡ false →
+pub stop_before : (pass : Record → Bool) (want : Thing → Bool) (level : ℕ) (rs : List Record) (es : List Entry) (end at : ℕ) → at < end → PassedBefore pass want level rs es end (at + 1) → WantedPass pass want level rs es → pass (record_at at rs) ≡ false →
     LastBefore pass want level rs es end None
-stop_before pass want level rs es end at f p q r = λ x c w l h. elim (cases_lt at x.place) [
+stop_before pass want level rs es end at f p q r = λ x c w l h. elim (cases_lt at x.index) [
   | inl later ↦ p.none x c w (omega (arith, later)) l
-  | inr low ↦ elim (cases_lt x.place at) [
+  | inr low ↦ elim (cases_lt x.index at) [
     | inl before ↦ false≢true (sym r ∙ h at before f)
-    | inr here ↦ let same : x.place ≡ at = omega (arith, low, here) in false≢true (sym r ∙ ap (λ k. pass (record_at k rs)) (sym same) ∙ q x c w)
+    | inr here ↦ let same : x.index ≡ at = omega (arith, low, here) in false≢true (sym r ∙ ap (λ k. pass (record_at k rs)) (sym same) ∙ q x c w)
   ]
 ]
 
 -- the walk comes to its end
-pub end_from_there : (pass : Token → Bool) (want : Thing → Bool) (level : ℕ) (rs : List Token) (es : List Entry) (from at : ℕ) → PassedFrom pass want level rs es from at → ((x : Entry) → Contains es x → x.place < at) → FirstFrom pass want level rs es from None
+pub end_from_there : (pass : Record → Bool) (want : Thing → Bool) (level : ℕ) (rs : List Record) (es : List Entry) (from at : ℕ) → PassedFrom pass want level rs es from at → ((x : Entry) → Contains es x → x.index < at) → FirstFrom pass want level rs es from None
 end_from_there pass want level rs es from at p b = λ x c w l h. p.none x c w l (b x c)
 
 -- the walk finds a node
-pub found_from : (pass : Token → Bool) (want : Thing → Bool) (level : ℕ) (rs : List Token) (es : List Entry) (from at : ℕ) (node : Node) → from ≤ at → PassedFrom pass want level rs es from at →
-    ((x : Entry) → Contains es x → level_of (record_at x.place rs) ≡ length x.holders) → level_of (record_at at rs) ≡ level → NodeAt want es at (Some node) → FirstFrom pass want level rs es from (Some node)
+pub found_from : (pass : Record → Bool) (want : Thing → Bool) (level : ℕ) (rs : List Record) (es : List Entry) (from at : ℕ) (node : Node) → from ≤ at → PassedFrom pass want level rs es from at →
+    ((x : Entry) → Contains es x → level_of (record_at x.index rs) ≡ length x.holders) → level_of (record_at at rs) ≡ level → NodeAt want es at (Some node) → FirstFrom pass want level rs es from (Some node)
 found_from pass want level rs es from at node f p s l n = record {
   entry = n.entry;
   there = n.there;
   shown = n.shown;
-  is = record { held = sym (s n.entry n.there) ∙ ap (λ k. level_of (record_at k rs)) n.place ∙ l; wanted = n.wanted };
-  behind = omega (arith, f, n.place);
-  passes = λ k a b. p.passes k a (omega (arith, b, n.place));
-  least = λ x c w a. elim (cases_lt x.place at) [
+  is = record { held = sym (s n.entry n.there) ∙ ap (λ k. level_of (record_at k rs)) n.index ∙ l; wanted = n.wanted };
+  after = omega (arith, f, n.index);
+  passes = λ k a b. p.passes k a (omega (arith, b, n.index));
+  least = λ x c w a. elim (cases_lt x.index at) [
     | inl low ↦ absurd (p.none x c w a low)
-    | inr high ↦ omega (arith, high, n.place)
+    | inr high ↦ omega (arith, high, n.index)
   ];
 }
 
-pub found_before : (pass : Token → Bool) (want : Thing → Bool) (level : ℕ) (rs : List Token) (es : List Entry) (end at : ℕ) (node : Node) → at < end → PassedBefore pass want level rs es end (at + 1) →
-    ((x : Entry) → Contains es x → level_of (record_at x.place rs) ≡ length x.holders) → level_of (record_at at rs) ≡ level → NodeAt want es at (Some node) → LastBefore pass want level rs es end (Some node)
+pub found_before : (pass : Record → Bool) (want : Thing → Bool) (level : ℕ) (rs : List Record) (es : List Entry) (end at : ℕ) (node : Node) → at < end → PassedBefore pass want level rs es end (at + 1) →
+    ((x : Entry) → Contains es x → level_of (record_at x.index rs) ≡ length x.holders) → level_of (record_at at rs) ≡ level → NodeAt want es at (Some node) → LastBefore pass want level rs es end (Some node)
 found_before pass want level rs es end at node f p s l n = record {
   entry = n.entry;
   there = n.there;
   shown = n.shown;
-  is = record { held = sym (s n.entry n.there) ∙ ap (λ k. level_of (record_at k rs)) n.place ∙ l; wanted = n.wanted };
-  before = omega (arith, f, n.place);
-  passes = λ k a b. p.passes k (omega (arith, a, n.place)) b;
-  greatest = λ x c w a. elim (cases_lt at x.place) [
+  is = record { held = sym (s n.entry n.there) ∙ ap (λ k. level_of (record_at k rs)) n.index ∙ l; wanted = n.wanted };
+  before = omega (arith, f, n.index);
+  passes = λ k a b. p.passes k (omega (arith, a, n.index)) b;
+  greatest = λ x c w a. elim (cases_lt at x.index) [
     | inl high ↦ absurd (p.none x c w (omega (arith, high)) a)
-    | inr low ↦ omega (arith, low, n.place)
+    | inr low ↦ omega (arith, low, n.index)
   ];
 }
 
 -- The walks over a table.
 
-pub levels_shown : (bytes : List ℕ) (lists : Lists) (nest : Forest) → IsNestOf bytes lists nest → (x : Entry) → Contains (nodes_of bytes nest) x → level_of (record_at x.place (records nest (first_place bytes))) ≡ length x.holders
+pub levels_shown : (bytes : List ℕ) (lists : Lists) (nest : Forest) → IsNestOf bytes lists nest → (x : Entry) → Contains (nodes_of bytes nest) x → level_of (record_at x.index (records nest (first_place bytes))) ≡ length x.holders
 levels_shown bytes lists nest s x c = let f : FirstRecordShows (records nest (first_place bytes)) x = first_record_of_node nest (first_place bytes) s.accepted.document.nests x c in f.level
 
-pub places_within : (bytes : List ℕ) (lists : Lists) → length bytes < 2 ^ 30 → (nest : Forest) → IsNestOf bytes lists nest → (at : ℕ) → length lists.records ≤ at → (x : Entry) → Contains (nodes_of bytes nest) x → x.place < at
+pub places_within : (bytes : List ℕ) (lists : Lists) → length bytes < 2 ^ 30 → (nest : Forest) → IsNestOf bytes lists nest → (at : ℕ) → length lists.records ≤ at → (x : Entry) → Contains (nodes_of bytes nest) x → x.index < at
 places_within bytes lists few nest s at h x c =
     let rs = records nest (first_place bytes) in
     let f : FirstRecordShows rs x = first_record_of_node nest (first_place bytes) s.accepted.document.nests x c in
@@ -258,7 +258,7 @@ higher_passes bytes nest level found at e h = le-leb level (level_of (record_at 
 
 pub child_pass : (bytes : List ℕ) (lists : Lists) (nest : Forest) → IsNestOf bytes lists nest → (level : ℕ) → WantedPass (is_within level) is_child_thing level (records nest (first_place bytes)) (nodes_of bytes nest)
 child_pass bytes lists nest s level x c w =
-    higher_passes bytes nest level (length x.holders) x.place (sym (levels_shown bytes lists nest s x c)) (omega (arith, w.held))
+    higher_passes bytes nest level (length x.holders) x.index (sym (levels_shown bytes lists nest s x c)) (omega (arith, w.held))
 
 pub attribute_token : (n : ℕ) → kind_of_token n ≡ Some kinds.Attribute → n ≡ 2
 attribute_token n h = by (n == 13) (n == 0) (n == 2) refl h
@@ -279,7 +279,7 @@ pub attribute_pass : (bytes : List ℕ) (lists : Lists) (nest : Forest) → IsNe
 attribute_pass bytes lists nest s level x c w =
     let rs = records nest (first_place bytes) in
     let f : FirstRecordShows rs x = first_record_of_node nest (first_place bytes) s.accepted.document.nests x c in
-    let token : (record_at x.place rs).token ≡ 2 = attribute_token _ (f.kind ∙ ap (λ k. Some k) (attribute_kind x.what w.wanted)) in
+    let token : (record_at x.index rs).token ≡ 2 = attribute_token _ (f.kind ∙ ap (λ k. Some k) (attribute_kind x.what w.wanted)) in
     ap₂ (λ b d. b && d) (ap (λ t. t == 2 || t == 3 || t == 4) token) (eq-eqb _ level (f.level ∙ w.held))
 
 pub other_level : (bytes : List ℕ) (lists : Lists) (nest : Forest) → IsNestOf bytes lists nest → (want : Thing → Bool) (level found at : ℕ) → found ≡ level_of (record_at at (records nest (first_place bytes))) → (found ≡ level → ⊥) →
@@ -287,10 +287,10 @@ pub other_level : (bytes : List ℕ) (lists : Lists) (nest : Forest) → IsNestO
 other_level bytes lists nest s want level found at f n = λ x c w p.
     n (f ∙ ap (λ k. level_of (record_at k (records nest (first_place bytes)))) (sym p) ∙ levels_shown bytes lists nest s x c ∙ w.held)
 
-pub record_shown : (bytes : List ℕ) (lists : Lists) → length bytes < 2 ^ 30 → (at : ℕ) (parts : Parts) → PartsAt lists at parts → (nest : Forest) → IsNestOf bytes lists nest → token_of parts ≡ record_at at (records nest (first_place bytes))
+pub record_shown : (bytes : List ℕ) (lists : Lists) → length bytes < 2 ^ 30 → (at : ℕ) (parts : Parts) → PartsAt lists at parts → (nest : Forest) → IsNestOf bytes lists nest → record_of parts ≡ record_at at (records nest (first_place bytes))
 record_shown bytes lists few at parts p nest s = p (records nest (first_place bytes)) (nest_shown bytes lists nest few s)
 
-pub level_shown : (bytes : List ℕ) (lists : Lists) → length bytes < 2 ^ 30 → (at found : ℕ) (parts : Parts) → PartsAt lists at parts → found ≡ level_of (token_of parts) → (nest : Forest) → IsNestOf bytes lists nest →
+pub level_shown : (bytes : List ℕ) (lists : Lists) → length bytes < 2 ^ 30 → (at found : ℕ) (parts : Parts) → PartsAt lists at parts → found ≡ level_of (record_of parts) → (nest : Forest) → IsNestOf bytes lists nest →
     found ≡ level_of (record_at at (records nest (first_place bytes)))
 level_shown bytes lists few at found parts p e nest s = e ∙ ap level_of (record_shown bytes lists few at parts p nest s)
 
@@ -301,7 +301,7 @@ this_level want level found es at (Some node) e n = (e, n)
 pub none_of_level : (want : Thing → Bool) (level : ℕ) (es : List Entry) (at : ℕ) → NodeAt want es at None → NoneAt want level es at
 none_of_level want level es at n = λ x c w p. n x c w.wanted p
 
-attribute_level : (level : ℕ) (r : Token) → is_attribute_part level r ≡ true → level_of r ≡ level
+attribute_level : (level : ℕ) (r : Record) → is_attribute_part level r ≡ true → level_of r ≡ level
 attribute_level level r h = eqb-true (level_of r) level (and_parts (r.token == 2 || r.token == 3 || r.token == 4) (level_of r == level) h).1
 
 pub attribute_found : (bytes : List ℕ) (lists : Lists) (nest : Forest) → IsNestOf bytes lists nest → (level from at : ℕ) (node : Node) → from ≤ at →
@@ -318,20 +318,20 @@ root_no_child : (what : Thing) → Some kinds.Root ≡ Some (kind_of what) → i
 root_no_child what e t = false≢true (ap is_child_kind (kinds_same kinds.Root (kind_of what) e) ∙ sym (child_kind what) ∙ t)
 
 -- the node at the first record is the root, which is no child
-pub child_behind : (bytes : List ℕ) (lists : Lists) (nest : Forest) → IsNestOf bytes lists nest → (x : Entry) → Contains (nodes_of bytes nest) x → is_child_thing x.what ≡ true → 0 < x.place
-child_behind bytes lists nest s x c w = elim (cases_lt 0 x.place) [
+pub child_after : (bytes : List ℕ) (lists : Lists) (nest : Forest) → IsNestOf bytes lists nest → (x : Entry) → Contains (nodes_of bytes nest) x → is_child_thing x.what ≡ true → 0 < x.index
+child_after bytes lists nest s x c w = elim (cases_lt 0 x.index) [
   | inl later ↦ later
   | inr here ↦
       let first = first_place bytes in
       let rs = records nest first in
       let f : FirstRecordShows rs x = first_record_of_node nest first s.accepted.document.nests x c in
-      let zero : x.place ≡ 0 = omega (arith, here) in
+      let zero : x.index ≡ 0 = omega (arith, here) in
       absurd (root_no_child x.what (sym (kind_of_first nest first) ∙ ap (λ k. kind_of_token (record_at k rs).token) (sym zero) ∙ f.kind) w)
 ]
 
-pub end_before_there : (bytes : List ℕ) (lists : Lists) (nest : Forest) → IsNestOf bytes lists nest → (pass : Token → Bool) (level end at : ℕ) → PassedBefore pass is_child_thing level (records nest (first_place bytes)) (nodes_of bytes nest) end at → at ≤ 1 →
+pub end_before_there : (bytes : List ℕ) (lists : Lists) (nest : Forest) → IsNestOf bytes lists nest → (pass : Record → Bool) (level end at : ℕ) → PassedBefore pass is_child_thing level (records nest (first_place bytes)) (nodes_of bytes nest) end at → at ≤ 1 →
     LastBefore pass is_child_thing level (records nest (first_place bytes)) (nodes_of bytes nest) end None
-end_before_there bytes lists nest s pass level end at p h = λ x c w l k. p.none x c w (omega (arith, h, child_behind bytes lists nest s x c w.wanted)) l
+end_before_there bytes lists nest s pass level end at p h = λ x c w l k. p.none x c w (omega (arith, h, child_after bytes lists nest s x c w.wanted)) l
 
-pub before_again : (pass : Token → Bool) (want : Thing → Bool) (level : ℕ) (rs : List Token) (es : List Entry) (end at : ℕ) → 1 ≤ at → PassedBefore pass want level rs es end at → PassedBefore pass want level rs es end (at - 1 + 1)
+pub before_again : (pass : Record → Bool) (want : Thing → Bool) (level : ℕ) (rs : List Record) (es : List Entry) (end at : ℕ) → 1 ≤ at → PassedBefore pass want level rs es end at → PassedBefore pass want level rs es end (at - 1 + 1)
 before_again pass want level rs es end at h p = let one : at ≡ at - 1 + 1 = omega (arith, h) in subst (λ n. PassedBefore pass want level rs es end n) one p

@@ -24,9 +24,9 @@ tag_spelling : (i : Item) (more : List ℕ) → written i ≡ 60 ∷ more → sp
 unfolding spelling
 tag_spelling i more e = ap encode_utf8_all e ∙ ap (λ xs. xs ++ encode_utf8_all more) (encode_ascii 60 (lit< tt))
 
-item_stands : (bytes : List ℕ) (at : ℕ) (i : Item) → begins_at bytes at i ≡ true → begins (spelling i) (drop at bytes) ≡ true
+item_holds : (bytes : List ℕ) (at : ℕ) (i : Item) → begins_at bytes at i ≡ true → begins (spelling i) (drop at bytes) ≡ true
 unfolding begins_at
-item_stands bytes at i h = (and_parts (meets i) _ (and_parts (meets i && begins (spelling i) (drop at bytes)) _ (and_parts (meets i && begins (spelling i) (drop at bytes) && ends_well i (drop (at + length (spelling i)) bytes)) _ h).0).0).1
+item_holds bytes at i h = (and_parts (meets i) _ (and_parts (meets i && begins (spelling i) (drop at bytes)) _ (and_parts (meets i && begins (spelling i) (drop at bytes) && ends_well i (drop (at + length (spelling i)) bytes)) _ h).0).0).1
 
 pub record TagPlace (bytes : List ℕ) (at : ℕ) : Type 0 where
   pub within : at < length bytes
@@ -35,8 +35,8 @@ pub record TagPlace (bytes : List ℕ) (at : ℕ) : Type 0 where
 pub tag_place : (bytes : List ℕ) (at : ℕ) → HasTagAt bytes at → TagPlace bytes at
 tag_place bytes at h =
     let w = tag_head h.item h.tags in
-    let stands : begins (60 ∷ encode_utf8_all w.0) (drop at bytes) ≡ true = ap (λ s. begins s (drop at bytes)) (sym (tag_spelling h.item w.0 w.1)) ∙ item_stands bytes at h.item h.begins in
-    let t = head_there 60 (encode_utf8_all w.0) (drop at bytes) stands in
+    let holds : begins (60 ∷ encode_utf8_all w.0) (drop at bytes) ≡ true = ap (λ s. begins s (drop at bytes)) (sym (tag_spelling h.item w.0 w.1)) ∙ item_holds bytes at h.item h.begins in
+    let t = head_there 60 (encode_utf8_all w.0) (drop at bytes) holds in
     let within : at < length bytes = omega (arith, t.0, length-drop at bytes) in
     let byte : get_or bytes at 0 ≡ 60 = ap (λ k. get_or bytes k 0) (sym (add-zero at)) ∙ sym (get_or-drop at bytes 0 0) ∙ t.1 in
     record { within = within; boundary = IsCharBoundary-before_ascii bytes at within (omega (arith, byte)) }

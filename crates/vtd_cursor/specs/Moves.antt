@@ -20,7 +20,7 @@ last_of es = first_of (reverse es)
 abbrev pub root_node : Node
 root_node = record { kind = kinds.Root; at = 0 }
 
--- what a cursor is: the document's bytes and what its words are read from, the node where it stands, and the nodes that were saved, the
+-- what a cursor is: the document's bytes and what its words are read from, the node where it is, and the nodes that were saved, the
 -- last of them at the end
 pub record CursorOf (W : Type 0) : Type 0 where
   pub bytes : List ℕ
@@ -28,13 +28,13 @@ pub record CursorOf (W : Type 0) : Type 0 where
   pub node : Node
   pub saved : List Node
 
--- where a cursor stands and the saved nodes are nodes of the document, and there is room for 16 of them
+-- where a cursor is and the saved nodes are nodes of the document, and there is room for 16 of them
 pub record IsCursor (bytes : List ℕ) (lists : Lists) (node : Node) (saved : List Node) (room : ℕ) : Type 0 where
-  pub stands : IsNodeOf bytes lists node
+  pub holds : IsNodeOf bytes lists node
   pub kept : AllByRecursion (IsNodeOf bytes lists) saved
   pub inline : 16 ≤ room
 
--- a move to a node that may be there or not: it tells whether it is, and where it is not all stays
+-- a move to a node that may be there or not: it says whether it is, and where it is not all stays
 pub record Goes {W : Type 0} (target : Option Node) (old : CursorOf W) (moved : Bool) (new : CursorOf W) : Type 0 where
-  pub told : moved ≡ is_some target
+  pub known : moved ≡ is_some target
   pub place : new ≡ record old { node = unwrap_or target old.node }

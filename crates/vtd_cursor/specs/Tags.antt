@@ -4,13 +4,13 @@ use Rattle.xml_model.specs.declared.Node.{Node}
 use Rattle.xml_model.specs.Items.{Tag, begins_at, empty_tag}
 use Rattle.xml_model.specs.Nest.{Forest}
 use Rattle.xml_model.specs.Records.{past_forest, past_start}
-use Rattle.xml_model.specs.Tree.{Entry, Stands, Thing}
+use Rattle.xml_model.specs.Tree.{Entry, Identifies, Thing}
 use Rattle.xml_chars.specs.Places.{span_from}
 use Rattle.vtd_words.specs.Lists.{Lists}
 use Rattle.vtd_words.specs.Table.{IsNestOf, nodes_of}
 use Rattle.vtd_cursor.specs.declared.spans.Tags.{Tags}
 
--- the places of an element's tags, by whether it is one empty tag: its name, behind its first tag, and at the < of its end tag; of an
+-- the places of an element's tags, by whether it is one empty tag: its name, after its first tag, and at the < of its end tag; of an
 -- empty tag both places are where it ends
 abbrev pub tags_by : Bool → Tag → Forest → ℕ → ℕ → Tags
 tags_by true t inside start stop = record { name = span_from (start + 1) t.name; head_end = stop; tail_start = stop; empty = true }
@@ -21,7 +21,7 @@ pub record HasEndTag (bytes : List ℕ) (lists : Lists) (node : Node) : Type 0 w
   pub nest : Forest
   pub shown : IsNestOf bytes lists nest
   pub entry : Entry
-  pub stands : Stands node.kind node.at entry (nodes_of bytes nest)
+  pub holds : Identifies node.kind node.at entry (nodes_of bytes nest)
   pub tag : Tag
   pub inside : Forest
   pub is : entry.what ≡ Thing.element tag inside

@@ -1,4 +1,4 @@
-//! Moves over the nodes of a document, and where a node and its parts stand in the bytes.
+//! Moves over the nodes of a document, and where a node and its parts are in the bytes.
 #![tactic(auto)]
 
 mod cursor;

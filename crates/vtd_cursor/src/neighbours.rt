@@ -3,7 +3,7 @@
 ghost use Rattle.std.specs.Prelude.{◌≡◌, ◌+◌, ◌<◌, ◌≤◌, List, length, Contains, filter, true, IfSome};
 ghost use Rattle.xml_model.specs.declared.Axis.TheVariants as axes;
 ghost use Rattle.xml_model.specs.Nest.{Forest};
-ghost use Rattle.xml_model.specs.Tree.{axis_list, before, on_axis, Entry, Stands};
+ghost use Rattle.xml_model.specs.Tree.{axis_list, before, on_axis, Entry, Identifies};
 ghost use Rattle.vtd_words.specs.Lists.{list_of};
 ghost use Rattle.vtd_words.specs.Table.{IsNestOf, IsNodeOf, nodes_of};
 ghost use Rattle.vtd_cursor.specs.Moves.{first_of, last_of};
@@ -15,7 +15,7 @@ use xml_model::{Kind, Node};
 /// The parent; `None` for the root.
 pub fn parent_of<W: Words>(table: &Table<'_, W>, node: Node) -> Option<Node>
     requires { IsNodeOf table.now.bytes (W.lists table.now.words) node }
-    ensures axis { (nest : Forest) → IsNestOf table.now.bytes (W.lists table.now.words) nest → (e : Entry) → Stands node.kind node.at e (nodes_of table.now.bytes nest) →
+    ensures axis { (nest : Forest) → IsNestOf table.now.bytes (W.lists table.now.words) nest → (e : Entry) → Identifies node.kind node.at e (nodes_of table.now.bytes nest) →
         result ≡ first_of (axis_list axes.Parent e.path (nodes_of table.now.bytes nest)) }
     ensures node { IfSome result (λ found. IsNodeOf table.now.bytes (W.lists table.now.words) found) }
 {
@@ -25,7 +25,7 @@ pub fn parent_of<W: Words>(table: &Table<'_, W>, node: Node) -> Option<Node>
 /// The first child.
 pub fn first_child_of<W: Words>(table: &Table<'_, W>, node: Node) -> Option<Node>
     requires { IsNodeOf table.now.bytes (W.lists table.now.words) node }
-    ensures axis { (nest : Forest) → IsNestOf table.now.bytes (W.lists table.now.words) nest → (e : Entry) → Stands node.kind node.at e (nodes_of table.now.bytes nest) →
+    ensures axis { (nest : Forest) → IsNestOf table.now.bytes (W.lists table.now.words) nest → (e : Entry) → Identifies node.kind node.at e (nodes_of table.now.bytes nest) →
         result ≡ first_of (axis_list axes.Child e.path (nodes_of table.now.bytes nest)) }
     ensures node { IfSome result (λ found. IsNodeOf table.now.bytes (W.lists table.now.words) found) }
 {
@@ -33,7 +33,7 @@ pub fn first_child_of<W: Words>(table: &Table<'_, W>, node: Node) -> Option<Node
         Kind::Root => child_from(table, 1, 0),
         Kind::Element => {
             let level = level_at(table, node);
-            child_from(table, index_behind(table, node.at), level + 1)
+            child_from(table, index_after(table, node.at), level + 1)
         }
         _ => None,
     }
@@ -42,7 +42,7 @@ pub fn first_child_of<W: Words>(table: &Table<'_, W>, node: Node) -> Option<Node
 /// The last child.
 pub fn last_child_of<W: Words>(table: &Table<'_, W>, node: Node) -> Option<Node>
     requires { IsNodeOf table.now.bytes (W.lists table.now.words) node }
-    ensures axis { (nest : Forest) → IsNestOf table.now.bytes (W.lists table.now.words) nest → (e : Entry) → Stands node.kind node.at e (nodes_of table.now.bytes nest) →
+    ensures axis { (nest : Forest) → IsNestOf table.now.bytes (W.lists table.now.words) nest → (e : Entry) → Identifies node.kind node.at e (nodes_of table.now.bytes nest) →
         result ≡ last_of (axis_list axes.Child e.path (nodes_of table.now.bytes nest)) }
     ensures node { IfSome result (λ found. IsNodeOf table.now.bytes (W.lists table.now.words) found) }
 {
@@ -56,7 +56,7 @@ pub fn last_child_of<W: Words>(table: &Table<'_, W>, node: Node) -> Option<Node>
 /// The next sibling; an attribute has none.
 pub fn next_of<W: Words>(table: &Table<'_, W>, node: Node) -> Option<Node>
     requires { IsNodeOf table.now.bytes (W.lists table.now.words) node }
-    ensures axis { (nest : Forest) → IsNestOf table.now.bytes (W.lists table.now.words) nest → (e : Entry) → Stands node.kind node.at e (nodes_of table.now.bytes nest) →
+    ensures axis { (nest : Forest) → IsNestOf table.now.bytes (W.lists table.now.words) nest → (e : Entry) → Identifies node.kind node.at e (nodes_of table.now.bytes nest) →
         result ≡ first_of (axis_list axes.FollowingSibling e.path (nodes_of table.now.bytes nest)) }
     ensures node { IfSome result (λ found. IsNodeOf table.now.bytes (W.lists table.now.words) found) }
 {
@@ -69,7 +69,7 @@ pub fn next_of<W: Words>(table: &Table<'_, W>, node: Node) -> Option<Node>
 /// The sibling before this one; an attribute has none.
 pub fn previous_of<W: Words>(table: &Table<'_, W>, node: Node) -> Option<Node>
     requires { IsNodeOf table.now.bytes (W.lists table.now.words) node }
-    ensures axis { (nest : Forest) → IsNestOf table.now.bytes (W.lists table.now.words) nest → (e : Entry) → Stands node.kind node.at e (nodes_of table.now.bytes nest) →
+    ensures axis { (nest : Forest) → IsNestOf table.now.bytes (W.lists table.now.words) nest → (e : Entry) → Identifies node.kind node.at e (nodes_of table.now.bytes nest) →
         result ≡ first_of (axis_list axes.PrecedingSibling e.path (nodes_of table.now.bytes nest)) }
     ensures node { IfSome result (λ found. IsNodeOf table.now.bytes (W.lists table.now.words) found) }
 {
@@ -82,14 +82,14 @@ pub fn previous_of<W: Words>(table: &Table<'_, W>, node: Node) -> Option<Node>
 /// The first attribute.
 pub fn first_attribute_of<W: Words>(table: &Table<'_, W>, node: Node) -> Option<Node>
     requires { IsNodeOf table.now.bytes (W.lists table.now.words) node }
-    ensures axis { (nest : Forest) → IsNestOf table.now.bytes (W.lists table.now.words) nest → (e : Entry) → Stands node.kind node.at e (nodes_of table.now.bytes nest) →
+    ensures axis { (nest : Forest) → IsNestOf table.now.bytes (W.lists table.now.words) nest → (e : Entry) → Identifies node.kind node.at e (nodes_of table.now.bytes nest) →
         result ≡ first_of (axis_list axes.Attribute e.path (nodes_of table.now.bytes nest)) }
     ensures node { IfSome result (λ found. IsNodeOf table.now.bytes (W.lists table.now.words) found) }
 {
     match node.kind {
         Kind::Element => {
             let level = level_at(table, node);
-            attribute_from(table, index_behind(table, node.at), level + 1)
+            attribute_from(table, index_after(table, node.at), level + 1)
         }
         _ => None,
     }
@@ -98,7 +98,7 @@ pub fn first_attribute_of<W: Words>(table: &Table<'_, W>, node: Node) -> Option<
 /// The attribute of the same element that comes next; what is no attribute has none.
 pub fn next_attribute_of<W: Words>(table: &Table<'_, W>, node: Node) -> Option<Node>
     requires { IsNodeOf table.now.bytes (W.lists table.now.words) node }
-    ensures axis { (nest : Forest) → IsNestOf table.now.bytes (W.lists table.now.words) nest → (e : Entry) → Stands node.kind node.at e (nodes_of table.now.bytes nest) →
+    ensures axis { (nest : Forest) → IsNestOf table.now.bytes (W.lists table.now.words) nest → (e : Entry) → Identifies node.kind node.at e (nodes_of table.now.bytes nest) →
         (z : Entry) → Contains (nodes_of table.now.bytes nest) z → on_axis axes.Attribute z.path e.path ≡ true →
         result ≡ first_of (filter (λ y. before e.path y.path) (axis_list axes.Attribute z.path (nodes_of table.now.bytes nest))) }
     ensures other { (node.kind ≡ Kind.Attribute → ⊥) → result ≡ None }
@@ -113,15 +113,15 @@ pub fn next_attribute_of<W: Words>(table: &Table<'_, W>, node: Node) -> Option<N
 /// The level of a node: how many elements hold it.
 fn level_at<W: Words>(table: &Table<'_, W>, node: Node) -> u32
     requires { IsNodeOf table.now.bytes (W.lists table.now.words) node }
-    ensures level { (nest : Forest) → IsNestOf table.now.bytes (W.lists table.now.words) nest → (e : Entry) → Stands node.kind node.at e (nodes_of table.now.bytes nest) → result ≡ length e.holders }
+    ensures level { (nest : Forest) → IsNestOf table.now.bytes (W.lists table.now.words) nest → (e : Entry) → Identifies node.kind node.at e (nodes_of table.now.bytes nest) → result ≡ length e.holders }
     ensures small { result ≤ 256 }
     ensures within { node.at < length (list_of Part.Records (W.lists table.now.words)) }
 {
     level_of(parts_at(table.words(), node.at))
 }
 
-/// The index behind that of a record.
-fn index_behind<W: Words>(table: &Table<'_, W>, at: u32) -> u32
+/// The index after that of a record.
+fn index_after<W: Words>(table: &Table<'_, W>, at: u32) -> u32
     requires { at < length (list_of Part.Records (W.lists table.now.words)) }
     ensures { result ≡ at + 1 }
 {
@@ -129,10 +129,10 @@ fn index_behind<W: Words>(table: &Table<'_, W>, at: u32) -> u32
     if at < records { at + 1 } else { records }
 }
 
-/// The first record past those of a node and of all that stands in it, which is at most the number of records.
+/// The first record past those of a node and of all that is in it, which is at most the number of records.
 fn past_of<W: Words>(table: &Table<'_, W>, node: Node) -> u32
     requires { IsNodeOf table.now.bytes (W.lists table.now.words) node }
-    ensures past { (nest : Forest) → IsNestOf table.now.bytes (W.lists table.now.words) nest → (e : Entry) → Stands node.kind node.at e (nodes_of table.now.bytes nest) → result ≡ e.past }
+    ensures past { (nest : Forest) → IsNestOf table.now.bytes (W.lists table.now.words) nest → (e : Entry) → Identifies node.kind node.at e (nodes_of table.now.bytes nest) → result ≡ e.past }
     ensures within { result ≤ length (list_of Part.Records (W.lists table.now.words)) }
 {
     let records = table.words().len(Part::Records);

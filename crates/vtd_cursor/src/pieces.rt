@@ -1,16 +1,16 @@
-//! What stands at a record and behind it: its parts, its tag, and the end tags behind the last piece of an element.
+//! What is at a record and after it: its parts, its tag, and the end tags after the last piece of an element.
 
 ghost use Rattle.std.specs.Prelude.{◌≡◌, ℕ, suc, ◌+◌, ◌-◌, ◌<◌, ◌≤◌, ◌^◌, Bool, true, List, length};
 ghost use Rattle.std.specs.Str.{IsUtf8};
 ghost use Rattle.xml_model.specs.Items.{Tag, Item as ModelItem, begins_at};
-ghost use Rattle.xml_model.specs.Records.{Token};
+ghost use Rattle.xml_model.specs.Records.{Record};
 ghost use Rattle.xml_model.specs.Scan.{record_at};
 ghost use Rattle.xml_items.specs.Reading.{tag_item};
 ghost use Rattle.xml_items.specs.Shown.{item_shown};
 ghost use Rattle.vtd_words.specs.Lists.{list_of};
-ghost use Rattle.vtd_words.specs.Packed.{token_of};
+ghost use Rattle.vtd_words.specs.Packed.{record_of};
 ghost use Rattle.vtd_words.specs.Table.{Shows};
-ghost use Rattle.vtd_cursor.specs.Endings.{opening, closing, token_end, ends_tag, EndTags, HasEndTags, HasEnding, HasLastPiece, HasTagAt, HasTagOf, IsEnding, IsLastPiece, IsNearestTag, IsTagOf};
+ghost use Rattle.vtd_cursor.specs.Endings.{opening, closing, record_end, ends_tag, EndTags, HasEndTags, HasEnding, HasLastPiece, HasTagAt, HasTagOf, IsEnding, IsLastPiece, IsNearestTag, IsTagOf};
 
 use vtd_words::{Part, Parts, Words, parts_at};
 use xml_items::{Item, ItemKind, next_item};
@@ -31,17 +31,17 @@ pub fn piece_start(parts: Parts) -> u32
 }
 
 /// Where the piece ends whose last record has these parts, if it is no tag.
-pub fn token_end(parts: Parts) -> u32
+pub fn record_end(parts: Parts) -> u32
     requires { parts.offset + parts.length < 2 ^ 31 }
-    ensures { result ≡ token_end (token_of parts) }
+    ensures { result ≡ record_end (record_of parts) }
 {
-    let behind = match parts.token {
+    let after = match parts.token {
         4 => 1,
         8 => 2,
         11 | 6 => 3,
         _ => 0,
     };
-    parts.offset + parts.length + behind
+    parts.offset + parts.length + after
 }
 
 /// Whether a record of a type can be the last of a tag.
@@ -55,7 +55,7 @@ fn ends_tag(token: u8) -> bool
 fn nearest_tag<W: Words>(words: &W, at: u32) -> u32
     requires { at < length (list_of Part.Records (W.lists words.now)) }
     ensures within { result ≤ at }
-    ensures nearest { (rs : List Token) → Shows (list_of Part.Records (W.lists words.now)) rs → (m : ℕ) → IsNearestTag rs at m → result ≡ m }
+    ensures nearest { (rs : List Record) → Shows (list_of Part.Records (W.lists words.now)) rs → (m : ℕ) → IsNearestTag rs at m → result ≡ m }
 {
     if parts_at(words, at).token == 0 {
         return at;
@@ -68,7 +68,7 @@ fn nearest_tag<W: Words>(words: &W, at: u32) -> u32
     0
 }
 
-/// The tag that stands at a place.
+/// The tag that is at a place.
 fn tag_at(bytes: &[u8], at: u32) -> Item
     requires utf8 { IsUtf8 bytes.now }
     requires few { length bytes.now < 2 ^ 30 }
@@ -88,7 +88,7 @@ pub fn tag_of<W: Words>(bytes: &[u8], words: &W, at: u32) -> Item
     requires few { length bytes.now < 2 ^ 30 }
     requires within { at < length (list_of Part.Records (W.lists words.now)) }
     requires tag { HasTagOf bytes.now (list_of Part.Records (W.lists words.now)) at }
-    ensures { (rs : List Token) → Shows (list_of Part.Records (W.lists words.now)) rs →
+    ensures { (rs : List Record) → Shows (list_of Part.Records (W.lists words.now)) rs →
         (place : ℕ) (closed : Bool) (t : Tag) → IsTagOf bytes.now rs at place closed t → result ≡ item_shown place (tag_item closed t) }
 {
     let first = nearest_tag(words, at);
@@ -122,16 +122,16 @@ fn last_piece<W: Words>(bytes: &[u8], words: &W, last: u32) -> LastPiece
     requires few { length bytes.now < 2 ^ 30 }
     requires within { last < length (list_of Part.Records (W.lists words.now)) }
     requires piece { HasLastPiece bytes.now (list_of Part.Records (W.lists words.now)) last }
-    ensures end { (rs : List Token) → Shows (list_of Part.Records (W.lists words.now)) rs →
+    ensures end { (rs : List Record) → Shows (list_of Part.Records (W.lists words.now)) rs →
         (level place opened : ℕ) → IsLastPiece bytes.now rs level last place opened → result.end ≡ place }
-    ensures opened { (rs : List Token) → Shows (list_of Part.Records (W.lists words.now)) rs →
+    ensures opened { (rs : List Record) → Shows (list_of Part.Records (W.lists words.now)) rs →
         (level place opened : ℕ) → IsLastPiece bytes.now rs level last place opened → result.opened ≡ level + opened }
 {
     let parts = parts_at(words, last);
     let depth = parts.depth as u32;
     if !ends_tag(parts.token) {
         return LastPiece {
-            end: token_end(parts),
+            end: record_end(parts),
             opened: depth + 1,
         };
     }
@@ -146,14 +146,14 @@ fn last_piece<W: Words>(bytes: &[u8], words: &W, last: u32) -> LastPiece
     }
 }
 
-/// Where the last of the end tags ends that close the elements of a level and those in them, behind the piece whose last
+/// Where the last of the end tags ends that close the elements of a level and those in them, after the piece whose last
 /// record has an index.
 pub fn end_of_level<W: Words>(bytes: &[u8], words: &W, level: u32, last: u32) -> u32
     requires utf8 { IsUtf8 bytes.now }
     requires few { length bytes.now < 2 ^ 30 }
     requires within { last < length (list_of Part.Records (W.lists words.now)) }
     requires ending { HasEnding bytes.now (list_of Part.Records (W.lists words.now)) level last }
-    ensures { (rs : List Token) → Shows (list_of Part.Records (W.lists words.now)) rs →
+    ensures { (rs : List Record) → Shows (list_of Part.Records (W.lists words.now)) rs →
         (stop : ℕ) → IsEnding bytes.now rs level stop (suc last) → result ≡ stop }
 {
     let piece = last_piece(bytes, words, last);

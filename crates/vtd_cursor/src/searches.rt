@@ -5,9 +5,9 @@ ghost use Rattle.xml_model.specs.Items.{first_place};
 ghost use Rattle.xml_model.specs.Laws.{is_attribute_thing, is_child_thing};
 ghost use Rattle.xml_model.specs.Nest.{Forest};
 ghost use Rattle.xml_model.specs.Records.{records};
-ghost use Rattle.xml_model.specs.Scan.{level_of as level_of_token, record_at};
+ghost use Rattle.xml_model.specs.Scan.{level_of as level_of_record, record_at};
 ghost use Rattle.vtd_words.specs.Lists.{list_of};
-ghost use Rattle.vtd_words.specs.Packed.{token_of};
+ghost use Rattle.vtd_words.specs.Packed.{record_of};
 ghost use Rattle.vtd_words.specs.Table.{IsNestOf, IsNodeOf, nodes_of};
 ghost use Rattle.vtd_cursor.specs.Searches.{is_attribute_part as is_attribute_token, is_child_kind, is_within, FirstFrom, LastBefore, NodeAt, NodeOfLevel};
 
@@ -16,7 +16,7 @@ use xml_model::{Kind, Node};
 
 /// The level of a record: how many elements hold what it is of.
 pub fn level_of(parts: Parts) -> u32
-    ensures { result ≡ level_of_token (token_of parts) }
+    ensures { result ≡ level_of_record (record_of parts) }
 {
     match (parts.token, parts.depth) {
         (0, depth) => depth as u32,
@@ -27,19 +27,19 @@ pub fn level_of(parts: Parts) -> u32
 
 /// Whether a record is of an attribute or a declaration of a level, its name or its value.
 fn is_attribute_part(parts: Parts, level: u32) -> bool
-    ensures { result ≡ is_attribute_token level (token_of parts) }
+    ensures { result ≡ is_attribute_token level (record_of parts) }
 {
     (parts.token == 2 || parts.token == 3 || parts.token == 4) && level_of(parts) == level
 }
 
-/// Whether nodes of a kind are children where they stand.
+/// Whether nodes of a kind are children where they are.
 pub fn is_child(kind: Kind) -> bool
     ensures { result ≡ is_child_kind kind }
 {
     !matches!(kind, Kind::Root | Kind::Attribute)
 }
 
-/// The node that begins at a record, if it is a child where it stands.
+/// The node that begins at a record, if it is a child where it is.
 fn child_at<W: Words>(table: &Table<'_, W>, at: u32) -> Option<Node>
     ensures at { (nest : Forest) → IsNestOf table.now.bytes (W.lists table.now.words) nest → NodeAt is_child_thing (nodes_of table.now.bytes nest) at result }
     ensures node { IfSome result (λ node. IsNodeOf table.now.bytes (W.lists table.now.words) node) }
@@ -56,7 +56,7 @@ fn child_at<W: Words>(table: &Table<'_, W>, at: u32) -> Option<Node>
 
 /// The child that begins at a record of the level `found`, if this is the level that is asked for.
 fn child_of_level<W: Words>(table: &Table<'_, W>, at: u32, found: u32, level: u32) -> Option<Node>
-    requires { (nest : Forest) → IsNestOf table.now.bytes (W.lists table.now.words) nest → found ≡ level_of_token (record_at at (records nest (first_place table.now.bytes))) }
+    requires { (nest : Forest) → IsNestOf table.now.bytes (W.lists table.now.words) nest → found ≡ level_of_record (record_at at (records nest (first_place table.now.bytes))) }
     ensures at { (nest : Forest) → IsNestOf table.now.bytes (W.lists table.now.words) nest → NodeOfLevel is_child_thing level found (nodes_of table.now.bytes nest) at result }
     ensures node { IfSome result (λ node. IsNodeOf table.now.bytes (W.lists table.now.words) node) }
 {
@@ -117,7 +117,7 @@ pub fn attribute_from<W: Words>(table: &Table<'_, W>, from: u32, level: u32) -> 
     None
 }
 
-/// The last child of a level before a record, behind any record of a lower level.
+/// The last child of a level before a record, after any record of a lower level.
 pub fn child_before<W: Words>(table: &Table<'_, W>, end: u32, level: u32) -> Option<Node>
     requires { end ≤ length (list_of Part.Records (W.lists table.now.words)) }
     ensures last { (nest : Forest) → IsNestOf table.now.bytes (W.lists table.now.words) nest →

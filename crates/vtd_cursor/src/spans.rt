@@ -1,22 +1,22 @@
-//! Where a node and its parts stand in the document's bytes.
+//! Where a node and its parts are in the document's bytes.
 
 ghost use Rattle.std.specs.Prelude.{◌≡◌, ◌+◌, true, false};
 ghost use Rattle.xml_model.specs.Chars.{size};
 ghost use Rattle.xml_model.specs.Items.{Attribute, Tag, begins_at, before_value, empty_tag, written_pieces};
 ghost use Rattle.xml_model.specs.Nest.{Forest};
 ghost use Rattle.xml_model.specs.Records.{past_forest, past_start};
-ghost use Rattle.xml_model.specs.Tree.{Entry, Stands, Thing};
+ghost use Rattle.xml_model.specs.Tree.{Entry, Identifies, Thing};
 ghost use Rattle.xml_chars.specs.Places.{span_from};
 ghost use Rattle.vtd_words.specs.Table.{IsNestOf, IsNodeOf, nodes_of};
 ghost use Rattle.vtd_cursor.specs.Tags.{tags_by, HasEndTag};
 
-use crate::pieces::{end_of_level, piece_start, tag_of, token_end};
+use crate::pieces::{end_of_level, piece_start, tag_of, record_end};
 use vtd_location::Nav;
 use vtd_words::{Table, Words, parts_at};
 use xml_items::ItemKind;
 use xml_model::{Kind, Node, Span};
 
-/// Where the tags of an element stand, in bytes.
+/// Where the tags of an element are, in bytes.
 #[derive(Clone, Copy, Debug, PartialEq, Eq)]
 pub struct Tags {
     /// The name in the first tag.
@@ -34,7 +34,7 @@ fn node_start<W: Words>(table: &Table<'_, W>, node: Node) -> u32
     requires node { IsNodeOf table.now.bytes (W.lists table.now.words) node }
     requires below { node.kind ≡ Kind.Root → ⊥ }
     ensures { (nest : Forest) → IsNestOf table.now.bytes (W.lists table.now.words) nest →
-        (e : Entry) → Stands node.kind node.at e (nodes_of table.now.bytes nest) → result ≡ e.start }
+        (e : Entry) → Identifies node.kind node.at e (nodes_of table.now.bytes nest) → result ≡ e.start }
 {
     piece_start(parts_at(table.words(), node.at))
 }
@@ -44,7 +44,7 @@ fn node_end<W: Words>(table: &Table<'_, W>, node: Node) -> u32
     requires node { IsNodeOf table.now.bytes (W.lists table.now.words) node }
     requires below { node.kind ≡ Kind.Root → ⊥ }
     ensures { (nest : Forest) → IsNestOf table.now.bytes (W.lists table.now.words) nest →
-        (e : Entry) → Stands node.kind node.at e (nodes_of table.now.bytes nest) → result ≡ e.stop }
+        (e : Entry) → Identifies node.kind node.at e (nodes_of table.now.bytes nest) → result ≡ e.stop }
 {
     let words = table.words();
     let last = table.end_of(node) - 1;
@@ -55,19 +55,19 @@ fn node_end<W: Words>(table: &Table<'_, W>, node: Node) -> u32
             parts_at(words, node.at).depth as u32,
             last,
         ),
-        _ => token_end(parts_at(words, last)),
+        _ => record_end(parts_at(words, last)),
     }
 }
 
-/// Where a node stands, in bytes: the root in the whole document; an element from its first tag to its last; an attribute
+/// Where a node is, in bytes: the root in the whole document; an element from its first tag to its last; an attribute
 /// from its name to its closing quote; a text node with the markers of its CDATA sections; a comment and an instruction
 /// with theirs.
 pub fn span<W: Words>(nav: &Nav<'_, W>, node: Node) -> Span
     requires { IsNodeOf nav.now.bytes (W.lists nav.now.words) node }
     ensures start { (nest : Forest) → IsNestOf nav.now.bytes (W.lists nav.now.words) nest →
-        (e : Entry) → Stands node.kind node.at e (nodes_of nav.now.bytes nest) → result.start ≡ e.start }
+        (e : Entry) → Identifies node.kind node.at e (nodes_of nav.now.bytes nest) → result.start ≡ e.start }
     ensures end { (nest : Forest) → IsNestOf nav.now.bytes (W.lists nav.now.words) nest →
-        (e : Entry) → Stands node.kind node.at e (nodes_of nav.now.bytes nest) → result.end ≡ e.stop }
+        (e : Entry) → Identifies node.kind node.at e (nodes_of nav.now.bytes nest) → result.end ≡ e.stop }
 {
     let table = nav.table();
     match node.kind {
@@ -82,12 +82,12 @@ pub fn span<W: Words>(nav: &Nav<'_, W>, node: Node) -> Span
     }
 }
 
-/// Where the tags of an element stand (XML 1.0, productions 40, 42 and 44).
+/// Where the tags of an element are (XML 1.0, productions 40, 42 and 44).
 pub fn tags_of<W: Words>(nav: &Nav<'_, W>, node: Node) -> Tags
     requires node { IsNodeOf nav.now.bytes (W.lists nav.now.words) node }
     requires element { node.kind ≡ Kind.Element }
     ensures { (nest : Forest) → IsNestOf nav.now.bytes (W.lists nav.now.words) nest →
-        (e : Entry) → Stands node.kind node.at e (nodes_of nav.now.bytes nest) →
+        (e : Entry) → Identifies node.kind node.at e (nodes_of nav.now.bytes nest) →
         (t : Tag) (inside : Forest) → e.what ≡ Thing.element t inside → result ≡ tags_by (begins_at nav.now.bytes e.start (empty_tag t)) t inside e.start e.stop }
 {
     let table = nav.table();
@@ -108,12 +108,12 @@ pub fn tags_of<W: Words>(nav: &Nav<'_, W>, node: Node) -> Tags
     }
 }
 
-/// Where what stands in an element ends, which has an end tag.
+/// Where what is in an element ends, which has an end tag.
 fn inside_end<W: Words>(table: &Table<'_, W>, node: Node) -> u32
     requires node { IsNodeOf table.now.bytes (W.lists table.now.words) node }
     requires element { HasEndTag table.now.bytes (W.lists table.now.words) node }
     ensures { (nest : Forest) → IsNestOf table.now.bytes (W.lists table.now.words) nest →
-        (e : Entry) → Stands node.kind node.at e (nodes_of table.now.bytes nest) →
+        (e : Entry) → Identifies node.kind node.at e (nodes_of table.now.bytes nest) →
         (t : Tag) (inside : Forest) → e.what ≡ Thing.element t inside → begins_at table.now.bytes e.start (empty_tag t) ≡ false → result ≡ past_forest (past_start e.start t) inside }
 {
     let words = table.words();
@@ -126,15 +126,15 @@ fn inside_end<W: Words>(table: &Table<'_, W>, node: Node) -> u32
     )
 }
 
-/// Where the value of an attribute stands, between its quotes (XML 1.0, production 10).
+/// Where the value of an attribute is, between its quotes (XML 1.0, production 10).
 pub fn value_span<W: Words>(nav: &Nav<'_, W>, node: Node) -> Span
     requires node { IsNodeOf nav.now.bytes (W.lists nav.now.words) node }
     requires attribute { node.kind ≡ Kind.Attribute }
     ensures value { (nest : Forest) → IsNestOf nav.now.bytes (W.lists nav.now.words) nest →
-        (e : Entry) → Stands node.kind node.at e (nodes_of nav.now.bytes nest) →
+        (e : Entry) → Identifies node.kind node.at e (nodes_of nav.now.bytes nest) →
         (a : Attribute) → e.what ≡ Thing.attribute a → result ≡ span_from (e.start + size (before_value a)) (written_pieces a.value) }
     ensures quote { (nest : Forest) → IsNestOf nav.now.bytes (W.lists nav.now.words) nest →
-        (e : Entry) → Stands node.kind node.at e (nodes_of nav.now.bytes nest) → result.end + 1 ≡ e.stop }
+        (e : Entry) → Identifies node.kind node.at e (nodes_of nav.now.bytes nest) → result.end + 1 ≡ e.stop }
 {
     let table = nav.table();
     let value = parts_at(table.words(), table.end_of(node) - 1);

@@ -82,7 +82,7 @@ fn merged<'a>(words: &'a Fixed<'a>) -> Nav<'a, Fixed<'a>>
 /// The records of `MARKED`.
 const MARKED_RECORDS: [u64; 2] = [0xdff0_0000_0000_0000, 0x0000_0001_0000_0004];
 
-/// An element behind a byte order mark.
+/// An element after a byte order mark.
 const MARKED: &[u8] = b"\xef\xbb\xbf<a/>";
 
 fn marked<'a>(words: &'a Fixed<'a>) -> Nav<'a, Fixed<'a>>
@@ -91,8 +91,8 @@ fn marked<'a>(words: &'a Fixed<'a>) -> Nav<'a, Fixed<'a>>
     Nav::of(Table::of(MARKED, words))
 }
 
-/// Whether the node at a record stands from one place to another.
-fn stands(nav: &Nav<'_, Fixed<'_>>, at: u32, start: u32, end: u32) -> bool {
+/// Whether the node at a record is from one place to another.
+fn holds(nav: &Nav<'_, Fixed<'_>>, at: u32, start: u32, end: u32) -> bool {
     match nav.table().node_at(at) {
         Some(node) => span(nav, node) == Span { start, end },
         None => false,
@@ -116,26 +116,26 @@ fn spans_of_all_kinds(rt: HostRuntime) {
         (11, 41, 49),
     ];
     for (at, start, end) in rows {
-        assert!(rt; stands(&nav, at, start, end), "{at}");
+        assert!(rt; holds(&nav, at, start, end), "{at}");
     }
 }
 
 #[test]
-fn spans_of_runs_and_behind_a_mark(rt: HostRuntime) {
+fn spans_of_runs_and_after_a_mark(rt: HostRuntime) {
     let words = Fixed {
         words: &MERGED_RECORDS,
     };
     let nav = merged(&words);
     let rows = [(0, 0, 42), (1, 0, 42), (2, 3, 18), (5, 18, 22), (7, 34, 38)];
     for (at, start, end) in rows {
-        assert!(rt; stands(&nav, at, start, end), "{at}");
+        assert!(rt; holds(&nav, at, start, end), "{at}");
     }
     let words = Fixed {
         words: &MARKED_RECORDS,
     };
     let nav = marked(&words);
-    assert!(rt; stands(&nav, 0, 0, 7));
-    assert!(rt; stands(&nav, 1, 3, 7));
+    assert!(rt; holds(&nav, 0, 0, 7));
+    assert!(rt; holds(&nav, 1, 3, 7));
 }
 
 #[test]

@@ -7,19 +7,19 @@ use Rattle.std.proofs.lemmas.Bool.{false≢true, cases_Bool}
 use Rattle.xml_model.specs.Chars.{size, prefix_of, local_of, is_qname}
 use Rattle.xml_model.specs.Items.{Attribute, Tag, first_place}
 use Rattle.xml_model.specs.Nest.{Forest}
-use Rattle.xml_model.specs.Records.{Token, records, declares}
+use Rattle.xml_model.specs.Records.{Record, records, declares}
 use Rattle.xml_model.specs.Scan.{record_at}
 use Rattle.xml_model.specs.Tree.{Holder}
 use Rattle.xml_model.specs.Content.{value_content}
 use Rattle.xml_model.specs.Names.{Expanded, attribute_uri, nearest, xml_uri}
 use Rattle.xml_model.specs.Accepted.{is_bound, declaration_offends, attribute_offends, expanded_of, same_expanded, seen_with}
 use Rattle.vtd_words.specs.declared.packing.Parts.{Parts}
-use Rattle.vtd_words.specs.Packed.{token_of}
+use Rattle.vtd_words.specs.Packed.{record_of}
 use Rattle.vtd_words.specs.Lists.{Lists}
 use Rattle.vtd_words.specs.Table.{IsTable, Shows, nodes_of}
 use Rattle.vtd_words.proofs.Fitting.{nest_shown}
 use Rattle.vtd_text.specs.NameRecords.{IsDeclaration, IsNameOf}
-use Rattle.vtd_namespaces.specs.Standing.{IsAttributeRecord}
+use Rattle.vtd_namespaces.specs.NameRecords.{IsAttributeRecord}
 use Rattle.vtd_namespaces.specs.Scope.{HolderIn}
 use Rattle.vtd_namespaces.specs.Uris.{IsScope, same_uri}
 use Rattle.vtd_namespaces.specs.Offences.{is_twin, seen_after, IsFine}
@@ -139,10 +139,10 @@ get_seam (b ∷ done) left a = get_seam done left a
 
 pub record Attends (bytes : List ℕ) (nest : Forest) (p : Parts) (n : ℕ) (a : Attribute) : Type 0 where
   pub other : OtherName bytes p a
-  pub stands : IsNameOf bytes nest n a
+  pub holds : IsNameOf bytes nest n a
 
-pub attends : (bytes : List ℕ) (lists : Lists) (open_tags : List ℕ) (depth : ℕ) (nest : Forest) (x : Holder) (xs : List Holder) → IsScope bytes lists open_tags depth nest (x ∷ xs) → (first number : ℕ) → first ≡ x.place + 1 →
-    (done left : List Attribute) (a : Attribute) → x.tag.attributes ≡ done ++ (a ∷ left) → length done ≡ number → (p : Parts) → ((rs : List Token) → Shows lists.records rs → token_of p ≡ record_at (first + 2 * number) rs) → Attends bytes nest p (first + 2 * number) a
+pub attends : (bytes : List ℕ) (lists : Lists) (open_tags : List ℕ) (depth : ℕ) (nest : Forest) (x : Holder) (xs : List Holder) → IsScope bytes lists open_tags depth nest (x ∷ xs) → (first number : ℕ) → first ≡ x.index + 1 →
+    (done left : List Attribute) (a : Attribute) → x.tag.attributes ≡ done ++ (a ∷ left) → length done ≡ number → (p : Parts) → ((rs : List Record) → Shows lists.records rs → record_of p ≡ record_at (first + 2 * number) rs) → Attends bytes nest p (first + 2 * number) a
 attends bytes lists open_tags depth nest x xs s first number e done left a split many p here =
     let rs = records nest (first_place bytes) in
     let within : number < length x.tag.attributes = omega (arith, ap (λ l. length l) split, length-append done (a ∷ left), many) in
@@ -152,15 +152,15 @@ attends bytes lists open_tags depth nest x xs s first number e done left a split
     let h : HolderIn (nodes_of bytes nest) x xs = s.chain.0 in
     record {
       other = other_name bytes rs (first + 2 * number) r.0 p a (here rs (nest_shown bytes lists nest s.few s.shown)) rec;
-      stands = record {
+      holds = record {
         entry = h.entry;
         there = h.there;
         tag = x.tag;
         inside = h.inside;
         element = h.what;
         number = number;
-        stands = ap₂ slice_get split (sym many) ∙ get_seam done left a;
-        place = ap (λ m. m + 2 * number) (e ∙ ap (λ m. m + 1) (sym h.place));
+        holds = ap₂ slice_get split (sym many) ∙ get_seam done left a;
+        index = ap (λ m. m + 2 * number) (e ∙ ap (λ m. m + 1) (sym h.index));
       };
     }
 
@@ -191,6 +191,6 @@ pub by_twins : (bytes : List ℕ) (p : Parts) (tags : List Tag) (done : List Att
 by_twins bytes p tags done a r o q t b e =
     e ∙ sym (twins_seen tags a done) ∙ sym (attribute_by tags (seen_after tags [] done) a true false true q (token_not_three (declares a.name) (λ k. t (o.token ∙ k))) b)
 
-pub declaration_at : (bytes : List ℕ) (lists : Lists) → IsTable bytes lists → (p : Parts) (n : ℕ) → ((rs : List Token) → Shows lists.records rs → token_of p ≡ record_at n rs) → p.token ≡ 3 → IsDeclaration bytes lists n
+pub declaration_at : (bytes : List ℕ) (lists : Lists) → IsTable bytes lists → (p : Parts) (n : ℕ) → ((rs : List Record) → Shows lists.records rs → record_of p ≡ record_at n rs) → p.token ≡ 3 → IsDeclaration bytes lists n
 declaration_at bytes lists t p n here e =
     record { nest = t.nest; shown = t.shown; declaration = ap (λ r. r.token) (sym (here (records t.nest (first_place bytes)) (nest_shown bytes lists t.nest t.few t.shown))) ∙ e }

@@ -10,20 +10,20 @@ use Rattle.std.proofs.lemmas.Slice.Eq.{bytes_eq-Decides}
 use Rattle.xml_model.specs.Chars.{size}
 use Rattle.xml_model.specs.Items.{Attribute, Tag, first_place, written_attribute}
 use Rattle.xml_model.specs.Nest.{Forest}
-use Rattle.xml_model.specs.Records.{Token, records, declares, attributes_place}
+use Rattle.xml_model.specs.Records.{Record, records, declares, attributes_place}
 use Rattle.xml_model.specs.Scan.{record_at}
 use Rattle.xml_model.specs.Tree.{Entry, Holder}
 use Rattle.xml_model.specs.Names.{declaring, declaration_of, nearest, first_of}
 use Rattle.xml_model.specs.Accepted.{name_place}
 use Rattle.vtd_words.specs.declared.packing.Parts.{Parts}
-use Rattle.vtd_words.specs.Packed.{token_of}
-use Rattle.vtd_namespaces.specs.Standing.{slice_of, is_attribute_token, AttributesStand, TagStands, ThingStands, StandsAt}
+use Rattle.vtd_words.specs.Packed.{record_of}
+use Rattle.vtd_namespaces.specs.NameRecords.{slice_of, is_attribute_token, AreAttributeRecords, IsTagRecord, IsRecordOfThing, HasNameRecord}
 use Rattle.vtd_namespaces.specs.Repeats.{HasNoAttribute}
 use Rattle.vtd_namespaces.specs.Scope.{IsDeclaredAt, IsDeclarationIn, IsNearestAt, IsNearest, HolderIn, Chain, Opened, tags_in}
 use Rattle.vtd_words.specs.Lists.{Lists}
 use Rattle.vtd_words.specs.Table.{IsNestOf, Shows, nodes_of}
 use Rattle.vtd_words.proofs.Fitting.{nest_shown}
-use Rattle.vtd_namespaces.proofs.StandingLemmas.{document_stands}
+use Rattle.vtd_namespaces.proofs.NameRecordLemmas.{document_holds}
 use Rattle.vtd_namespaces.proofs.RepeatLemmas.{eq_encoded, no_attribute_there, index_more}
 
 -- names that declare a prefix
@@ -70,9 +70,9 @@ and_missing : (a b : Bool) → b ≡ false → b ≡ (a && b)
 and_missing true b h = refl
 and_missing false b h = h
 
-pub rest_there : (name prefix front rest cs p : List ℕ) → name ≡ encode_utf8_all cs → prefix ≡ encode_utf8_all p → (length prefix ≡ 0 → ⊥) → length name ≡ 6 + length prefix → front ≡ take 6 name → rest ≡ drop 6 name →
-    (r : Bool) → r ≡ bytes_eq front (codes "xmlns:") → bytes_eq rest prefix ≡ true → r ≡ bytes_eq cs (declaring p)
-rest_there name prefix front rest cs p e f z l g h r k t =
+pub rest_there : (name prefix mark rest cs p : List ℕ) → name ≡ encode_utf8_all cs → prefix ≡ encode_utf8_all p → (length prefix ≡ 0 → ⊥) → length name ≡ 6 + length prefix → mark ≡ take 6 name → rest ≡ drop 6 name →
+    (r : Bool) → r ≡ bytes_eq mark (codes "xmlns:") → bytes_eq rest prefix ≡ true → r ≡ bytes_eq cs (declaring p)
+rest_there name prefix mark rest cs p e f z l g h r k t =
     k ∙ ap (λ x. bytes_eq x (codes "xmlns:")) g ∙ and_there (bytes_eq (take 6 name) (codes "xmlns:")) (bytes_eq (drop 6 name) prefix) (ap (λ x. bytes_eq x prefix) (sym h) ∙ t) ∙ declares_prefix name prefix cs p e f z (omega (arith, l))
 
 pub rest_missing : (name prefix rest cs p : List ℕ) → name ≡ encode_utf8_all cs → prefix ≡ encode_utf8_all p → (length prefix ≡ 0 → ⊥) → length name ≡ 6 + length prefix → rest ≡ drop 6 name →
@@ -105,38 +105,38 @@ token_two false h = refl
 -- a tag's declarations
 
 -- so many names are passed, and none declares the prefix
-pub record Sought (bytes : List ℕ) (rs : List Token) (first n : ℕ) (t : Tag) (p : List ℕ) : Type 0 where
+pub record Sought (bytes : List ℕ) (rs : List Record) (first n : ℕ) (t : Tag) (p : List ℕ) : Type 0 where
   pub place : ℕ
   pub left : List Attribute
-  pub stand : AttributesStand bytes rs (first + 2 * n) place left
+  pub hold : AreAttributeRecords bytes rs (first + 2 * n) place left
   pub same : declaration_of p t ≡ find (λ a. bytes_eq a.name (declaring p)) left
   pub number : (k : ℕ) → slice_get t.attributes (n + k) ≡ slice_get left k
 
-pub none_sought : (bytes : List ℕ) (rs : List Token) (first at : ℕ) (t : Tag) (p : List ℕ) → AttributesStand bytes rs first at t.attributes → Sought bytes rs first 0 t p
+pub none_sought : (bytes : List ℕ) (rs : List Record) (first at : ℕ) (t : Tag) (p : List ℕ) → AreAttributeRecords bytes rs first at t.attributes → Sought bytes rs first 0 t p
 none_sought bytes rs first at t p s =
     let e : first ≡ first + 2 * 0 = omega arith in
-    record { place = at; left = t.attributes; stand = subst (λ k. AttributesStand bytes rs k at t.attributes) e s; same = refl; number = λ k. let z : 0 + k ≡ k = omega arith in ap (slice_get t.attributes) z }
+    record { place = at; left = t.attributes; hold = subst (λ k. AreAttributeRecords bytes rs k at t.attributes) e s; same = refl; number = λ k. let z : 0 + k ≡ k = omega arith in ap (slice_get t.attributes) z }
 
-pub all_sought : (bytes : List ℕ) (rs : List Token) (first n : ℕ) (t : Tag) (p : List ℕ) → Sought bytes rs first n t p → HasNoAttribute rs (first + 2 * n) → declaration_of p t ≡ None
-all_sought bytes rs first n t p s h = by s.left s.stand s.same
+pub all_sought : (bytes : List ℕ) (rs : List Record) (first n : ℕ) (t : Tag) (p : List ℕ) → Sought bytes rs first n t p → HasNoAttribute rs (first + 2 * n) → declaration_of p t ≡ None
+all_sought bytes rs first n t p s h = by s.left s.hold s.same
   where
-    by : (left : List Attribute) → AttributesStand bytes rs (first + 2 * n) s.place left → declaration_of p t ≡ find (λ a. bytes_eq a.name (declaring p)) left → declaration_of p t ≡ None
+    by : (left : List Attribute) → AreAttributeRecords bytes rs (first + 2 * n) s.place left → declaration_of p t ≡ find (λ a. bytes_eq a.name (declaring p)) left → declaration_of p t ≡ None
     by [] k e = e
     by (a ∷ left) k e = absurd (no_attribute_there bytes rs (first + 2 * n) (name_place s.place a) a k.0 h)
 
 -- the next name, by whether it declares the prefix
-pub record NextSought (bytes : List ℕ) (rs : List Token) (first n : ℕ) (t : Tag) (p : List ℕ) (parts : Parts) (name : List ℕ) : Type 0 where
+pub record NextSought (bytes : List ℕ) (rs : List Record) (first n : ℕ) (t : Tag) (p : List ℕ) (parts : Parts) (name : List ℕ) : Type 0 where
   pub characters : List ℕ
   pub written : name ≡ encode_utf8_all characters
   pub hit : bytes_eq characters (declaring p) ≡ true → IsDeclaredAt first t p (first + 2 * n)
   pub miss : bytes_eq characters (declaring p) ≡ false → Sought bytes rs first (n + 1) t p
   pub other : (parts.token ≡ 3 → ⊥) → Sought bytes rs first (n + 1) t p
 
-pub next_sought : (bytes : List ℕ) (rs : List Token) (first n : ℕ) (t : Tag) (p : List ℕ) (parts : Parts) (name : List ℕ) → Sought bytes rs first n t p → token_of parts ≡ record_at (first + 2 * n) rs → is_attribute_token parts.token ≡ true →
-    name ≡ slice_of bytes (token_of parts) → NextSought bytes rs first n t p parts name
-next_sought bytes rs first n t p parts name s here kind is = by s.left s.stand s.same s.number
+pub next_sought : (bytes : List ℕ) (rs : List Record) (first n : ℕ) (t : Tag) (p : List ℕ) (parts : Parts) (name : List ℕ) → Sought bytes rs first n t p → record_of parts ≡ record_at (first + 2 * n) rs → is_attribute_token parts.token ≡ true →
+    name ≡ slice_of bytes (record_of parts) → NextSought bytes rs first n t p parts name
+next_sought bytes rs first n t p parts name s here kind is = by s.left s.hold s.same s.number
   where
-    by : (left : List Attribute) → AttributesStand bytes rs (first + 2 * n) s.place left → declaration_of p t ≡ find (λ a. bytes_eq a.name (declaring p)) left → ((k : ℕ) → slice_get t.attributes (n + k) ≡ slice_get left k) →
+    by : (left : List Attribute) → AreAttributeRecords bytes rs (first + 2 * n) s.place left → declaration_of p t ≡ find (λ a. bytes_eq a.name (declaring p)) left → ((k : ℕ) → slice_get t.attributes (n + k) ≡ slice_get left k) →
         NextSought bytes rs first n t p parts name
     by [] k e i = absurd (false≢true (sym k ∙ ap (λ r. is_attribute_token r.token) (sym here) ∙ kind))
     by (a ∷ left) k e i =
@@ -144,7 +144,7 @@ next_sought bytes rs first n t p parts name s here kind is = by s.left s.stand s
         let miss : bytes_eq a.name (declaring p) ≡ false → Sought bytes rs first (n + 1) t p = λ h. record {
           place = s.place + size (written_attribute a);
           left = left;
-          stand = subst (λ m. AttributesStand bytes rs m (s.place + size (written_attribute a)) left) (index_more first n) k.1;
+          hold = subst (λ m. AreAttributeRecords bytes rs m (s.place + size (written_attribute a)) left) (index_more first n) k.1;
           same = e ∙ ap (λ b. cond b (Some a) (find (λ a. bytes_eq a.name (declaring p)) left)) h;
           number = λ j. let m : n + 1 + j ≡ n + suc j = omega arith in ap (slice_get t.attributes) m ∙ i (suc j);
         } in
@@ -155,8 +155,8 @@ next_sought bytes rs first n t p parts name s here kind is = by s.left s.stand s
             declaration = a;
             found = e ∙ ap (λ b. cond b (Some a) (find (λ a. bytes_eq a.name (declaring p)) left)) h;
             number = n;
-            stands = ap (slice_get t.attributes) (sym here_zero) ∙ i 0;
-            place = refl;
+            holds = ap (slice_get t.attributes) (sym here_zero) ∙ i 0;
+            index = refl;
           };
           miss = miss;
           other = λ h. miss (no_declaration a.name p (token_two (declares a.name) (λ z. h (ap (λ r. r.token) here ∙ k.0.token ∙ z))));
@@ -164,12 +164,12 @@ next_sought bytes rs first n t p parts name s here kind is = by s.left s.stand s
 
 -- the tags that hold something
 
-pub chain_attributes : (bytes : List ℕ) (rs : List Token) (es : List Entry) → Each (StandsAt bytes rs) es → (x : Holder) (xs : List Holder) → HolderIn es x xs →
-    (at : ℕ) × AttributesStand bytes rs (x.place + 1) at x.tag.attributes
+pub chain_attributes : (bytes : List ℕ) (rs : List Record) (es : List Entry) → Each (HasNameRecord bytes rs) es → (x : Holder) (xs : List Holder) → HolderIn es x xs →
+    (at : ℕ) × AreAttributeRecords bytes rs (x.index + 1) at x.tag.attributes
 chain_attributes bytes rs es s x xs h =
-    let w : ThingStands bytes rs h.entry.place h.entry.start h.entry.what = each_at (StandsAt bytes rs) es h.entry s h.there in
-    let t : TagStands bytes rs h.entry.place h.entry.start x.tag = subst (ThingStands bytes rs h.entry.place h.entry.start) h.what w in
-    (attributes_place h.entry.start x.tag, subst (λ n. AttributesStand bytes rs (n + 1) (attributes_place h.entry.start x.tag) x.tag.attributes) h.place t.attributes)
+    let w : IsRecordOfThing bytes rs h.entry.index h.entry.start h.entry.what = each_at (HasNameRecord bytes rs) es h.entry s h.there in
+    let t : IsTagRecord bytes rs h.entry.index h.entry.start x.tag = subst (IsRecordOfThing bytes rs h.entry.index h.entry.start) h.what w in
+    (attributes_place h.entry.start x.tag, subst (λ n. AreAttributeRecords bytes rs (n + 1) (attributes_place h.entry.start x.tag) x.tag.attributes) h.index t.attributes)
 
 -- what is left to be searched, if no tag nearer by has a declaration of the prefix
 pub record Left (es : List Entry) (open_tags : List ℕ) (hs : List Holder) (p : List ℕ) (depth : ℕ) : Type 0 where
@@ -181,24 +181,24 @@ pub record Left (es : List Entry) (open_tags : List ℕ) (hs : List Holder) (p :
 
 -- a declaration by another number for the first record
 abbrev moved : (first to : ℕ) (t : Tag) (p : List ℕ) (n : ℕ) → first ≡ to → IsDeclaredAt first t p n → IsDeclaredAt to t p n
-moved first to t p n e d = record { declaration = d.declaration; found = d.found; number = d.number; stands = d.stands; place = d.place ∙ ap (λ m. m + 2 * d.number) e }
+moved first to t p n e d = record { declaration = d.declaration; found = d.found; number = d.number; holds = d.holds; index = d.index ∙ ap (λ m. m + 2 * d.number) e }
 
 -- the next tag
 pub record NextTag (es : List Entry) (open_tags : List ℕ) (hs : List Holder) (p : List ℕ) (depth : ℕ) (r : Option ℕ) : Type 0 where
   pub found : (n : ℕ) → r ≡ Some n → IsNearestAt es hs p n
   pub missing : r ≡ None → Left es open_tags hs p depth
 
-pub next_tag : (bytes : List ℕ) (rs : List Token) (es : List Entry) → Each (StandsAt bytes rs) es → (open_tags : List ℕ) (hs : List Holder) (p : List ℕ) (depth first : ℕ) (r : Option ℕ) → Left es open_tags hs p (depth + 1) → first ≡ slice_index_or open_tags depth 0 + 1 →
-    ((at : ℕ) (t : Tag) → AttributesStand bytes rs first at t.attributes → IsDeclarationIn first t p r) → NextTag es open_tags hs p depth r
-next_tag bytes rs es s open_tags hs p depth first r l f told = by l.left l.chain l.opened l.many l.same
+pub next_tag : (bytes : List ℕ) (rs : List Record) (es : List Entry) → Each (HasNameRecord bytes rs) es → (open_tags : List ℕ) (hs : List Holder) (p : List ℕ) (depth first : ℕ) (r : Option ℕ) → Left es open_tags hs p (depth + 1) → first ≡ slice_index_or open_tags depth 0 + 1 →
+    ((at : ℕ) (t : Tag) → AreAttributeRecords bytes rs first at t.attributes → IsDeclarationIn first t p r) → NextTag es open_tags hs p depth r
+next_tag bytes rs es s open_tags hs p depth first r l f known = by l.left l.chain l.opened l.many l.same
   where
     by : (left : List Holder) → Chain es left → Opened open_tags left → length left ≡ depth + 1 → nearest p (tags_in hs) ≡ nearest p (tags_in left) → NextTag es open_tags hs p depth r
     by [] c o m e = absurd (omega arith)
     by (x ∷ xs) c o m e =
         let few : length xs ≡ depth = omega (arith, m) in
-        let there : first ≡ x.place + 1 = f ∙ ap (λ k. slice_index_or open_tags k 0 + 1) (sym few) ∙ ap (λ k. k + 1) o.0 in
+        let there : first ≡ x.index + 1 = f ∙ ap (λ k. slice_index_or open_tags k 0 + 1) (sym few) ∙ ap (λ k. k + 1) o.0 in
         let a = chain_attributes bytes rs es s x xs c.0 in
-        let t : IsDeclarationIn first x.tag p r = told a.0 x.tag (subst (λ n. AttributesStand bytes rs n a.0 x.tag.attributes) (sym there) a.1) in
+        let t : IsDeclarationIn first x.tag p r = known a.0 x.tag (subst (λ n. AreAttributeRecords bytes rs n a.0 x.tag.attributes) (sym there) a.1) in
         record {
           found = λ n k.
               let d : IsDeclaredAt first x.tag p n = subst (IsDeclarationIn first x.tag p) k t in
@@ -208,7 +208,7 @@ next_tag bytes rs es s open_tags hs p depth first r l f told = by l.left l.chain
                 tag = x.tag;
                 inside = c.0.inside;
                 what = c.0.what;
-                declared = moved first (c.0.entry.place + 1) x.tag p n (there ∙ ap (λ m. m + 1) (sym c.0.place)) d;
+                declared = moved first (c.0.entry.index + 1) x.tag p n (there ∙ ap (λ m. m + 1) (sym c.0.place)) d;
                 nearest_says = e ∙ ap (λ q. first_of q (nearest p (tags_in xs))) d.found;
               };
           missing = λ k.
@@ -222,13 +222,13 @@ some_length (x ∷ xs) h e = omega arith
 
 pub step_back : (bytes : List ℕ) (lists : Lists) → length bytes < 2 ^ 30 → (nest : Forest) → IsNestOf bytes lists nest → (open_tags : List ℕ) (hs : List Holder) (p : List ℕ) (depth : ℕ) (r : Option ℕ) → 0 < depth →
     Left (nodes_of bytes nest) open_tags hs p depth →
-    ((rs : List Token) → Shows lists.records rs → (at : ℕ) (t : Tag) → AttributesStand bytes rs (slice_index_or open_tags (depth - 1) 0 + 1) at t.attributes → IsDeclarationIn (slice_index_or open_tags (depth - 1) 0 + 1) t p r) →
+    ((rs : List Record) → Shows lists.records rs → (at : ℕ) (t : Tag) → AreAttributeRecords bytes rs (slice_index_or open_tags (depth - 1) 0 + 1) at t.attributes → IsDeclarationIn (slice_index_or open_tags (depth - 1) 0 + 1) t p r) →
     NextTag (nodes_of bytes nest) open_tags hs p (depth - 1) r
-step_back bytes lists few nest s open_tags hs p depth r h l told =
+step_back bytes lists few nest s open_tags hs p depth r h l known =
     let rs = records nest (first_place bytes) in
     let one : depth ≡ depth - 1 + 1 = omega arith in
-    next_tag bytes rs (nodes_of bytes nest) (document_stands bytes nest s.accepted.document) open_tags hs p (depth - 1) (slice_index_or open_tags (depth - 1) 0 + 1) r
-    (subst (Left (nodes_of bytes nest) open_tags hs p) one l) refl (told rs (nest_shown bytes lists nest few s))
+    next_tag bytes rs (nodes_of bytes nest) (document_holds bytes nest s.accepted.document) open_tags hs p (depth - 1) (slice_index_or open_tags (depth - 1) 0 + 1) r
+    (subst (Left (nodes_of bytes nest) open_tags hs p) one l) refl (known rs (nest_shown bytes lists nest few s))
 
 pub step_found : (es : List Entry) (open_tags : List ℕ) (hs : List Holder) (p : List ℕ) (depth : ℕ) (r : Option ℕ) → NextTag es open_tags hs p depth r → is_some r ≡ true → IsNearest es hs p r
 step_found es open_tags hs p depth None t h = absurd (false≢true h)

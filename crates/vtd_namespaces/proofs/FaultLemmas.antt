@@ -6,10 +6,10 @@ use Rattle.xml_model.specs.Chars.{size}
 use Rattle.xml_model.specs.Items.{Attribute, Tag, Leaf, text, cdata, declaration, doctype, written_attribute}
 use Rattle.xml_model.specs.Nest.{Forest, done, single, empty, element}
 use Rattle.xml_model.specs.Records.{declares, past_empty, past_element, attributes_place}
-use Rattle.xml_model.specs.Tree.{Step, Entry, Here, Holder, attributes, nodes, all, at_first, leaf_node, begins_run, run, after_leaf, inside_of, behind, element_entry, tag_attributes, under, held}
+use Rattle.xml_model.specs.Tree.{Step, Entry, Here, Holder, attributes, nodes, all, at_first, leaf_node, begins_run, run, after_leaf, inside_of, after_element, element_entry, tag_attributes, under, held}
 use Rattle.xml_model.specs.Accepted.{Faults, leaf_faults, over_names}
 use Rattle.xml_model.proofs.Each.{Rising, Pairs, each_more, rising_pairs}
-use Rattle.xml_model.proofs.Rise.{places_rise}
+use Rattle.xml_model.proofs.Rise.{indexes_rise}
 use Rattle.vtd_namespaces.specs.Faults.{first_of, node_faults}
 
 attributes_none : (w : Faults) (others : List Attribute) (holders : List Holder) (at n i : ℕ) → flat_map (node_faults w) (attributes holders at n i others) ≡ []
@@ -47,7 +47,7 @@ own_same : (w : Faults) (t : Tag) (inside : Forest) (h : Here) (stop : ℕ) (mor
 own_same w t inside h stop more =
     under_same w (Step.child h.number) (element_entry h t inside stop ∷ tag_attributes h t ++ more)
     ∙ ap (λ l. w.tag h.at (map (λ x. x.tag) h.holders) t ++ l)
-    (flat_map-append (node_faults w) (tag_attributes h t) more ∙ ap (λ l. l ++ flat_map (node_faults w) more) (attributes_none w t.attributes (held h t) (attributes_place h.at t) (suc h.place) 0))
+    (flat_map-append (node_faults w) (tag_attributes h t) more ∙ ap (λ l. l ++ flat_map (node_faults w) more) (attributes_none w t.attributes (held h t) (attributes_place h.at t) (suc h.index) 0))
 
 nodes_same : (w : Faults) (f : Forest) (h : Here) → over_names w (map (λ x. x.tag) h.holders) h.at f ≡ flat_map (node_faults w) (nodes h f)
 nodes_same w done h = refl
@@ -55,18 +55,18 @@ nodes_same w (single x f) h = ap (λ l. leaf_faults w h.at x ++ l) (nodes_same w
 nodes_same w (empty t f) h =
     let stop = past_empty h.at t in
     let mine = w.tag h.at (map (λ x. x.tag) h.holders) t in
-    let more = nodes (behind h t done stop) f in
+    let more = nodes (after_element h t done stop) f in
     let own = element_entry h t done stop ∷ tag_attributes h t in
-    ap (λ l. mine ++ l) (nodes_same w f (behind h t done stop))
+    ap (λ l. mine ++ l) (nodes_same w f (after_element h t done stop))
     ∙ sym (flat_map-append (node_faults w) (map (under (Step.child h.number)) own) more
     ∙ ap (λ l. l ++ flat_map (node_faults w) more) (ap (λ l. flat_map (node_faults w) (map (under (Step.child h.number)) (element_entry h t done stop ∷ l))) (sym (append-nil (tag_attributes h t))) ∙ own_same w t done h stop [] ∙ append-nil mine))
 nodes_same w (element t inside space f) h =
     let stop = past_element h.at t inside space in
     let mine = w.tag h.at (map (λ x. x.tag) h.holders) t in
-    let more = nodes (behind h t inside stop) f in
+    let more = nodes (after_element h t inside stop) f in
     let within = nodes (inside_of h t) inside in
     let own = element_entry h t inside stop ∷ tag_attributes h t ++ within in
-    ap₂ (λ k l. mine ++ k ++ l) (nodes_same w inside (inside_of h t)) (nodes_same w f (behind h t inside stop))
+    ap₂ (λ k l. mine ++ k ++ l) (nodes_same w inside (inside_of h t)) (nodes_same w f (after_element h t inside stop))
     ∙ sym (flat_map-append (node_faults w) (map (under (Step.child h.number)) own) more ∙ ap (λ l. l ++ flat_map (node_faults w) more) (own_same w t inside h stop within))
 
 -- the faults of a document's names are those of its nodes
@@ -78,9 +78,9 @@ faults_same w first nest = nodes_same w nest (at_first first)
 
 -- no node whose first record is before the one with an index has a fault
 abbrev pub NoneBefore : Faults → ℕ → List Entry → Type 0
-NoneBefore w n es = Each (λ e. e.place < n → node_faults w e ≡ []) es
+NoneBefore w n es = Each (λ e. e.index < n → node_faults w e ≡ []) es
 
-none_at_all : (w : Faults) (n : ℕ) (es : List Entry) → NoneBefore w n es → Each (λ e. e.place < n) es → flat_map (node_faults w) es ≡ []
+none_at_all : (w : Faults) (n : ℕ) (es : List Entry) → NoneBefore w n es → Each (λ e. e.index < n) es → flat_map (node_faults w) es ≡ []
 none_at_all w n [] h l = refl
 none_at_all w n (e ∷ es) h l = ap₂ (λ x y. x ++ y) (h.0 l.0) (none_at_all w n es h.1 l.1)
 
@@ -88,22 +88,22 @@ first_append : (xs ys : List ℕ) (at : ℕ) → first_of xs ≡ Some at → fir
 first_append [] ys at h = absurd (cc)
 first_append (x ∷ xs) ys at h = h
 
-first_here : (w : Faults) (n at : ℕ) (es : List Entry) → NoneBefore w n es → Pairs (λ x y. x.place < y.place) es → (e : Entry) → Contains es e → e.place ≡ n → first_of (node_faults w e) ≡ Some at →
+first_here : (w : Faults) (n at : ℕ) (es : List Entry) → NoneBefore w n es → Pairs (λ x y. x.index < y.index) es → (e : Entry) → Contains es e → e.index ≡ n → first_of (node_faults w e) ≡ Some at →
     first_of (flat_map (node_faults w) es) ≡ Some at
 first_here w n at [] h p e c k s = absurd (omega (arith, c.1))
 first_here w n at (x ∷ es) h p e (zero, l, q) k s = let same : x ≡ e = q in first_append (node_faults w x) (flat_map (node_faults w) es) at (ap (λ y. first_of (node_faults w y)) same ∙ s)
 first_here w n at (x ∷ es) h p e (suc j, l, q) k s =
     let c : Contains es e = (j, omega (arith, l), q) in
-    let low : x.place < e.place = Rattle.xml_model.proofs.Each.each_at (λ y. x.place < y.place) es e p.0 c in
+    let low : x.index < e.index = Rattle.xml_model.proofs.Each.each_at (λ y. x.index < y.index) es e p.0 c in
     let none : node_faults w x ≡ [] = h.0 (omega (arith, low, k)) in
     ap (λ y. first_of (y ++ flat_map (node_faults w) es)) none ∙ first_here w n at es h.1 p.1 e c k s
 
-pub first_found : (w : Faults) (first n at : ℕ) (nest : Forest) → NoneBefore w n (all nest first) → (e : Entry) → Contains (all nest first) e → e.place ≡ n → first_of (node_faults w e) ≡ Some at →
+pub first_found : (w : Faults) (first n at : ℕ) (nest : Forest) → NoneBefore w n (all nest first) → (e : Entry) → Contains (all nest first) e → e.index ≡ n → first_of (node_faults w e) ≡ Some at →
     first_of (over_names w [] first nest) ≡ Some at
 first_found w first n at nest h e c k s =
-    ap first_of (faults_same w first nest) ∙ first_here w n at (all nest first) h (rising_pairs (λ x. x.place) 0 _ (all nest first) (places_rise nest first)) e c k s
+    ap first_of (faults_same w first nest) ∙ first_here w n at (all nest first) h (rising_pairs (λ x. x.index) 0 _ (all nest first) (indexes_rise nest first)) e c k s
 
-pub none_found : (w : Faults) (first n : ℕ) (nest : Forest) → NoneBefore w n (all nest first) → Each (λ e. e.place < n) (all nest first) → first_of (over_names w [] first nest) ≡ None
+pub none_found : (w : Faults) (first n : ℕ) (nest : Forest) → NoneBefore w n (all nest first) → Each (λ e. e.index < n) (all nest first) → first_of (over_names w [] first nest) ≡ None
 none_found w first n nest h l = ap first_of (faults_same w first nest ∙ none_at_all w n (all nest first) h l)
 
 pub none_listed : (xs : List ℕ) → first_of xs ≡ None → xs ≡ []

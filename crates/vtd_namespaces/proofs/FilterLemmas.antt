@@ -2,13 +2,13 @@
 use Rattle.std.proofs.Common.{◌≡◌, ℕ, ◌+◌, false, List, ap, ◌∙◌, arith}
 use Rattle.std.specs.Prelude.{replicate}
 use Rattle.std.proofs.lemmas.Bool.Decides.{nat_tests}
-use Rattle.vtd_namespaces.specs.Filter.{mark_of, slot_of, stands_for, is_taken}
+use Rattle.vtd_namespaces.specs.Filter.{mark_of, slot_of, is_mark_for, is_taken}
 use Rattle.vtd_namespaces.proofs.OpenLemmas.{zeros}
 
 -- what a slot holds that no key has taken stands for no mark
-free_for : (n : ℕ) → stands_for (n + 1) 0 ≡ false
+free_for : (n : ℕ) → is_mark_for (n + 1) 0 ≡ false
 free_for n = grind (arith, nat_tests)
 
 -- no key has taken a slot, where all are free
 pub none_taken : (slots : ℕ) (key : List ℕ) → is_taken (replicate slots 0) key ≡ false
-none_taken slots key = ap (λ held. stands_for (mark_of key) held) (zeros slots (slot_of key)) ∙ free_for _
+none_taken slots key = ap (λ held. is_mark_for (mark_of key) held) (zeros slots (slot_of key)) ∙ free_for _

@@ -4,15 +4,15 @@ use Rattle.std.specs.List.{list_any, AllByRecursion as Each}
 use Rattle.std.proofs.lemmas.Bool.{false≢true}
 use Rattle.xml_model.specs.Chars.{size, prefix_of, is_qname}
 use Rattle.xml_model.specs.Items.{Attribute, Tag, written_attribute}
-use Rattle.xml_model.specs.Records.{Token, declares}
+use Rattle.xml_model.specs.Records.{Record, declares}
 use Rattle.xml_model.specs.Scan.{record_at}
 use Rattle.xml_model.specs.Content.{value_content}
 use Rattle.xml_model.specs.Names.{Expanded}
 use Rattle.xml_model.specs.Accepted.{name_place, repeated, is_bound, declaration_offends, attribute_offends, offending_attributes, expanded_of, same_expanded, seen_with}
 use Rattle.xml_model.proofs.Each.{each_append}
 use Rattle.vtd_words.specs.declared.packing.Parts.{Parts}
-use Rattle.vtd_words.specs.Packed.{token_of}
-use Rattle.vtd_namespaces.specs.Standing.{is_attribute_token, AttributesStand}
+use Rattle.vtd_words.specs.Packed.{record_of}
+use Rattle.vtd_namespaces.specs.NameRecords.{is_attribute_token, AreAttributeRecords}
 use Rattle.vtd_namespaces.specs.Repeats.{HasNoAttribute}
 use Rattle.vtd_namespaces.specs.Faults.{first_of}
 use Rattle.vtd_namespaces.specs.Offences.{seen_after, IsFine}
@@ -58,31 +58,31 @@ fresh (b ∷ done) left a at seen h =
     ((or_parts (bytes_eq a.name b.name) (list_any (bytes_eq a.name) seen) (fresh_seen done left a (at + size (written_attribute b)) (b.name ∷ seen) more)).0, fresh done left a (at + size (written_attribute b)) (b.name ∷ seen) more)
 
 -- so many names are passed, and none offends
-pub record Inspected (bytes : List ℕ) (rs : List Token) (first n at : ℕ) (tags : List Tag) (others : List Attribute) : Type 0 where
+pub record Inspected (bytes : List ℕ) (rs : List Record) (first n at : ℕ) (tags : List Tag) (others : List Attribute) : Type 0 where
   pub place : ℕ
   pub done : List Attribute
   pub left : List Attribute
   pub split : others ≡ done ++ left
   pub many : length done ≡ n
-  pub stand : AttributesStand bytes rs (first + 2 * n) place left
+  pub hold : AreAttributeRecords bytes rs (first + 2 * n) place left
   pub same : first_of (offending_attributes tags at [] others) ≡ first_of (offending_attributes tags place (seen_after tags [] done) left)
   pub fine : Each (IsFine tags) done
 
-pub none_inspected : (bytes : List ℕ) (rs : List Token) (first at : ℕ) (tags : List Tag) (others : List Attribute) → AttributesStand bytes rs first at others → Inspected bytes rs first 0 at tags others
+pub none_inspected : (bytes : List ℕ) (rs : List Record) (first at : ℕ) (tags : List Tag) (others : List Attribute) → AreAttributeRecords bytes rs first at others → Inspected bytes rs first 0 at tags others
 none_inspected bytes rs first at tags others s =
     let e : first ≡ first + 2 * 0 = omega arith in
-    record { place = at; done = []; left = others; split = refl; many = refl; stand = subst (λ k. AttributesStand bytes rs k at others) e s; same = refl; fine = tt }
+    record { place = at; done = []; left = others; split = refl; many = refl; hold = subst (λ k. AreAttributeRecords bytes rs k at others) e s; same = refl; fine = tt }
 
-pub all_inspected : (bytes : List ℕ) (rs : List Token) (first n at : ℕ) (tags : List Tag) (others : List Attribute) → Inspected bytes rs first n at tags others → HasNoAttribute rs (first + 2 * n) → None ≡ first_of (offending_attributes tags at [] others)
-all_inspected bytes rs first n at tags others p h = by p.left p.stand p.same
+pub all_inspected : (bytes : List ℕ) (rs : List Record) (first n at : ℕ) (tags : List Tag) (others : List Attribute) → Inspected bytes rs first n at tags others → HasNoAttribute rs (first + 2 * n) → None ≡ first_of (offending_attributes tags at [] others)
+all_inspected bytes rs first n at tags others p h = by p.left p.hold p.same
   where
-    by : (left : List Attribute) → AttributesStand bytes rs (first + 2 * n) p.place left → first_of (offending_attributes tags at [] others) ≡ first_of (offending_attributes tags p.place (seen_after tags [] p.done) left) →
+    by : (left : List Attribute) → AreAttributeRecords bytes rs (first + 2 * n) p.place left → first_of (offending_attributes tags at [] others) ≡ first_of (offending_attributes tags p.place (seen_after tags [] p.done) left) →
         None ≡ first_of (offending_attributes tags at [] others)
     by [] s e = sym e
     by (a ∷ left) s e = absurd (no_attribute_there bytes rs (first + 2 * n) (name_place p.place a) a s.0 h)
 
 -- the next name, by whether it offends
-pub record NextInspected (bytes : List ℕ) (rs : List Token) (first n at : ℕ) (tags : List Tag) (others : List Attribute) (p : Parts) : Type 0 where
+pub record NextInspected (bytes : List ℕ) (rs : List Record) (first n at : ℕ) (tags : List Tag) (others : List Attribute) (p : Parts) : Type 0 where
   pub done : List Attribute
   pub left : List Attribute
   pub attribute : Attribute
@@ -92,11 +92,11 @@ pub record NextInspected (bytes : List ℕ) (rs : List Token) (first n at : ℕ)
   pub hit : attribute_offends tags (seen_after tags [] done) attribute ≡ true → Some p.offset ≡ first_of (offending_attributes tags at [] others)
   pub miss : attribute_offends tags (seen_after tags [] done) attribute ≡ false → Inspected bytes rs first (n + 1) at tags others
 
-pub next_inspected : (bytes : List ℕ) (rs : List Token) (first n at : ℕ) (tags : List Tag) (others : List Attribute) (p : Parts) → Inspected bytes rs first n at tags others → token_of p ≡ record_at (first + 2 * n) rs → is_attribute_token p.token ≡ true →
+pub next_inspected : (bytes : List ℕ) (rs : List Record) (first n at : ℕ) (tags : List Tag) (others : List Attribute) (p : Parts) → Inspected bytes rs first n at tags others → record_of p ≡ record_at (first + 2 * n) rs → is_attribute_token p.token ≡ true →
     NextInspected bytes rs first n at tags others p
-next_inspected bytes rs first n at tags others p i here kind = by i.left i.split i.stand i.same
+next_inspected bytes rs first n at tags others p i here kind = by i.left i.split i.hold i.same
   where
-    by : (left : List Attribute) → others ≡ i.done ++ left → AttributesStand bytes rs (first + 2 * n) i.place left → first_of (offending_attributes tags at [] others) ≡ first_of (offending_attributes tags i.place (seen_after tags [] i.done) left) →
+    by : (left : List Attribute) → others ≡ i.done ++ left → AreAttributeRecords bytes rs (first + 2 * n) i.place left → first_of (offending_attributes tags at [] others) ≡ first_of (offending_attributes tags i.place (seen_after tags [] i.done) left) →
         NextInspected bytes rs first n at tags others p
     by [] w s e = absurd (false≢true (sym s ∙ ap (λ r. is_attribute_token r.token) (sym here) ∙ kind))
     by (a ∷ left) w s e =
@@ -116,12 +116,12 @@ next_inspected bytes rs first n at tags others p i here kind = by i.left i.split
             left = left;
             split = w ∙ sym (append_assoc i.done (a ∷ []) left);
             many = length-append i.done (a ∷ []) ∙ ap (λ k. k + 1) i.many;
-            stand = subst (λ k. AttributesStand bytes rs k (i.place + size (written_attribute a)) left) (index_more first n) s.1;
+            hold = subst (λ k. AreAttributeRecords bytes rs k (i.place + size (written_attribute a)) left) (index_more first n) s.1;
             same = e ∙ ap (λ b. first_of (cond b (name_place i.place a ∷ []) [] ++ more)) h ∙ ap (λ z. first_of (offending_attributes tags (i.place + size (written_attribute a)) z left)) (sym (seen_more tags i.done a []));
             fine = each_append (IsFine tags) i.done (a ∷ []) i.fine (fine_from tags (seen_after tags [] i.done) a h, tt);
           };
         }
 
 -- the names before it differ from it
-pub differ : (bytes : List ℕ) (rs : List Token) (first n at : ℕ) (tags : List Tag) (others : List Attribute) (p : Parts) (x : NextInspected bytes rs first n at tags others p) → repeated at [] others ≡ [] → Each (λ b. bytes_eq x.attribute.name b.name ≡ false) x.done
+pub differ : (bytes : List ℕ) (rs : List Record) (first n at : ℕ) (tags : List Tag) (others : List Attribute) (p : Parts) (x : NextInspected bytes rs first n at tags others p) → repeated at [] others ≡ [] → Each (λ b. bytes_eq x.attribute.name b.name ≡ false) x.done
 differ bytes rs first n at tags others p x h = fresh x.done x.left x.attribute at [] (ap (repeated at []) (sym x.split) ∙ h)

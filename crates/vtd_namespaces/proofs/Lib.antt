@@ -1,5 +1,5 @@
 pub mod SpelledLemmas
-pub mod StandingLemmas
+pub mod NameRecordLemmas
 pub mod FaultLemmas
 pub mod NodeLemmas
 pub mod ChainLemmas

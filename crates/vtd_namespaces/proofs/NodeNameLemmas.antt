@@ -9,39 +9,39 @@ use Rattle.xml_model.specs.declared.Kind.TheVariants as kinds
 use Rattle.xml_model.specs.Chars.{size, prefix_of, local_of, is_name}
 use Rattle.xml_model.specs.Items.{first_place}
 use Rattle.xml_model.specs.Nest.{Forest}
-use Rattle.xml_model.specs.Records.{Token, records}
+use Rattle.xml_model.specs.Records.{Record, records}
 use Rattle.xml_model.specs.Scan.{record_at, kind_of_token}
-use Rattle.xml_model.specs.Tree.{Thing, Entry, Stands, kind_of}
+use Rattle.xml_model.specs.Tree.{Thing, Entry, Identifies, kind_of}
 use Rattle.xml_model.specs.Names.{xml_uri}
 use Rattle.xml_model.specs.Laws.{FirstRecordShows}
 use Rattle.xml_model.proofs.Each.{each_at}
 use Rattle.xml_model.proofs.Bounds.{nest_shallow}
 use Rattle.xml_model.proofs.FirstRecords.{first_records}
 use Rattle.vtd_words.specs.declared.packing.Parts.{Parts}
-use Rattle.vtd_words.specs.Packed.{token_of}
+use Rattle.vtd_words.specs.Packed.{record_of}
 use Rattle.vtd_words.specs.Lists.{Lists}
 use Rattle.vtd_words.specs.Table.{IsNestOf, Shows, nodes_of}
 use Rattle.vtd_words.proofs.Fitting.{nest_shown}
-use Rattle.vtd_namespaces.specs.Standing.{slice_of, ThingStands, StandsAt}
+use Rattle.vtd_namespaces.specs.NameRecords.{slice_of, IsRecordOfThing, HasNameRecord}
 use Rattle.vtd_namespaces.specs.NodeNames.{HasName, node_prefix, node_local}
-use Rattle.vtd_namespaces.proofs.StandingLemmas.{document_stands}
+use Rattle.vtd_namespaces.proofs.NameRecordLemmas.{document_holds}
 use Rattle.vtd_namespaces.proofs.RepeatLemmas.{eq_encoded}
 
 -- an element or an attribute, by its record
 pub record IsNamed (bytes : List ℕ) (p : Parts) (what : Thing) : Type 0 where
   pub name : List ℕ
-  pub slice : slice_of bytes (token_of p) ≡ encode_utf8_all name
+  pub slice : slice_of bytes (record_of p) ≡ encode_utf8_all name
   pub prefix : p.prefix ≡ size (prefix_of name)
   pub named : is_name name ≡ true
   pub prefix_is : node_prefix what ≡ prefix_of name
   pub local_is : node_local what ≡ local_of name
 
--- what the record of a node with a name tells
-pub record NameTold (bytes : List ℕ) (p : Parts) (what : Thing) : Type 0 where
-  pub instruction : p.token ≡ 7 → (node_prefix what ≡ []) × (slice_of bytes (token_of p) ≡ encode_utf8_all (node_local what))
+-- what the record of a node with a name says
+pub record NameKnown (bytes : List ℕ) (p : Parts) (what : Thing) : Type 0 where
+  pub instruction : p.token ≡ 7 → (node_prefix what ≡ []) × (slice_of bytes (record_of p) ≡ encode_utf8_all (node_local what))
   pub other : (p.token ≡ 7 → ⊥) → IsNamed bytes p what
 
-name_by : (bytes : List ℕ) (rs : List Token) (p : Parts) (n at : ℕ) (what : Thing) → token_of p ≡ record_at n rs → ThingStands bytes rs n at what → kind_of_token p.token ≡ Some (kind_of what) → HasName (kind_of what) → NameTold bytes p what
+name_by : (bytes : List ℕ) (rs : List Record) (p : Parts) (n at : ℕ) (what : Thing) → record_of p ≡ record_at n rs → IsRecordOfThing bytes rs n at what → kind_of_token p.token ≡ Some (kind_of what) → HasName (kind_of what) → NameKnown bytes p what
 name_by bytes rs p n at (Thing.element t inside) e w k h = record {
   instruction = λ z. let q : ◌≡◌ {A = Option Kind} (Some kinds.Instruction) (Some kinds.Element) = sym (ap kind_of_token z) ∙ k in absurd (cc);
   other = λ z. record { name = t.name; slice = ap (slice_of bytes) e ∙ w.name.slice; prefix = ap (λ r. r.prefix) e ∙ w.name.prefix; named = w.name.named; prefix_is = refl; local_is = refl };
@@ -55,14 +55,14 @@ name_by bytes rs p n at (Thing.root first f) e w k h = absurd h
 name_by bytes rs p n at (Thing.text xs) e w k h = absurd h
 name_by bytes rs p n at (Thing.comment cs) e w k h = absurd h
 
-pub name_told : (bytes : List ℕ) (lists : Lists) → length bytes < 2 ^ 30 → (nest : Forest) → IsNestOf bytes lists nest → (kind : Kind) (at : ℕ) → HasName kind → (p : Parts) → ((rs : List Token) → Shows lists.records rs → token_of p ≡ record_at at rs) →
-    (e : Entry) → Stands kind at e (nodes_of bytes nest) → NameTold bytes p e.what
-name_told bytes lists few nest s kind at h p here e w =
+pub name_known : (bytes : List ℕ) (lists : Lists) → length bytes < 2 ^ 30 → (nest : Forest) → IsNestOf bytes lists nest → (kind : Kind) (at : ℕ) → HasName kind → (p : Parts) → ((rs : List Record) → Shows lists.records rs → record_of p ≡ record_at at rs) →
+    (e : Entry) → Identifies kind at e (nodes_of bytes nest) → NameKnown bytes p e.what
+name_known bytes lists few nest s kind at h p here e w =
     let rs = records nest (first_place bytes) in
-    let there : token_of p ≡ record_at e.place rs = here rs (nest_shown bytes lists nest few s) ∙ ap (λ n. record_at n rs) (sym w.2) in
+    let there : record_of p ≡ record_at e.index rs = here rs (nest_shown bytes lists nest few s) ∙ ap (λ n. record_at n rs) (sym w.2) in
     let f = each_at (FirstRecordShows rs) (nodes_of bytes nest) e (first_records nest (first_place bytes) (nest_shallow nest s.accepted.document.nests)) w.0 in
-    let t = each_at (StandsAt bytes rs) (nodes_of bytes nest) e (document_stands bytes nest s.accepted.document) w.0 in
-    name_by bytes rs p e.place e.start e.what there t (ap (λ r. kind_of_token r.token) there ∙ f.kind) (subst HasName (sym w.1) h)
+    let t = each_at (HasNameRecord bytes rs) (nodes_of bytes nest) e (document_holds bytes nest s.accepted.document) w.0 in
+    name_by bytes rs p e.index e.start e.what there t (ap (λ r. kind_of_token r.token) there ∙ f.kind) (subst HasName (sym w.1) h)
 
 -- texts
 

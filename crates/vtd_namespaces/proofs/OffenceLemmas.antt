@@ -10,18 +10,18 @@ use Rattle.std.proofs.lemmas.List.Folds.{list_any_more, list_any_kept}
 use Rattle.xml_model.specs.Chars.{size, prefix_of, local_of, after_colon, is_name}
 use Rattle.xml_model.specs.Items.{Attribute, Tag, first_place, is_nil, written_attribute}
 use Rattle.xml_model.specs.Nest.{Forest}
-use Rattle.xml_model.specs.Records.{Token, records, declares, name_token}
+use Rattle.xml_model.specs.Records.{Record, records, declares, name_token}
 use Rattle.xml_model.specs.Scan.{record_at}
 use Rattle.xml_model.specs.Tree.{Holder}
 use Rattle.xml_model.specs.Names.{Expanded, attribute_uri, xml_uri, xmlns_uri}
 use Rattle.xml_model.specs.Accepted.{name_place, is_reserved, declaration_offends, expanded_of, same_expanded}
 use Rattle.vtd_words.specs.declared.packing.Parts.{Parts}
-use Rattle.vtd_words.specs.Packed.{token_of}
+use Rattle.vtd_words.specs.Packed.{record_of}
 use Rattle.vtd_words.specs.Lists.{Lists}
 use Rattle.vtd_words.specs.Table.{nodes_of}
-use Rattle.vtd_namespaces.specs.Standing.{slice_of, IsAttributeRecord, AttributesStand}
+use Rattle.vtd_namespaces.specs.NameRecords.{slice_of, IsAttributeRecord, AreAttributeRecords}
 use Rattle.vtd_namespaces.specs.Uris.{IsScope, same_uri}
-use Rattle.vtd_namespaces.proofs.StandingLemmas.{document_stands}
+use Rattle.vtd_namespaces.proofs.NameRecordLemmas.{document_holds}
 use Rattle.vtd_namespaces.proofs.DeclarationLemmas.{chain_attributes}
 use Rattle.vtd_namespaces.specs.Offences.{is_twin, IsWritten}
 use Rattle.vtd_namespaces.proofs.RepeatLemmas.{eq_encoded}
@@ -55,7 +55,7 @@ declares_xmlns_encoded : encode_utf8_all (codes "xmlns:xmlns") ≡ codes "xmlns:
 unfolding encode
 declares_xmlns_encoded = refl
 
--- the names, as the tests on bytes tell them
+-- the names, as the tests on bytes say them
 pub record NameTests (name : List ℕ) (cs : List ℕ) : Type 0 where
   pub default : bytes_eq name (codes "xmlns") ≡ bytes_eq cs (codes "xmlns")
   pub xml : bytes_eq name (codes "xmlns:xml") ≡ bytes_eq cs (codes "xmlns:xml")
@@ -140,11 +140,11 @@ some_not_none (Some u) h = refl
 -- a name that is no prefix and a colon before a local part
 pub record OtherName (bytes : List ℕ) (p : Parts) (b : Attribute) : Type 0 where
   pub token : p.token ≡ name_token b.name
-  pub slice : slice_of bytes (token_of p) ≡ encode_utf8_all b.name
+  pub slice : slice_of bytes (record_of p) ≡ encode_utf8_all b.name
   pub prefix : p.prefix ≡ size (prefix_of b.name)
   pub named : is_name b.name ≡ true
 
-pub other_name : (bytes : List ℕ) (rs : List Token) (at place : ℕ) (p : Parts) (b : Attribute) → token_of p ≡ record_at at rs → IsAttributeRecord bytes rs at place b → OtherName bytes p b
+pub other_name : (bytes : List ℕ) (rs : List Record) (at place : ℕ) (p : Parts) (b : Attribute) → record_of p ≡ record_at at rs → IsAttributeRecord bytes rs at place b → OtherName bytes p b
 other_name bytes rs at place p b e r = record {
   token = ap (λ x. x.token) e ∙ r.token;
   slice = ap (slice_of bytes) e ∙ r.name.slice;
@@ -198,7 +198,7 @@ twin_tests bytes p tags a b name prefix x y o w t h k e f =
 
 -- the attribute by its number
 
-pub attribute_number : (others : List Attribute) (bytes : List ℕ) (rs : List Token) (n at k : ℕ) (d : Attribute) → AttributesStand bytes rs n at others → k < length others → (place : ℕ) × IsAttributeRecord bytes rs (n + 2 * k) place (get_or others k d)
+pub attribute_number : (others : List Attribute) (bytes : List ℕ) (rs : List Record) (n at k : ℕ) (d : Attribute) → AreAttributeRecords bytes rs n at others → k < length others → (place : ℕ) × IsAttributeRecord bytes rs (n + 2 * k) place (get_or others k d)
 attribute_number [] bytes rs n at k d s h = absurd (omega arith)
 attribute_number (a ∷ others) bytes rs n at zero d s h = let e : n ≡ n + 2 * 0 = omega arith in (name_place at a, subst (λ m. IsAttributeRecord bytes rs m (name_place at a) a) e s.0)
 attribute_number (a ∷ others) bytes rs n at (suc k) d s h =
@@ -208,11 +208,11 @@ attribute_number (a ∷ others) bytes rs n at (suc k) d s h =
 
 -- of the nearest tag of a scope
 pub scope_attribute : (bytes : List ℕ) (lists : Lists) (open_tags : List ℕ) (depth : ℕ) (nest : Forest) (x : Holder) (xs : List Holder) → IsScope bytes lists open_tags depth nest (x ∷ xs) →
-    (first k : ℕ) (d : Attribute) → first ≡ x.place + 1 → k < length x.tag.attributes → (place : ℕ) × IsAttributeRecord bytes (records nest (first_place bytes)) (first + 2 * k) place (get_or x.tag.attributes k d)
+    (first k : ℕ) (d : Attribute) → first ≡ x.index + 1 → k < length x.tag.attributes → (place : ℕ) × IsAttributeRecord bytes (records nest (first_place bytes)) (first + 2 * k) place (get_or x.tag.attributes k d)
 scope_attribute bytes lists open_tags depth nest x xs s first k d e h =
     let rs = records nest (first_place bytes) in
-    let a = chain_attributes bytes rs (nodes_of bytes nest) (document_stands bytes nest s.shown.accepted.document) x xs s.chain.0 in
-    let r = attribute_number x.tag.attributes bytes rs (x.place + 1) a.0 k d a.1 h in
+    let a = chain_attributes bytes rs (nodes_of bytes nest) (document_holds bytes nest s.shown.accepted.document) x xs s.chain.0 in
+    let r = attribute_number x.tag.attributes bytes rs (x.index + 1) a.0 k d a.1 h in
     (r.0, subst (λ m. IsAttributeRecord bytes rs (m + 2 * k) r.0 (get_or x.tag.attributes k d)) (sym e) r.1)
 
 any_later : (f : Attribute → Bool) (others : List Attribute) (k m : ℕ) → list_any f (take k others) ≡ true → list_any f (take (k + m) others) ≡ true

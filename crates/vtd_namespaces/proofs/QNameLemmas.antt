@@ -44,7 +44,7 @@ all_scalars : (cs : List ℕ) → list_all is_name_char cs ≡ true → scalars 
 all_scalars [] h = refl
 all_scalars (c ∷ cs) h = let p = and_parts (is_name_char c) (list_all is_name_char cs) h in and_from (scalar c) (scalars cs) (char_scalar c p.0) (all_scalars cs p.1)
 
--- a text before and behind its first colon
+-- a text before and after its first colon
 
 colon_parts : (cs : List ℕ) → has_colon cs ≡ true → cs ≡ before_colon cs ++ 58 ∷ after_colon cs
 colon_parts [] h = absurd (false≢true h)
@@ -110,10 +110,10 @@ prefixed_by (c ∷ cs) true e h = by (c == 58) refl
           local = ap (λ x. cond x (after_colon (c ∷ cs)) (c ∷ cs)) e;
           qname = λ n.
               let p = and_parts (is_name_start c) (list_all is_name_char cs) n in
-              let front : (is_name (before_colon (c ∷ cs)) && not (has_colon (before_colon (c ∷ cs)))) ≡ true =
+              let prefix : (is_name (before_colon (c ∷ cs)) && not (has_colon (before_colon (c ∷ cs)))) ≡ true =
               ap₂ (λ x y. x && not y) (ap is_name before ∙ and_from (is_name_start c) (list_all is_name_char (before_colon cs)) p.0 (chars_before cs p.1)) (no_colon_before (c ∷ cs)) in
               ap (λ x. (is_name (c ∷ cs) && not x) || (x && (is_name (before_colon (c ∷ cs)) && not (has_colon (before_colon (c ∷ cs)))) && (is_name (after_colon (c ∷ cs)) && not (has_colon (after_colon (c ∷ cs)))))) e
-              ∙ ap₂ (λ x y. (x && false) || (true && y && (is_name (after_colon (c ∷ cs)) && not (has_colon (after_colon (c ∷ cs)))))) n front;
+              ∙ ap₂ (λ x y. (x && false) || (true && y && (is_name (after_colon (c ∷ cs)) && not (has_colon (after_colon (c ∷ cs)))))) n prefix;
           some = λ z. let q : ◌≡◌ {A = List ℕ} (c ∷ before_colon cs) [] = sym before ∙ sym (ap (λ x. cond x (before_colon (c ∷ cs)) []) e) ∙ z in cc;
         }
 
@@ -168,9 +168,9 @@ unprefixed cs h = unprefixed_by cs (has_colon cs) refl h
 
 -- by bytes
 
-front_of : (name cs : List ℕ) (n : ℕ) (xs ys : List ℕ) → name ≡ encode_utf8_all cs → n ≡ size xs → cs ≡ xs ++ ys → take n name ≡ encode_utf8_all xs
+head_of : (name cs : List ℕ) (n : ℕ) (xs ys : List ℕ) → name ≡ encode_utf8_all cs → n ≡ size xs → cs ≡ xs ++ ys → take n name ≡ encode_utf8_all xs
 unfolding size
-front_of name cs n xs ys e h k = ap₂ take h (e ∙ ap encode_utf8_all k ∙ encodes-append xs ys) ∙ take-append_seam (encode_utf8_all xs) (encode_utf8_all ys)
+head_of name cs n xs ys e h k = ap₂ take h (e ∙ ap encode_utf8_all k ∙ encodes-append xs ys) ∙ take-append_seam (encode_utf8_all xs) (encode_utf8_all ys)
 
 back_of : (name cs : List ℕ) (n : ℕ) (xs ys : List ℕ) → name ≡ encode_utf8_all cs → n ≡ size xs → cs ≡ xs ++ ys → drop n name ≡ encode_utf8_all ys
 unfolding size
@@ -190,7 +190,7 @@ prefix_taken name cs n e h = by (cases_zero (size (prefix_of cs)))
         none z = ap (λ k. take k name) (h ∙ z) ∙ sym (ap encode_utf8_all (unprefixed cs z).none)
 
         some : (size (prefix_of cs) ≡ 0 → ⊥) → take n name ≡ encode_utf8_all (prefix_of cs)
-        some z = front_of name cs n (prefix_of cs) (58 ∷ after_colon cs) e h (prefixed cs z).parts
+        some z = head_of name cs n (prefix_of cs) (58 ∷ after_colon cs) e h (prefixed cs z).parts
 
 pub local_taken : (name cs : List ℕ) (n : ℕ) → name ≡ encode_utf8_all cs → n ≡ size (prefix_of cs) → (n ≡ 0 → ⊥) → drop 1 (drop n name) ≡ encode_utf8_all (after_colon cs)
 unfolding encode
@@ -272,8 +272,8 @@ begins_with_colon (c ∷ cs) h =
     let e : c ≡ 58 = eqb-true c 58 h in
     subst (λ d. drop 1 (encode_utf8_all (d ∷ cs)) ≡ encode_utf8_all (local_of (d ∷ cs))) (sym e) refl
 
-pub local_behind : (name cs : List ℕ) (n : ℕ) → is_name cs ≡ true → name ≡ encode_utf8_all cs → n ≡ size (prefix_of cs) → n ≡ 0 → is_qname cs ≡ false → drop 1 name ≡ encode_utf8_all (local_of cs)
-local_behind name cs n m e h z q = ap (drop 1) e ∙ begins_with_colon cs (not_false (get_or cs 0 0 == 58) (sym ((unprefixed cs (sym h ∙ z)).qname m) ∙ q))
+pub local_after : (name cs : List ℕ) (n : ℕ) → is_name cs ≡ true → name ≡ encode_utf8_all cs → n ≡ size (prefix_of cs) → n ≡ 0 → is_qname cs ≡ false → drop 1 name ≡ encode_utf8_all (local_of cs)
+local_after name cs n m e h z q = ap (drop 1) e ∙ begins_with_colon cs (not_false (get_or cs 0 0 == 58) (sym ((unprefixed cs (sym h ∙ z)).qname m) ∙ q))
   where
     not_false : (b : Bool) → not b ≡ false → b ≡ true
     not_false true k = refl

@@ -7,12 +7,12 @@ use Rattle.std.proofs.lemmas.Str.{encodes_same}
 use Rattle.std.proofs.lemmas.Slice.Eq.{bytes_eq-Decides}
 use Rattle.xml_model.specs.Chars.{size}
 use Rattle.xml_model.specs.Items.{Attribute, written_attribute}
-use Rattle.xml_model.specs.Records.{Token, declares}
+use Rattle.xml_model.specs.Records.{Record, declares}
 use Rattle.xml_model.specs.Scan.{record_at}
 use Rattle.xml_model.specs.Accepted.{repeated, name_place}
 use Rattle.vtd_words.specs.declared.packing.Parts.{Parts}
-use Rattle.vtd_words.specs.Packed.{token_of}
-use Rattle.vtd_namespaces.specs.Standing.{slice_of, is_attribute_token, IsAttributeRecord, AttributesStand}
+use Rattle.vtd_words.specs.Packed.{record_of}
+use Rattle.vtd_namespaces.specs.NameRecords.{slice_of, is_attribute_token, IsAttributeRecord, AreAttributeRecords}
 use Rattle.vtd_namespaces.specs.Repeats.{names_before, HasNoAttribute}
 use Rattle.vtd_namespaces.specs.Filter.{is_taken}
 use Rattle.vtd_namespaces.specs.Faults.{first_of}
@@ -35,46 +35,46 @@ pub name_is_attribute : (b : Bool) → is_attribute_token (cond b 3 2) ≡ true
 name_is_attribute true = refl
 name_is_attribute false = refl
 
-pub record_is_attribute : (bytes : List ℕ) (rs : List Token) (n at : ℕ) (a : Attribute) → IsAttributeRecord bytes rs n at a → is_attribute_token (record_at n rs).token ≡ true
+pub record_is_attribute : (bytes : List ℕ) (rs : List Record) (n at : ℕ) (a : Attribute) → IsAttributeRecord bytes rs n at a → is_attribute_token (record_at n rs).token ≡ true
 record_is_attribute bytes rs n at a r = ap is_attribute_token r.token ∙ name_is_attribute (declares a.name)
 
-pub no_attribute_there : (bytes : List ℕ) (rs : List Token) (n at : ℕ) (a : Attribute) → IsAttributeRecord bytes rs n at a → HasNoAttribute rs n → ⊥
+pub no_attribute_there : (bytes : List ℕ) (rs : List Record) (n at : ℕ) (a : Attribute) → IsAttributeRecord bytes rs n at a → HasNoAttribute rs n → ⊥
 no_attribute_there bytes rs n at a r h = ⊎_elim (λ e. false≢true (sym e ∙ record_is_attribute bytes rs n at a r)) (λ l. omega (arith, r.room, l)) h
 
 pub index_more : (first n : ℕ) → first + 2 * n + 2 ≡ first + 2 * (n + 1)
 index_more first n = omega arith
 
 -- so many names are passed, and none repeats an earlier one
-pub record Passed (bytes : List ℕ) (rs : List Token) (first n at : ℕ) (others : List Attribute) : Type 0 where
+pub record Passed (bytes : List ℕ) (rs : List Record) (first n at : ℕ) (others : List Attribute) : Type 0 where
   pub place : ℕ
   pub seen : List (List ℕ)
   pub left : List Attribute
-  pub stand : AttributesStand bytes rs (first + 2 * n) place left
+  pub hold : AreAttributeRecords bytes rs (first + 2 * n) place left
   pub names : names_before bytes rs first n ≡ map encode_utf8_all seen
   pub same : first_of (repeated at [] others) ≡ first_of (repeated place seen left)
 
-pub none_passed : (bytes : List ℕ) (rs : List Token) (first at : ℕ) (others : List Attribute) → AttributesStand bytes rs first at others → Passed bytes rs first 0 at others
+pub none_passed : (bytes : List ℕ) (rs : List Record) (first at : ℕ) (others : List Attribute) → AreAttributeRecords bytes rs first at others → Passed bytes rs first 0 at others
 none_passed bytes rs first at others s =
     let e : first ≡ first + 2 * 0 = omega arith in
-    record { place = at; seen = []; left = others; stand = subst (λ k. AttributesStand bytes rs k at others) e s; names = refl; same = refl }
+    record { place = at; seen = []; left = others; hold = subst (λ k. AreAttributeRecords bytes rs k at others) e s; names = refl; same = refl }
 
-pub all_passed : (bytes : List ℕ) (rs : List Token) (first n at : ℕ) (others : List Attribute) → Passed bytes rs first n at others → HasNoAttribute rs (first + 2 * n) → None ≡ first_of (repeated at [] others)
-all_passed bytes rs first n at others p h = by p.left p.stand p.same
+pub all_passed : (bytes : List ℕ) (rs : List Record) (first n at : ℕ) (others : List Attribute) → Passed bytes rs first n at others → HasNoAttribute rs (first + 2 * n) → None ≡ first_of (repeated at [] others)
+all_passed bytes rs first n at others p h = by p.left p.hold p.same
   where
-    by : (left : List Attribute) → AttributesStand bytes rs (first + 2 * n) p.place left → first_of (repeated at [] others) ≡ first_of (repeated p.place p.seen left) → None ≡ first_of (repeated at [] others)
+    by : (left : List Attribute) → AreAttributeRecords bytes rs (first + 2 * n) p.place left → first_of (repeated at [] others) ≡ first_of (repeated p.place p.seen left) → None ≡ first_of (repeated at [] others)
     by [] s e = sym e
     by (a ∷ left) s e = absurd (no_attribute_there bytes rs (first + 2 * n) (name_place p.place a) a s.0 h)
 
 -- the next name, by whether one before it has its bytes
-pub record Next (bytes : List ℕ) (rs : List Token) (first n at : ℕ) (others : List Attribute) (p : Parts) (name : List ℕ) : Type 0 where
+pub record Next (bytes : List ℕ) (rs : List Record) (first n at : ℕ) (others : List Attribute) (p : Parts) (name : List ℕ) : Type 0 where
   pub hit : list_any (bytes_eq name) (names_before bytes rs first n) ≡ true → Some p.offset ≡ first_of (repeated at [] others)
   pub miss : list_any (bytes_eq name) (names_before bytes rs first n) ≡ false → Passed bytes rs first (n + 1) at others
 
-pub next_name : (bytes : List ℕ) (rs : List Token) (first n at : ℕ) (others : List Attribute) (p : Parts) (name : List ℕ) → Passed bytes rs first n at others → token_of p ≡ record_at (first + 2 * n) rs → is_attribute_token p.token ≡ true →
-    name ≡ slice_of bytes (token_of p) → Next bytes rs first n at others p name
-next_name bytes rs first n at others p name d here kind is = by d.left d.stand d.same
+pub next_name : (bytes : List ℕ) (rs : List Record) (first n at : ℕ) (others : List Attribute) (p : Parts) (name : List ℕ) → Passed bytes rs first n at others → record_of p ≡ record_at (first + 2 * n) rs → is_attribute_token p.token ≡ true →
+    name ≡ slice_of bytes (record_of p) → Next bytes rs first n at others p name
+next_name bytes rs first n at others p name d here kind is = by d.left d.hold d.same
   where
-    by : (left : List Attribute) → AttributesStand bytes rs (first + 2 * n) d.place left → first_of (repeated at [] others) ≡ first_of (repeated d.place d.seen left) → Next bytes rs first n at others p name
+    by : (left : List Attribute) → AreAttributeRecords bytes rs (first + 2 * n) d.place left → first_of (repeated at [] others) ≡ first_of (repeated d.place d.seen left) → Next bytes rs first n at others p name
     by [] s e = absurd (false≢true (sym s ∙ ap (λ r. is_attribute_token r.token) (sym here) ∙ kind))
     by (a ∷ left) s e =
         let slice : name ≡ encode_utf8_all a.name = is ∙ ap (slice_of bytes) here ∙ s.0.name.slice in
@@ -88,7 +88,7 @@ next_name bytes rs first n at others p name d here kind is = by d.left d.stand d
             place = d.place + size (written_attribute a);
             seen = a.name ∷ d.seen;
             left = left;
-            stand = subst (λ k. AttributesStand bytes rs k (d.place + size (written_attribute a)) left) (index_more first n) s.1;
+            hold = subst (λ k. AreAttributeRecords bytes rs k (d.place + size (written_attribute a)) left) (index_more first n) s.1;
             names = named (ap₂ (λ x y. x ∷ y) (s.0.name.slice) d.names);
             same = e ∙ ap (λ b. first_of (cond b (name_place d.place a ∷ []) [] ++ more)) (sym among ∙ h);
           };
@@ -99,7 +99,7 @@ next_name bytes rs first n at others p name d here kind is = by d.left d.stand d
         named h = let k : n + 1 ≡ suc n = omega arith in ap (names_before bytes rs first) k ∙ h
 
 -- one of the first names has these bytes
-any_more : (bytes : List ℕ) (rs : List Token) (first : ℕ) (x : List ℕ) (m n : ℕ) → list_any (bytes_eq x) (names_before bytes rs first m) ≡ true → list_any (bytes_eq x) (names_before bytes rs first (m + n)) ≡ true
+any_more : (bytes : List ℕ) (rs : List Record) (first : ℕ) (x : List ℕ) (m n : ℕ) → list_any (bytes_eq x) (names_before bytes rs first m) ≡ true → list_any (bytes_eq x) (names_before bytes rs first (m + n)) ≡ true
 any_more bytes rs first x m zero h = let e : m + 0 ≡ m = omega arith in ap (λ k. list_any (bytes_eq x) (names_before bytes rs first k)) e ∙ h
 any_more bytes rs first x m (suc n) h =
     let e : m + suc n ≡ suc (m + n) = omega arith in
@@ -112,14 +112,14 @@ any_more bytes rs first x m (suc n) h =
 or_first : (a b : Bool) → a ≡ true → (a || b) ≡ true
 or_first a b h = ap (λ x. x || b) h
 
-pub any_here : (bytes : List ℕ) (rs : List Token) (first : ℕ) (x y : List ℕ) (m n : ℕ) → m < n → y ≡ slice_of bytes (record_at (first + 2 * m) rs) → bytes_eq y x ≡ true →
+pub any_here : (bytes : List ℕ) (rs : List Record) (first : ℕ) (x y : List ℕ) (m n : ℕ) → m < n → y ≡ slice_of bytes (record_at (first + 2 * m) rs) → bytes_eq y x ≡ true →
     true ≡ list_any (bytes_eq x) (names_before bytes rs first n)
 any_here bytes rs first x y m n l e h =
     let same : bytes_eq x (slice_of bytes (record_at (first + 2 * m) rs)) ≡ true = (bytes_eq-Decides x (slice_of bytes (record_at (first + 2 * m) rs))).1 (sym ((bytes_eq-Decides y x).0 h) ∙ e) in
     let k : suc m + (n - suc m) ≡ n = omega arith in
     sym (ap (λ j. list_any (bytes_eq x) (names_before bytes rs first j)) (sym k) ∙ any_more bytes rs first x (suc m) (n - suc m) (or_first _ _ same))
 
-pub any_not_here : (bytes : List ℕ) (rs : List Token) (first : ℕ) (x y : List ℕ) (m : ℕ) → y ≡ slice_of bytes (record_at (first + 2 * m) rs) → bytes_eq y x ≡ false → list_any (bytes_eq x) (names_before bytes rs first m) ≡ false →
+pub any_not_here : (bytes : List ℕ) (rs : List Record) (first : ℕ) (x y : List ℕ) (m : ℕ) → y ≡ slice_of bytes (record_at (first + 2 * m) rs) → bytes_eq y x ≡ false → list_any (bytes_eq x) (names_before bytes rs first m) ≡ false →
     list_any (bytes_eq x) (names_before bytes rs first (m + 1)) ≡ false
 any_not_here bytes rs first x y m e h k =
     let s : m + 1 ≡ suc m = omega arith in
@@ -136,7 +136,7 @@ not_not r true e h = absurd (false≢true (sym e ∙ h))
 not_not r false e h = refl
 
 -- and the next one
-pub next_noted : (bytes : List ℕ) (rs : List Token) (first n : ℕ) (old new : List ℕ) (p : Parts) (name : List ℕ) → token_of p ≡ record_at (first + 2 * n) rs → name ≡ slice_of bytes (token_of p) →
+pub next_noted : (bytes : List ℕ) (rs : List Record) (first n : ℕ) (old new : List ℕ) (p : Parts) (name : List ℕ) → record_of p ≡ record_at (first + 2 * n) rs → name ≡ slice_of bytes (record_of p) →
     ((y : List ℕ) → list_any (bytes_eq y) (names_before bytes rs first n) ≡ true → is_taken old y ≡ true) → is_taken new name ≡ true → ((y : List ℕ) → is_taken old y ≡ true → is_taken new y ≡ true) →
     (y : List ℕ) → list_any (bytes_eq y) (names_before bytes rs first (n + 1)) ≡ true → is_taken new y ≡ true
 next_noted bytes rs first n old new p name here is before noted kept y h =

@@ -6,7 +6,7 @@ use Rattle.std.proofs.lemmas.Bool.{false≢true, false_from_ne_true}
 use Rattle.std.proofs.lemmas.Slice.Eq.{bytes_eq-Decides}
 use Rattle.xml_model.specs.Items.{Attribute, Tag, first_place, is_nil}
 use Rattle.xml_model.specs.Nest.{Forest}
-use Rattle.xml_model.specs.Records.{Token, records}
+use Rattle.xml_model.specs.Records.{Record, records}
 use Rattle.xml_model.specs.Scan.{record_at}
 use Rattle.xml_model.specs.Tree.{Entry, Holder}
 use Rattle.xml_model.specs.Content.{value_content}
@@ -28,7 +28,7 @@ pub is_xml : (prefix p : List ℕ) → prefix ≡ encode_utf8_all p → bytes_eq
 is_xml prefix p e = ap₂ bytes_eq e (sym xml_encoded) ∙ eq_encoded p (codes "xml")
 
 -- a table's declaration by its record
-pub declaration_there : (bytes : List ℕ) (lists : Lists) → IsTable bytes lists → (r : Option ℕ) → ((rs : List Token) → Shows lists.records rs → IfSome r (λ n. (record_at n rs).token ≡ 3)) → IfSome r (IsDeclaration bytes lists)
+pub declaration_there : (bytes : List ℕ) (lists : Lists) → IsTable bytes lists → (r : Option ℕ) → ((rs : List Record) → Shows lists.records rs → IfSome r (λ n. (record_at n rs).token ≡ 3)) → IfSome r (IsDeclaration bytes lists)
 declaration_there bytes lists t None h = tt
 declaration_there bytes lists t (Some n) h = record { nest = t.nest; shown = t.shown; declaration = h (records t.nest (first_place bytes)) (nest_shown bytes lists t.nest t.few t.shown) }
 
@@ -48,7 +48,7 @@ uri_other prefix p tags e h t = uri_by p tags h ∙ ap (λ b. cond b (Some xml_u
 -- the declaration that is found
 pub name_of_nearest : (bytes : List ℕ) (nest : Forest) (hs : List Holder) (p : List ℕ) (n : ℕ) (d : IsNearestAt (nodes_of bytes nest) hs p n) → IsNameOf bytes nest n d.declared.declaration
 name_of_nearest bytes nest hs p n d =
-    record { entry = d.entry; there = d.there; tag = d.tag; inside = d.inside; element = d.what; number = d.declared.number; stands = d.declared.stands; place = d.declared.place }
+    record { entry = d.entry; there = d.there; tag = d.tag; inside = d.inside; element = d.what; number = d.declared.number; holds = d.declared.holds; index = d.declared.index }
 
 pub nearest_found : (es : List Entry) (hs : List Holder) (p : List ℕ) (r : Option ℕ) (n : ℕ) → r ≡ Some n → IsNearest es hs p r → IsNearestAt es hs p n
 nearest_found es hs p r n e h = subst (IsNearest es hs p) e h

@@ -18,9 +18,9 @@ use Rattle.vtd_namespaces.specs.Uris.{same_uri}
 use Rattle.vtd_namespaces.specs.Offences.{is_twin, key_of, IsNoted, IsWritten}
 use Rattle.vtd_namespaces.proofs.OffenceLemmas.{OtherName, same_expanded_is}
 use Rattle.vtd_namespaces.proofs.AttributeLemmas.{taken}
-use Rattle.vtd_namespaces.specs.Standing.{IsNameRecord}
+use Rattle.vtd_namespaces.specs.NameRecords.{IsNameRecord}
 use Rattle.vtd_words.specs.declared.packing.Parts.{Parts}
-use Rattle.vtd_words.specs.Packed.{token_of}
+use Rattle.vtd_words.specs.Packed.{record_of}
 use Rattle.vtd_namespaces.proofs.DeclarationLemmas.{empty_encoded}
 use Rattle.vtd_namespaces.proofs.QNameLemmas.{prefixed}
 
@@ -77,7 +77,7 @@ pub known_new : (tags : List Tag) (slots : List ℕ) (attributes done left : Lis
 known_new tags slots attributes done left a number split many noted free some =
     no_noted_twin tags slots a done some (subst (Each (IsNoted tags slots)) (taken attributes done left a number split many) noted) free
 
-pub known_record : (bytes : List ℕ) (p : Parts) (a : Attribute) → OtherName bytes p a → IsNameRecord bytes (token_of p) a.name
+pub known_record : (bytes : List ℕ) (p : Parts) (a : Attribute) → OtherName bytes p a → IsNameRecord bytes (record_of p) a.name
 known_record bytes p a o = record { slice = o.slice; prefix = o.prefix; named = o.named }
 
 -- what the sieve passes over: declarations, and attributes without a prefix

@@ -1,4 +1,4 @@
--- Characters that stand at a place of some bytes, in their UTF-8.
+-- Characters that are at a place of some bytes, in their UTF-8.
 use Rattle.std.proofs.Common.{◌≡◌, ℕ, ◌+◌, true, List, ◌++◌, length, take, drop, refl, ap, sym, ◌∙◌, append_assoc, length-append, codes}
 use Rattle.std.specs.Prelude.{encode_utf8_all}
 use Rattle.std.proofs.Math.Utf8.{encode}
@@ -8,7 +8,7 @@ use Rattle.std.proofs.lemmas.List.{drop-drop}
 use Rattle.xml_model.specs.Chars.{size, begins}
 use Rattle.xml_chars.proofs.Readers.{begins_split}
 
--- the characters stand at the place, and something behind them
+-- the characters are at the place, and something after them
 pub record Spelled (bytes : List ℕ) (at : ℕ) (cs : List ℕ) : Type 0 where
   pub tail : List ℕ
   pub there : drop at bytes ≡ encode_utf8_all cs ++ tail
@@ -28,16 +28,16 @@ pub size_question : size (codes "<?") ≡ 2
 unfolding size encode
 size_question = refl
 
--- the front of what stands there
-pub spelled_front : (bytes : List ℕ) (at : ℕ) (xs ys : List ℕ) → Spelled bytes at (xs ++ ys) → Spelled bytes at xs
-spelled_front bytes at xs ys s =
+-- the start of what is there
+pub spelled_prefix : (bytes : List ℕ) (at : ℕ) (xs ys : List ℕ) → Spelled bytes at (xs ++ ys) → Spelled bytes at xs
+spelled_prefix bytes at xs ys s =
     record { tail = encode_utf8_all ys ++ s.tail; there = s.there ∙ ap (λ l. l ++ s.tail) (encodes-append xs ys) ∙ append_assoc (encode_utf8_all xs) (encode_utf8_all ys) s.tail }
 
--- and what follows that front
+-- and what follows that prefix
 pub spelled_back : (bytes : List ℕ) (at : ℕ) (xs ys : List ℕ) → Spelled bytes at (xs ++ ys) → Spelled bytes (at + size xs) ys
-unfolding size spelled_front
+unfolding size spelled_prefix
 spelled_back bytes at xs ys s =
-    let f = spelled_front bytes at xs ys s in
+    let f = spelled_prefix bytes at xs ys s in
     record { tail = s.tail; there = sym (drop-drop (length (encode_utf8_all xs)) at bytes) ∙ ap (drop (length (encode_utf8_all xs))) f.there ∙ drop-append_seam (encode_utf8_all xs) (encode_utf8_all ys ++ s.tail) }
 
 -- the bytes of the characters

@@ -11,10 +11,10 @@ use Rattle.xml_model.specs.declared.Node.{Node}
 use Rattle.xml_model.specs.Chars.{prefix_of}
 use Rattle.xml_model.specs.Items.{Attribute, Tag, first_place, is_nil}
 use Rattle.xml_model.specs.Nest.{Forest}
-use Rattle.xml_model.specs.Tree.{Thing, Entry, Holder, Stands, kind_of}
+use Rattle.xml_model.specs.Tree.{Thing, Entry, Holder, Identifies, kind_of}
 use Rattle.xml_model.specs.Content.{value_content}
 use Rattle.xml_model.specs.Names.{binding, attribute_uri, declared, nearest, xml_uri, expanded, expanded_name, tags_of, NameTest, any, any_in, named, name_passes}
-use Rattle.xml_model.specs.Laws.{holder_place}
+use Rattle.xml_model.specs.Laws.{holder_index}
 use Rattle.vtd_words.specs.Lists.{Lists}
 use Rattle.vtd_words.specs.Table.{IsNestOf, IsNodeOf, IsParent, nodes_of}
 use Rattle.vtd_text.specs.NameRecords.{IsNameOf}
@@ -25,7 +25,7 @@ use Rattle.vtd_namespaces.proofs.ChainLemmas.{document_chain}
 use Rattle.vtd_namespaces.proofs.DeclarationLemmas.{empty_encoded}
 use Rattle.vtd_namespaces.proofs.OffenceLemmas.{eq_nil}
 use Rattle.vtd_namespaces.proofs.ScopeLemmas.{is_xml, nearest_found, nearest_none, name_of_nearest, not_empty}
-use Rattle.vtd_namespaces.proofs.HolderLemmas.{parent_place, holder_element}
+use Rattle.vtd_namespaces.proofs.HolderLemmas.{parent_index, holder_element}
 use Rattle.vtd_namespaces.proofs.NodeNameLemmas.{text_same}
 
 -- a prefix
@@ -88,18 +88,18 @@ other_reaching (Thing.text xs) at hs h = refl
 other_reaching (Thing.comment cs) at hs h = refl
 other_reaching (Thing.instruction i) at hs h = refl
 
-pub owner_reaching : (bytes : List ℕ) (lists : Lists) (nest : Forest) → IsNestOf bytes lists nest → (kind : Kind) (at : ℕ) → (kind ≡ kinds.Element → ⊥) → (e : Entry) → Stands kind at e (nodes_of bytes nest) → (node : Node) → IsParent (nodes_of bytes nest) e node → node.at ≡ holder_place (reaching e)
-owner_reaching bytes lists nest s kind at h e w node p = parent_place bytes lists nest s e w.0 node p ∙ ap holder_place (sym (other_reaching e.what e.place e.holders (λ k. h (sym w.1 ∙ k))))
+pub owner_reaching : (bytes : List ℕ) (lists : Lists) (nest : Forest) → IsNestOf bytes lists nest → (kind : Kind) (at : ℕ) → (kind ≡ kinds.Element → ⊥) → (e : Entry) → Identifies kind at e (nodes_of bytes nest) → (node : Node) → IsParent (nodes_of bytes nest) e node → node.at ≡ holder_index (reaching e)
+owner_reaching bytes lists nest s kind at h e w node p = parent_index bytes lists nest s e w.0 node p ∙ ap holder_index (sym (other_reaching e.what e.index e.holders (λ k. h (sym w.1 ∙ k))))
 
 pub owner_element : (bytes : List ℕ) (lists : Lists) (node : Node) (n : IsNodeOf bytes lists node) (owner : Node) → IsParent (nodes_of bytes n.nest) n.entry owner → (owner.at ≡ 0 → ⊥) → IsElementAt bytes lists owner.at
 owner_element bytes lists node n owner p h =
-    holder_element bytes lists n.nest n.shown n.entry.holders (each_at (λ e. Chain (nodes_of bytes n.nest) e.holders) (nodes_of bytes n.nest) n.entry (document_chain n.nest (first_place bytes)) n.stands.0) owner.at
-    (parent_place bytes lists n.nest n.shown n.entry n.stands.0 owner p) h
+    holder_element bytes lists n.nest n.shown n.entry.holders (each_at (λ e. Chain (nodes_of bytes n.nest) e.holders) (nodes_of bytes n.nest) n.entry (document_chain n.nest (first_place bytes)) n.holds.0) owner.at
+    (parent_index bytes lists n.nest n.shown n.entry n.holds.0 owner p) h
 
 -- what reaches a node is a chain
 
-chain_by : (es : List Entry) (e : Entry) (what : Thing) → e.what ≡ what → Contains es e → Chain es e.holders → Chain es (with_own what e.place e.holders)
-chain_by es e (Thing.element t inside) w c k = (record { entry = e; there = c; inside = inside; what = w; place = refl; holders = refl }, k)
+chain_by : (es : List Entry) (e : Entry) (what : Thing) → e.what ≡ what → Contains es e → Chain es e.holders → Chain es (with_own what e.index e.holders)
+chain_by es e (Thing.element t inside) w c k = (record { entry = e; there = c; inside = inside; what = w; index = refl; holders = refl }, k)
 chain_by es e (Thing.root first f) w c k = k
 chain_by es e (Thing.attribute a) w c k = k
 chain_by es e (Thing.text xs) w c k = k
@@ -123,9 +123,9 @@ uri_by (Thing.text xs) at hs h p = absurd h
 uri_by (Thing.comment cs) at hs h p = absurd h
 uri_by (Thing.instruction i) at hs h p = absurd h
 
-pub uri_told : (e : Entry) → HasExpandedName (kind_of e.what) → (node_prefix e.what ≡ [] → kind_of e.what ≡ kinds.Element) → binding (node_prefix e.what) (tags_in (reaching e)) ≡ uri_in (expanded e)
+pub uri_known : (e : Entry) → HasExpandedName (kind_of e.what) → (node_prefix e.what ≡ [] → kind_of e.what ≡ kinds.Element) → binding (node_prefix e.what) (tags_in (reaching e)) ≡ uri_in (expanded e)
 unfolding expanded
-uri_told e h p = uri_by e.what e.place e.holders h p
+uri_known e h p = uri_by e.what e.index e.holders h p
 
 no_uri : (what : Thing) (hs : List Holder) → kind_of what ≡ kinds.Attribute → node_prefix what ≡ [] → None ≡ uri_in (expanded_name what (tags_in hs))
 no_uri (Thing.attribute a) hs k p = sym (ap (λ q. attribute_uri q (tags_in hs)) p)
@@ -196,8 +196,8 @@ pub passes_any_in : (e : Entry) (test : NameTest) (uri : List ℕ) (value : Opti
 passes_any_in e test uri value r h t v k = k ∙ ap (λ u. bytes_eq (unwrap_or u []) uri) v ∙ sym (ap₂ name_passes t (expanded_is e h))
 
 -- the local part of a test
-local_told : (e : Entry) (bytes local : List ℕ) (text : List ℕ) → bytes ≡ encode_utf8_all (node_local e.what) → text ≡ local → IsUtf8 text → bytes_eq bytes text ≡ bytes_eq (node_local e.what) (chars local)
-local_told e bytes local text b t u = ap (λ x. bytes_eq x text) b ∙ text_same (node_local e.what) text u ∙ ap (λ x. bytes_eq (node_local e.what) (chars x)) t
+local_known : (e : Entry) (bytes local : List ℕ) (text : List ℕ) → bytes ≡ encode_utf8_all (node_local e.what) → text ≡ local → IsUtf8 text → bytes_eq bytes text ≡ bytes_eq (node_local e.what) (chars local)
+local_known e bytes local text b t u = ap (λ x. bytes_eq x text) b ∙ text_same (node_local e.what) text u ∙ ap (λ x. bytes_eq (node_local e.what) (chars x)) t
 
 and_yes : (a b : Bool) → b ≡ true → (a && b) ≡ a
 and_yes true true h = refl
@@ -211,8 +211,8 @@ and_no false b h = refl
 pub passes_named : (e : Entry) (test : NameTest) (uri bytes local text : List ℕ) (value : Option (List ℕ)) (r : Bool) → HasExpandedName (kind_of e.what) → test ≡ named uri (chars local) → value ≡ uri_in (expanded e) → bytes ≡ encode_utf8_all (node_local e.what) → text ≡ local → IsUtf8 text →
     bytes_eq bytes text ≡ true → r ≡ bytes_eq (unwrap_or value []) uri → r ≡ name_passes test (expanded e)
 passes_named e test uri bytes local text value r h t v b x u y k =
-    k ∙ ap (λ z. bytes_eq (unwrap_or z []) uri) v ∙ sym (ap₂ name_passes t (expanded_is e h) ∙ and_yes (bytes_eq (unwrap_or (uri_in (expanded e)) []) uri) (bytes_eq (node_local e.what) (chars local)) (sym (local_told e bytes local text b x u) ∙ y))
+    k ∙ ap (λ z. bytes_eq (unwrap_or z []) uri) v ∙ sym (ap₂ name_passes t (expanded_is e h) ∙ and_yes (bytes_eq (unwrap_or (uri_in (expanded e)) []) uri) (bytes_eq (node_local e.what) (chars local)) (sym (local_known e bytes local text b x u) ∙ y))
 
 pub passes_other : (e : Entry) (test : NameTest) (uri bytes local text : List ℕ) → HasExpandedName (kind_of e.what) → test ≡ named uri (chars local) → bytes ≡ encode_utf8_all (node_local e.what) → text ≡ local → IsUtf8 text → bytes_eq bytes text ≡ false → false ≡ name_passes test (expanded e)
 passes_other e test uri bytes local text h t b x u y =
-    sym (ap₂ name_passes t (expanded_is e h) ∙ and_no (bytes_eq (unwrap_or (uri_in (expanded e)) []) uri) (bytes_eq (node_local e.what) (chars local)) (sym (local_told e bytes local text b x u) ∙ y))
+    sym (ap₂ name_passes t (expanded_is e h) ∙ and_no (bytes_eq (unwrap_or (uri_in (expanded e)) []) uri) (bytes_eq (node_local e.what) (chars local)) (sym (local_known e bytes local text b x u) ∙ y))

@@ -23,4 +23,4 @@ node_faults w e = thing_faults w e.start (tags_of e) e.what
 
 -- the first offence of the nodes whose first record has an index, of which there is one at most
 abbrev pub OffenceAt : ℕ → Option ℕ → List Entry → Type 0
-OffenceAt at r es = AllByRecursion (λ e. e.place ≡ at → r ≡ first_of (node_faults offences e)) es
+OffenceAt at r es = AllByRecursion (λ e. e.index ≡ at → r ≡ first_of (node_faults offences e)) es

@@ -6,7 +6,7 @@ use Rattle.std.specs.List.{slice_index_or}
 abbrev pub mixed : ℕ → ℕ → ℕ
 mixed sum byte = (sum * 0x9E37_79B1 + byte) % 2 ^ 32
 
--- the slot of a key: the upper half of its number with one byte more, so that the last byte tells too
+-- the slot of a key: the upper half of its number with one byte more, so that the last byte says too
 abbrev pub slot_of : List ℕ → ℕ
 slot_of key = mixed (fold mixed 0 key) 0 / 2 ^ 16
 
@@ -15,9 +15,9 @@ abbrev pub mark_of : List ℕ → ℕ
 mark_of key = fold mixed 0 key % 65_521 + 1
 
 -- whether what a slot holds stands for a mark: it is that mark, or it stands for all marks
-abbrev pub stands_for : ℕ → ℕ → Bool
-stands_for mark held = held == mark || held == 65_535
+abbrev pub is_mark_for : ℕ → ℕ → Bool
+is_mark_for mark held = held == mark || held == 65_535
 
 -- whether a key may have been noted
 abbrev pub is_taken : List ℕ → List ℕ → Bool
-is_taken slots key = stands_for (mark_of key) (slice_index_or slots (slot_of key) 0)
+is_taken slots key = is_mark_for (mark_of key) (slice_index_or slots (slot_of key) 0)

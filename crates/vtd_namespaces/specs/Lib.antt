@@ -1,4 +1,4 @@
-pub mod Standing
+pub mod NameRecords
 pub mod Faults
 pub mod Filter
 pub mod Repeats

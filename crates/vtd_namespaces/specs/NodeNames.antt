@@ -44,12 +44,12 @@ uri_in (Some x) = x.uri
 
 -- the elements whose declarations reach a thing at a record, which others hold
 abbrev pub with_own : Thing → ℕ → List Holder → List Holder
-with_own (Thing.element t inside) at hs = record { tag = t; place = at } ∷ hs
+with_own (Thing.element t inside) at hs = record { tag = t; index = at } ∷ hs
 with_own _ at hs = hs
 
 -- the elements whose declarations reach a node: itself, where it is one, and those that hold it
 abbrev pub reaching : Entry → List Holder
-reaching e = with_own e.what e.place e.holders
+reaching e = with_own e.what e.index e.holders
 
 -- a name test, by its texts
 abbrev pub test_of : Tested → NameTest

@@ -1,14 +1,14 @@
 -- The names of a tag, by their records (this project's own).
 use Rattle.std.specs.Prelude.{◌≡◌, ℕ, zero, suc, ◌+◌, ◌*◌, ◌≤◌, ◌⊎◌, false, List, [], ◌∷◌, length}
-use Rattle.xml_model.specs.Records.{Token}
+use Rattle.xml_model.specs.Records.{Record}
 use Rattle.xml_model.specs.Scan.{record_at}
-use Rattle.vtd_namespaces.specs.Standing.{slice_of, is_attribute_token}
+use Rattle.vtd_namespaces.specs.NameRecords.{slice_of, is_attribute_token}
 
 -- the bytes of so many names of attributes, the last one first: the record of the first of them has an index
-abbrev pub names_before : List ℕ → List Token → ℕ → ℕ → List (List ℕ)
+abbrev pub names_before : List ℕ → List Record → ℕ → ℕ → List (List ℕ)
 names_before bytes rs first zero = []
 names_before bytes rs first (suc n) = slice_of bytes (record_at (first + 2 * n) rs) ∷ names_before bytes rs first n
 
 -- no attribute's name and value have the records from an index on
-abbrev pub HasNoAttribute : List Token → ℕ → Type 0
+abbrev pub HasNoAttribute : List Record → ℕ → Type 0
 HasNoAttribute rs n = (is_attribute_token (record_at n rs).token ≡ false) ⊎ (length rs ≤ n + 1)

@@ -1,13 +1,15 @@
--- The elements that hold what stands at a record, with the declarations in their tags (this project's own).
+-- The elements that hold what is at a record, with the declarations in their tags (this project's own).
 use Rattle.std.specs.Prelude.{◌≡◌, ℕ, ◌+◌, ◌*◌, ◌<◌, List, [], ◌∷◌, map, length, Option, Some, None, Contains, slice_get, MatchOption, ⊤}
 use Rattle.std.specs.List.{slice_index_or}
 use Rattle.xml_model.specs.Items.{Attribute, Tag}
 use Rattle.xml_model.specs.Nest.{Forest}
-use Rattle.xml_model.specs.Records.{Token}
+use Rattle.xml_model.specs.Records.{Record}
 use Rattle.xml_model.specs.Scan.{record_at}
 use Rattle.xml_model.specs.Tree.{Thing, Entry, Holder}
 use Rattle.xml_model.specs.Content.{value_content}
 use Rattle.xml_model.specs.Names.{declaration_of, nearest}
+use Rattle.xml_model.specs.Records.{kind_number}
+use Rattle.xml_model.specs.declared.TokenKind.TheVariants as token
 
 -- an element that holds others is a node, which others hold
 pub record HolderIn (es : List Entry) (x : Holder) (xs : List Holder) : Type 0 where
@@ -15,7 +17,7 @@ pub record HolderIn (es : List Entry) (x : Holder) (xs : List Holder) : Type 0 w
   pub there : Contains es entry
   pub inside : Forest
   pub what : entry.what ≡ Thing.element x.tag inside
-  pub place : entry.place ≡ x.place
+  pub index : entry.index ≡ x.index
   pub holders : entry.holders ≡ xs
 
 -- elements each of which the next ones hold
@@ -26,7 +28,7 @@ Chain es (x ∷ xs) = HolderIn es x xs × Chain es xs
 -- a list has the index of the tag of each, by its depth
 abbrev pub Opened : List ℕ → List Holder → Type 0
 Opened open_tags [] = ⊤
-Opened open_tags (x ∷ xs) = (slice_index_or open_tags (length xs) 0 ≡ x.place) × Opened open_tags xs
+Opened open_tags (x ∷ xs) = (slice_index_or open_tags (length xs) 0 ≡ x.index) × Opened open_tags xs
 
 -- the tags of elements
 abbrev pub tags_in : List Holder → List Tag
@@ -37,8 +39,8 @@ pub record IsDeclaredAt (first : ℕ) (t : Tag) (prefix : List ℕ) (n : ℕ) : 
   pub declaration : Attribute
   pub found : declaration_of prefix t ≡ Some declaration
   pub number : ℕ
-  pub stands : slice_get t.attributes number ≡ Some declaration
-  pub place : n ≡ first + 2 * number
+  pub holds : slice_get t.attributes number ≡ Some declaration
+  pub index : n ≡ first + 2 * number
 
 -- the record of a tag's declaration of a prefix, or none
 abbrev pub IsDeclarationIn : ℕ → Tag → List ℕ → Option ℕ → Type 0
@@ -51,7 +53,7 @@ pub record IsNearestAt (es : List Entry) (hs : List Holder) (prefix : List ℕ) 
   pub tag : Tag
   pub inside : Forest
   pub what : entry.what ≡ Thing.element tag inside
-  pub declared : IsDeclaredAt (entry.place + 1) tag prefix n
+  pub declared : IsDeclaredAt (entry.index + 1) tag prefix n
   pub nearest_says : nearest prefix (tags_in hs) ≡ Some (value_content declared.declaration.value)
 
 -- the record of the nearest declaration of a prefix, or none
@@ -59,7 +61,7 @@ abbrev pub IsNearest : List Entry → List Holder → List ℕ → Option ℕ �
 IsNearest es hs prefix r = MatchOption r (nearest prefix (tags_in hs) ≡ None) (IsNearestAt es hs prefix)
 
 -- where each depth below 256 has an index: that of the last tag of the depth before a record, where there is one
-pub record IsOpenBefore (open_tags : List ℕ) (rs : List Token) (at : ℕ) : Type 0 where
+pub record IsOpenBefore (open_tags : List ℕ) (rs : List Record) (at : ℕ) : Type 0 where
   pub within : (k : ℕ) → slice_index_or open_tags k 0 < length rs
-  pub last : (q : ℕ) → q < at → (record_at q rs).token ≡ 0 → ((j : ℕ) → q < j → j < at → (record_at j rs).token ≡ 0 → (record_at j rs).depth ≡ (record_at q rs).depth → ⊥) →
+  pub last : (q : ℕ) → q < at → (record_at q rs).token ≡ kind_number token.StartTag → ((j : ℕ) → q < j → j < at → (record_at j rs).token ≡ kind_number token.StartTag → (record_at j rs).depth ≡ (record_at q rs).depth → ⊥) →
       slice_index_or open_tags (record_at q rs).depth 0 ≡ q

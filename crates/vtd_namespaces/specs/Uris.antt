@@ -9,7 +9,7 @@ use Rattle.vtd_namespaces.specs.Scope.{Chain, Opened}
 use Rattle.vtd_namespaces.specs.declared.uri.Uri.{Uri}
 use Rattle.vtd_namespaces.specs.declared.uri.Uri.TheVariants as uris
 
--- in a nest of a table these elements hold what is looked at, the nearest one first, which stands at a depth; a list has the indexes of
+-- in a nest of a table these elements hold what is looked at, the nearest one first, which is at a depth; a list has the indexes of
 -- their tags
 pub record IsScope (bytes : List ℕ) (lists : Lists) (open_tags : List ℕ) (depth : ℕ) (nest : Forest) (hs : List Holder) : Type 0 where
   pub few : length bytes < 2 ^ 30

@@ -4,13 +4,13 @@ ghost use Rattle.std.specs.Prelude.{◌≡◌, ℕ, ◌+◌, ◌≤◌, ◌<◌,
 ghost use Rattle.std.specs.List.{slice_index_or};
 ghost use Rattle.xml_model.specs.Items.{Tag};
 ghost use Rattle.xml_model.specs.Nest.{Forest};
-ghost use Rattle.xml_model.specs.Records.{Token};
+ghost use Rattle.xml_model.specs.Records.{Record};
 ghost use Rattle.xml_model.specs.Scan.{record_at};
 ghost use Rattle.xml_model.specs.Tree.{Holder};
 ghost use Rattle.xml_model.specs.Names.{declaring};
 ghost use Rattle.vtd_words.specs.Lists.{list_of};
 ghost use Rattle.vtd_words.specs.Table.{IsNestOf, Shows, nodes_of};
-ghost use Rattle.vtd_namespaces.specs.Standing.{AttributesStand};
+ghost use Rattle.vtd_namespaces.specs.NameRecords.{AreAttributeRecords};
 ghost use Rattle.vtd_namespaces.specs.Scope.{Chain, Opened, IsDeclarationIn, IsNearest};
 
 use crate::records::{attribute_at, slice_of};
@@ -32,17 +32,17 @@ fn is_declaring(name: &[u8], prefix: &[u8]) -> bool
     if name.len() != DECLARING.len() + prefix.len() {
         return false;
     }
-    let (front, rest) = name.split_at(DECLARING.len());
-    rest == prefix && front == DECLARING
+    let (mark, rest) = name.split_at(DECLARING.len());
+    rest == prefix && mark == DECLARING
 }
 
 /// The record of the name of a tag's declaration of a prefix, or `None` where the tag has none; the records of the tag's
 /// attributes begin at `first`.
 pub fn declaration_in<W: Words>(bytes: &[u8], words: &W, first: u32, prefix: &[u8]) -> Option<u32>
     requires { first ≤ length (list_of Part.Records (W.lists words.now)) }
-    ensures found { (rs : List Token) → Shows (list_of Part.Records (W.lists words.now)) rs → (at : ℕ) (t : Tag) → AttributesStand bytes.now rs first at t.attributes →
+    ensures found { (rs : List Record) → Shows (list_of Part.Records (W.lists words.now)) rs → (at : ℕ) (t : Tag) → AreAttributeRecords bytes.now rs first at t.attributes →
         (p : List ℕ) → prefix.now ≡ encode_utf8_all p → IsDeclarationIn first t p result }
-    ensures declares { (rs : List Token) → Shows (list_of Part.Records (W.lists words.now)) rs → IfSome result (λ n. (record_at n rs).token ≡ 3) }
+    ensures declares { (rs : List Record) → Shows (list_of Part.Records (W.lists words.now)) rs → IfSome result (λ n. (record_at n rs).token ≡ 3) }
 {
     let mut number = 0;
     while let Some(parts) = attribute_at(words, first + 2 * number) {
@@ -67,7 +67,7 @@ pub fn declaration_for<W: Words>(
     requires tags { (k : ℕ) → slice_index_or open_tags.now k 0 < length (list_of Part.Records (W.lists words.now)) }
     ensures found { (nest : Forest) → IsNestOf bytes.now (W.lists words.now) nest → (hs : List Holder) → Chain (nodes_of bytes.now nest) hs → Opened open_tags.now hs → length hs ≡ depth + 1 →
         (p : List ℕ) → prefix.now ≡ encode_utf8_all p → IsNearest (nodes_of bytes.now nest) hs p result }
-    ensures declares { (rs : List Token) → Shows (list_of Part.Records (W.lists words.now)) rs → IfSome result (λ n. (record_at n rs).token ≡ 3) }
+    ensures declares { (rs : List Record) → Shows (list_of Part.Records (W.lists words.now)) rs → IfSome result (λ n. (record_at n rs).token ≡ 3) }
 {
     for level in (0..depth as usize + 1).rev() {
         let found = declaration_in(bytes, words, open_tags[level] + 1, prefix);

@@ -1,9 +1,9 @@
-//! A filter of keys that holds no keys: it tells keys that are new for certain. A key has a slot and a mark of some 16 bits each,
+//! A filter of keys that holds no keys: it says keys that are new for certain. A key has a slot and a mark of some 16 bits each,
 //! so that a key is rarely taken for another: where their slots and their marks are the same, or keys of other marks share its
 //! slot.
 
 ghost use Rattle.std.specs.Prelude.{◌≡◌, ◌+◌, ◌%◌, ◌<◌, ◌^◌, ◌/◌, ℕ, List, true, false, not, length, fold};
-ghost use Rattle.vtd_namespaces.specs.Filter.{mixed, is_taken, stands_for};
+ghost use Rattle.vtd_namespaces.specs.Filter.{mixed, is_taken, is_mark_for};
 
 use vtd_text::Chars;
 use vtd_words::Words;
@@ -17,7 +17,7 @@ const FREE: u16 = 0;
 /// What a slot holds that keys of several marks have taken: it stands for all marks.
 const SHARED: u16 = 65_535;
 
-/// The number of a key, from that of what stands before these bytes of it.
+/// The number of a key, from that of what is before these bytes of it.
 pub fn mix_bytes(before: u64, bytes: &[u8]) -> u64
     requires { before < 2 ^ 32 }
     ensures number { result ≡ fold mixed before bytes.now }
@@ -43,7 +43,7 @@ pub fn mix_chars<W: Words>(chars: Chars<'_, W>) -> u64
     number
 }
 
-/// The slot of a key, by its number; the last byte of the key tells too.
+/// The slot of a key, by its number; the last byte of the key says too.
 fn slot_of(number: u64) -> u16
     requires { number < 2 ^ 32 }
     ensures { result ≡ mixed number 0 / 2 ^ 16 }
@@ -60,16 +60,16 @@ fn mark_of(number: u64) -> u16
 }
 
 /// Whether what a slot holds stands for a mark.
-fn stands_for(mark: u16, held: u16) -> bool
-    ensures { result ≡ stands_for mark held }
+fn is_mark_for(mark: u16, held: u16) -> bool
+    ensures { result ≡ is_mark_for mark held }
 {
     held == mark || held == SHARED
 }
 
 /// What a slot holds once a key with a mark has taken it.
 fn taken_by(held: u16, mark: u16) -> u16
-    ensures noted { stands_for mark result ≡ true }
-    ensures kept { (other : ℕ) → 0 < other → stands_for other held ≡ true → stands_for other result ≡ true }
+    ensures noted { is_mark_for mark result ≡ true }
+    ensures kept { (other : ℕ) → 0 < other → is_mark_for other held ≡ true → is_mark_for other result ≡ true }
 {
     if held == FREE || held == mark {
         return mark;
@@ -113,6 +113,6 @@ impl Filter {
         let mark = mark_of(number);
         let held = self.slots[slot];
         self.slots[slot] = taken_by(held, mark);
-        !stands_for(mark, held)
+        !is_mark_for(mark, held)
     }
 }

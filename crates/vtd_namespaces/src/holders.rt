@@ -3,8 +3,8 @@
 ghost use Rattle.std.specs.Prelude.{◌≡◌, ℕ, ◌+◌, ◌<◌, ◌≤◌, ◌≢◌, List, ◌∷◌, length, encode_utf8_all, IfSome};
 ghost use Rattle.vtd_words.specs.Lists.{list_of};
 ghost use Rattle.xml_model.specs.Nest.{Forest};
-ghost use Rattle.xml_model.specs.Tree.{Entry, Holder, Stands};
-ghost use Rattle.xml_model.specs.Laws.{holder_place};
+ghost use Rattle.xml_model.specs.Tree.{Entry, Holder, Identifies};
+ghost use Rattle.xml_model.specs.Laws.{holder_index};
 ghost use Rattle.xml_model.specs.Names.{binding};
 ghost use Rattle.vtd_words.specs.Table.{IsNestOf, IsNodeOf, nodes_of};
 ghost use Rattle.vtd_text.specs.NameRecords.{IsDeclaration};
@@ -24,7 +24,7 @@ const XML: &[u8] = b"xml";
 /// The record of the element that holds an element, by its record; 0 where none does.
 fn holder_of<W: Words>(table: &Table<'_, W>, tag: u32) -> u32
     requires { IsElementAt table.now.bytes (W.lists table.now.words) tag }
-    ensures found { (nest : Forest) → IsNestOf table.now.bytes (W.lists table.now.words) nest → (x : Holder) (xs : List Holder) → Chain (nodes_of table.now.bytes nest) (x ∷ xs) → x.place ≡ tag → result ≡ holder_place xs }
+    ensures found { (nest : Forest) → IsNestOf table.now.bytes (W.lists table.now.words) nest → (x : Holder) (xs : List Holder) → Chain (nodes_of table.now.bytes nest) (x ∷ xs) → x.index ≡ tag → result ≡ holder_index xs }
     ensures lower { result < tag }
     ensures element { result ≢ 0 → IsElementAt table.now.bytes (W.lists table.now.words) result }
 {
@@ -38,7 +38,7 @@ fn holder_of<W: Words>(table: &Table<'_, W>, tag: u32) -> u32
     }
 }
 
-/// The index behind that of an element's record.
+/// The index after that of an element's record.
 fn first_attribute<W: Words>(table: &Table<'_, W>, tag: u32) -> u32
     requires { IsElementAt table.now.bytes (W.lists table.now.words) tag }
     ensures index { result ≡ tag + 1 }
@@ -53,7 +53,7 @@ fn first_attribute<W: Words>(table: &Table<'_, W>, tag: u32) -> u32
 /// or `None` where they have none; 0 stands for no element.
 fn declaration_above<W: Words>(table: &Table<'_, W>, tag: u32, prefix: &[u8]) -> Option<u32>
     requires { tag ≢ 0 → IsElementAt table.now.bytes (W.lists table.now.words) tag }
-    ensures found { (nest : Forest) → IsNestOf table.now.bytes (W.lists table.now.words) nest → (hs : List Holder) → Chain (nodes_of table.now.bytes nest) hs → holder_place hs ≡ tag →
+    ensures found { (nest : Forest) → IsNestOf table.now.bytes (W.lists table.now.words) nest → (hs : List Holder) → Chain (nodes_of table.now.bytes nest) hs → holder_index hs ≡ tag →
         (p : List ℕ) → prefix.now ≡ encode_utf8_all p → IsNearest (nodes_of table.now.bytes nest) hs p result }
     ensures declares { IfSome result (IsDeclaration table.now.bytes (W.lists table.now.words)) }
 {
@@ -69,11 +69,11 @@ fn declaration_above<W: Words>(table: &Table<'_, W>, tag: u32, prefix: &[u8]) ->
     None
 }
 
-/// The URI to which a prefix is bound under an element, by the element's record, 0 standing for none; none where it is not bound.
+/// The URI to which a prefix is bound under an element, by the element's record, 0 being for none; none where it is not bound.
 /// The empty prefix has the default namespace, and none where that is taken away (Namespaces in XML 1.0, section 6.2).
 pub fn uri_of_prefix<'a, W: Words>(table: &Table<'a, W>, tag: u32, prefix: &[u8]) -> Uri<'a, W>
     requires { tag ≢ 0 → IsElementAt table.now.bytes (W.lists table.now.words) tag }
-    ensures { (nest : Forest) → IsNestOf table.now.bytes (W.lists table.now.words) nest → (hs : List Holder) → Chain (nodes_of table.now.bytes nest) hs → holder_place hs ≡ tag →
+    ensures { (nest : Forest) → IsNestOf table.now.bytes (W.lists table.now.words) nest → (hs : List Holder) → Chain (nodes_of table.now.bytes nest) hs → holder_index hs ≡ tag →
         (p : List ℕ) → prefix.now ≡ encode_utf8_all p → uri_value result ≡ binding p (tags_in hs) }
 {
     if prefix == XML {
@@ -94,7 +94,7 @@ pub fn uri_of_prefix<'a, W: Words>(table: &Table<'a, W>, tag: u32, prefix: &[u8]
 pub fn nearest_element<W: Words>(table: &Table<'_, W>, node: Node) -> u32
     requires node { IsNodeOf table.now.bytes (W.lists table.now.words) node }
     requires named { HasExpandedName node.kind }
-    ensures found { (nest : Forest) → IsNestOf table.now.bytes (W.lists table.now.words) nest → (e : Entry) → Stands node.kind node.at e (nodes_of table.now.bytes nest) → result ≡ holder_place (reaching e) }
+    ensures found { (nest : Forest) → IsNestOf table.now.bytes (W.lists table.now.words) nest → (e : Entry) → Identifies node.kind node.at e (nodes_of table.now.bytes nest) → result ≡ holder_index (reaching e) }
     ensures element { result ≢ 0 → IsElementAt table.now.bytes (W.lists table.now.words) result }
 {
     match node.kind {

@@ -3,7 +3,7 @@
 
 ghost use Rattle.std.specs.Prelude.{◌≡◌, encode_utf8_all};
 ghost use Rattle.xml_model.specs.Nest.{Forest};
-ghost use Rattle.xml_model.specs.Tree.{Entry, Stands};
+ghost use Rattle.xml_model.specs.Tree.{Entry, Identifies};
 ghost use Rattle.xml_model.specs.Names.{expanded, name_passes};
 ghost use Rattle.vtd_words.specs.Table.{IsNestOf, IsNodeOf, nodes_of};
 ghost use Rattle.vtd_namespaces.specs.Uris.{uri_value};
@@ -22,7 +22,7 @@ use xml_model::{Kind, NameTest, Node};
 pub fn prefix_of<'a, W: Words>(table: &Table<'a, W>, node: Node) -> &'a [u8]
     requires node { IsNodeOf table.now.bytes (W.lists table.now.words) node }
     requires named { HasName node.kind }
-    ensures { (nest : Forest) → IsNestOf table.now.bytes (W.lists table.now.words) nest → (e : Entry) → Stands node.kind node.at e (nodes_of table.now.bytes nest) →
+    ensures { (nest : Forest) → IsNestOf table.now.bytes (W.lists table.now.words) nest → (e : Entry) → Identifies node.kind node.at e (nodes_of table.now.bytes nest) →
         result.now ≡ encode_utf8_all (node_prefix e.what) }
 {
     let parts = parts_at(table.words(), node.at);
@@ -37,7 +37,7 @@ pub fn prefix_of<'a, W: Words>(table: &Table<'a, W>, node: Node) -> &'a [u8]
 pub fn local_of<'a, W: Words>(table: &Table<'a, W>, node: Node) -> &'a [u8]
     requires node { IsNodeOf table.now.bytes (W.lists table.now.words) node }
     requires named { HasName node.kind }
-    ensures { (nest : Forest) → IsNestOf table.now.bytes (W.lists table.now.words) nest → (e : Entry) → Stands node.kind node.at e (nodes_of table.now.bytes nest) →
+    ensures { (nest : Forest) → IsNestOf table.now.bytes (W.lists table.now.words) nest → (e : Entry) → Identifies node.kind node.at e (nodes_of table.now.bytes nest) →
         result.now ≡ encode_utf8_all (node_local e.what) }
 {
     let parts = parts_at(table.words(), node.at);
@@ -54,7 +54,7 @@ pub fn local_of<'a, W: Words>(table: &Table<'a, W>, node: Node) -> &'a [u8]
 pub fn uri_of<'a, W: Words>(table: &Table<'a, W>, node: Node) -> Uri<'a, W>
     requires node { IsNodeOf table.now.bytes (W.lists table.now.words) node }
     requires named { HasName node.kind }
-    ensures { (nest : Forest) → IsNestOf table.now.bytes (W.lists table.now.words) nest → (e : Entry) → Stands node.kind node.at e (nodes_of table.now.bytes nest) →
+    ensures { (nest : Forest) → IsNestOf table.now.bytes (W.lists table.now.words) nest → (e : Entry) → Identifies node.kind node.at e (nodes_of table.now.bytes nest) →
         uri_value result ≡ uri_in (expanded e) }
 {
     let prefix = prefix_of(table, node);
@@ -75,7 +75,7 @@ pub fn uri_of<'a, W: Words>(table: &Table<'a, W>, node: Node) -> Uri<'a, W>
 pub fn matches<W: Words>(table: &Table<'_, W>, node: Node, test: &NameTest<'_>) -> bool
     requires node { IsNodeOf table.now.bytes (W.lists table.now.words) node }
     requires named { HasExpandedName node.kind }
-    ensures { (nest : Forest) → IsNestOf table.now.bytes (W.lists table.now.words) nest → (e : Entry) → Stands node.kind node.at e (nodes_of table.now.bytes nest) →
+    ensures { (nest : Forest) → IsNestOf table.now.bytes (W.lists table.now.words) nest → (e : Entry) → Identifies node.kind node.at e (nodes_of table.now.bytes nest) →
         result ≡ name_passes (test_of test.now) (expanded e) }
 {
     match *test {

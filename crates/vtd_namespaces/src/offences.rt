@@ -3,19 +3,19 @@
 ghost use Rattle.std.specs.Prelude.{◌≡◌, ℕ, ◌+◌, ◌*◌, ◌<◌, ◌≤◌, ◌^◌, true, false, List, [], ◌∷◌, ◌++◌, length, take, is_some, encode_utf8_all, bytes_eq, codes, IfSome};
 ghost use Rattle.std.specs.List.{AllByRecursion, list_any};
 ghost use Rattle.xml_model.specs.Scan.{record_at};
-ghost use Rattle.vtd_words.specs.Packed.{token_of};
+ghost use Rattle.vtd_words.specs.Packed.{record_of};
 ghost use Rattle.xml_model.specs.Items.{Attribute, first_place};
 ghost use Rattle.xml_model.specs.Nest.{Forest};
 ghost use Rattle.xml_model.specs.Content.{value_content};
 ghost use Rattle.xml_model.specs.Chars.{prefix_of as prefix_of_chars};
-ghost use Rattle.xml_model.specs.Records.{Token, attributes_place, records};
+ghost use Rattle.xml_model.specs.Records.{Record, attributes_place, records};
 ghost use Rattle.xml_model.specs.Tree.{Holder};
 ghost use Rattle.xml_model.specs.Names.{attribute_uri};
 ghost use Rattle.xml_model.specs.Accepted.{attribute_offends as offends_as_attribute, declaration_offends as offends_by_declaration, is_reserved as is_reserved_uri, offending_attributes, offending_tag, repeated, tag_offends};
 ghost use Rattle.vtd_words.specs.Lists.{list_of};
 ghost use Rattle.vtd_words.specs.Table.{IsNestOf, Shows, nodes_of};
 ghost use Rattle.vtd_text.specs.NameRecords.{IsDeclaration, IsNameOf};
-ghost use Rattle.vtd_namespaces.specs.Standing.{AttributesStand, IsAttributeRecord, TagStands};
+ghost use Rattle.vtd_namespaces.specs.NameRecords.{AreAttributeRecords, IsAttributeRecord, IsTagRecord};
 ghost use Rattle.vtd_namespaces.specs.Faults.{first_of};
 ghost use Rattle.vtd_namespaces.specs.Scope.{IsNearest, tags_in};
 ghost use Rattle.vtd_namespaces.specs.Uris.{IsScope};
@@ -84,7 +84,7 @@ fn is_twin_at<W: Words>(
     requires declaration { IfSome declaration (IsDeclaration scope.now.table.now.bytes (W.lists scope.now.table.now.words)) }
     ensures { (nest : Forest) (hs : List Holder) → IsScope scope.now.table.now.bytes (W.lists scope.now.table.now.words) scope.now.open_tags.now scope.now.depth nest hs →
         (a : Attribute) → IsWritten name.now prefix_len a → is_some (attribute_uri (prefix_of_chars a.name) (tags_in hs)) ≡ true → IsNearest (nodes_of scope.now.table.now.bytes nest) hs (prefix_of_chars a.name) declaration →
-        (rs : List Token) → Shows (list_of Part.Records (W.lists scope.now.table.now.words)) rs → (place : ℕ) (b : Attribute) → IsAttributeRecord scope.now.table.now.bytes rs at place b →
+        (rs : List Record) → Shows (list_of Part.Records (W.lists scope.now.table.now.words)) rs → (place : ℕ) (b : Attribute) → IsAttributeRecord scope.now.table.now.bytes rs at place b →
         result ≡ is_twin (tags_in hs) a b }
 {
     let other = parts_at(scope.table.words(), at);
@@ -118,7 +118,7 @@ fn has_twin<W: Words>(
     requires bound { first + 2 * count < 2 ^ 32 }
     requires prefix { 0 < prefix_len }
     ensures { (nest : Forest) (x : Holder) (xs : List Holder) → IsScope scope.now.table.now.bytes (W.lists scope.now.table.now.words) scope.now.open_tags.now scope.now.depth nest (x ∷ xs) →
-        first ≡ x.place + 1 → count ≤ length x.tag.attributes →
+        first ≡ x.index + 1 → count ≤ length x.tag.attributes →
         (a : Attribute) → IsWritten name.now prefix_len a → is_some (attribute_uri (prefix_of_chars a.name) (tags_in (x ∷ xs))) ≡ true →
         result ≡ list_any (is_twin (tags_in (x ∷ xs)) a) (take count x.tag.attributes) }
 {
@@ -143,9 +143,9 @@ fn attribute_offends<W: Words>(
 ) -> bool
     requires room { first + 2 * number < length (list_of Part.Records (W.lists scope.now.table.now.words)) }
     requires bound { first + 2 * number < 2 ^ 32 }
-    requires here { (rs : List Token) → Shows (list_of Part.Records (W.lists scope.now.table.now.words)) rs → token_of parts ≡ record_at (first + 2 * number) rs }
+    requires here { (rs : List Record) → Shows (list_of Part.Records (W.lists scope.now.table.now.words)) rs → record_of parts ≡ record_at (first + 2 * number) rs }
     ensures { (nest : Forest) (x : Holder) (xs : List Holder) → IsScope scope.now.table.now.bytes (W.lists scope.now.table.now.words) scope.now.open_tags.now scope.now.depth nest (x ∷ xs) →
-        first ≡ x.place + 1 → (done left : List Attribute) (a : Attribute) → x.tag.attributes ≡ done ++ (a ∷ left) → length done ≡ number →
+        first ≡ x.index + 1 → (done left : List Attribute) (a : Attribute) → x.tag.attributes ≡ done ++ (a ∷ left) → length done ≡ number →
         AllByRecursion (IsFine (tags_in (x ∷ xs))) done → AllByRecursion (λ b. bytes_eq a.name b.name ≡ false) done →
         (is_new ≡ true → is_some (attribute_uri (prefix_of_chars a.name) (tags_in (x ∷ xs))) ≡ true → list_any (is_twin (tags_in (x ∷ xs)) a) done ≡ false) →
         result ≡ offends_as_attribute (tags_in (x ∷ xs)) (seen_after (tags_in (x ∷ xs)) [] done) a }
@@ -178,7 +178,7 @@ const MANY: u32 = 64;
 fn attributes_offence_in_many<W: Words>(scope: &Scope<'_, '_, W>, first: u32) -> Option<u32>
     requires { first ≤ length (list_of Part.Records (W.lists scope.now.table.now.words)) }
     ensures { (nest : Forest) (x : Holder) (xs : List Holder) → IsScope scope.now.table.now.bytes (W.lists scope.now.table.now.words) scope.now.open_tags.now scope.now.depth nest (x ∷ xs) →
-        first ≡ x.place + 1 → (at : ℕ) → AttributesStand scope.now.table.now.bytes (records nest (first_place scope.now.table.now.bytes)) first at x.tag.attributes →
+        first ≡ x.index + 1 → (at : ℕ) → AreAttributeRecords scope.now.table.now.bytes (records nest (first_place scope.now.table.now.bytes)) first at x.tag.attributes →
         repeated at [] x.tag.attributes ≡ [] → result ≡ first_of (offending_attributes (tags_in (x ∷ xs)) at [] x.tag.attributes) }
 {
     let mut filter = Filter::new();
@@ -197,7 +197,7 @@ fn attributes_offence_in_many<W: Words>(scope: &Scope<'_, '_, W>, first: u32) ->
 fn attributes_offence<W: Words>(scope: &Scope<'_, '_, W>, first: u32) -> Option<u32>
     requires { first ≤ length (list_of Part.Records (W.lists scope.now.table.now.words)) }
     ensures { (nest : Forest) (x : Holder) (xs : List Holder) → IsScope scope.now.table.now.bytes (W.lists scope.now.table.now.words) scope.now.open_tags.now scope.now.depth nest (x ∷ xs) →
-        first ≡ x.place + 1 → (at : ℕ) → AttributesStand scope.now.table.now.bytes (records nest (first_place scope.now.table.now.bytes)) first at x.tag.attributes →
+        first ≡ x.index + 1 → (at : ℕ) → AreAttributeRecords scope.now.table.now.bytes (records nest (first_place scope.now.table.now.bytes)) first at x.tag.attributes →
         repeated at [] x.tag.attributes ≡ [] → result ≡ first_of (offending_attributes (tags_in (x ∷ xs)) at [] x.tag.attributes) }
 {
     let mut number = 0;
@@ -218,9 +218,9 @@ const XMLNS: &[u8] = b"xmlns";
 
 /// Whether the name of the nearest tag offends, by the parts of its record.
 fn tag_name_offends<W: Words>(scope: &Scope<'_, '_, W>, tag: u32, parts: Parts) -> bool
-    requires { (rs : List Token) → Shows (list_of Part.Records (W.lists scope.now.table.now.words)) rs → token_of parts ≡ record_at tag rs }
+    requires { (rs : List Record) → Shows (list_of Part.Records (W.lists scope.now.table.now.words)) rs → record_of parts ≡ record_at tag rs }
     ensures { (nest : Forest) (x : Holder) (xs : List Holder) → IsScope scope.now.table.now.bytes (W.lists scope.now.table.now.words) scope.now.open_tags.now scope.now.depth nest (x ∷ xs) →
-        (at : ℕ) → TagStands scope.now.table.now.bytes (records nest (first_place scope.now.table.now.bytes)) tag at x.tag →
+        (at : ℕ) → IsTagRecord scope.now.table.now.bytes (records nest (first_place scope.now.table.now.bytes)) tag at x.tag →
         result ≡ tag_offends (tags_in (x ∷ xs)) x.tag.name }
 {
     let name = slice_of(scope.table.bytes(), parts);
@@ -239,7 +239,7 @@ fn tag_name_offends<W: Words>(scope: &Scope<'_, '_, W>, tag: u32, parts: Parts) 
 pub fn tag_offence<W: Words>(scope: &Scope<'_, '_, W>, tag: u32) -> Option<u32>
     requires { tag < length (list_of Part.Records (W.lists scope.now.table.now.words)) }
     ensures { (nest : Forest) (x : Holder) (xs : List Holder) → IsScope scope.now.table.now.bytes (W.lists scope.now.table.now.words) scope.now.open_tags.now scope.now.depth nest (x ∷ xs) →
-        tag ≡ x.place → (at : ℕ) → TagStands scope.now.table.now.bytes (records nest (first_place scope.now.table.now.bytes)) tag at x.tag →
+        tag ≡ x.index → (at : ℕ) → IsTagRecord scope.now.table.now.bytes (records nest (first_place scope.now.table.now.bytes)) tag at x.tag →
         repeated (attributes_place at x.tag) [] x.tag.attributes ≡ [] → result ≡ first_of (offending_tag at (tags_in xs) x.tag) }
 {
     let parts = parts_at(scope.table.words(), tag);

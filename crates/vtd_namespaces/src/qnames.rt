@@ -3,7 +3,7 @@
 ghost use Rattle.std.specs.Prelude.{◌≡◌, ℕ, ◌≢◌, List, encode_utf8_all, true};
 ghost use Rattle.xml_model.specs.Chars.{after_colon, is_name, is_ncname, is_qname, prefix_of, local_of, has_colon, size};
 
-use crate::records::{behind, front};
+use crate::records::{after, prefix};
 use std::str::from_utf8;
 use xml_chars::is_ncname;
 
@@ -11,14 +11,14 @@ use xml_chars::is_ncname;
 pub fn prefix_of(name: &[u8], prefix_len: u32) -> &[u8]
     ensures { (cs : List ℕ) → name.now ≡ encode_utf8_all cs → prefix_len ≡ size (prefix_of cs) → result.now ≡ encode_utf8_all (prefix_of cs) }
 {
-    front(name, prefix_len)
+    prefix(name, prefix_len)
 }
 
 /// What follows the first colon of a name that has a prefix.
 pub fn after_prefix(name: &[u8], prefix_len: u32) -> &[u8]
     ensures { (cs : List ℕ) → name.now ≡ encode_utf8_all cs → prefix_len ≡ size (prefix_of cs) → prefix_len ≢ 0 → result.now ≡ encode_utf8_all (after_colon cs) }
 {
-    behind(behind(name, prefix_len), 1)
+    after(after(name, prefix_len), 1)
 }
 
 /// Whether what follows a colon in a name is an NCName (Namespaces in XML 1.0, production 4).
@@ -58,5 +58,5 @@ pub fn local_of(name: &[u8], prefix_len: u32) -> &[u8]
     if is_qname(name, prefix_len) {
         return name;
     }
-    behind(name, 1)
+    after(name, 1)
 }

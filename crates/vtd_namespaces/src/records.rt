@@ -1,20 +1,20 @@
 //! The records of names, and the bytes of their tokens.
 
 ghost use Rattle.std.specs.Prelude.{◌≡◌, ◌+◌, ◌^◌, ◌≤◌, ◌<◌, true, List, take, drop, length, IfSome, IfNone};
-ghost use Rattle.xml_model.specs.Records.{Token};
+ghost use Rattle.xml_model.specs.Records.{Record};
 ghost use Rattle.xml_model.specs.Scan.{record_at};
 ghost use Rattle.vtd_words.specs.Lists.{list_of};
-ghost use Rattle.vtd_words.specs.Packed.{token_of};
+ghost use Rattle.vtd_words.specs.Packed.{record_of};
 ghost use Rattle.vtd_words.specs.Table.{Shows};
-ghost use Rattle.vtd_namespaces.specs.Standing.{slice_of, is_attribute_token};
+ghost use Rattle.vtd_namespaces.specs.NameRecords.{slice_of, is_attribute_token};
 ghost use Rattle.vtd_namespaces.specs.Repeats.{HasNoAttribute};
 
 use vtd_words::{Part, Parts, Words, parts_at};
 
 /// The parts of the record with an index, where it is of an attribute's name and the value's record follows it.
 pub fn attribute_at<W: Words>(words: &W, at: u32) -> Option<Parts>
-    ensures none { (rs : List Token) → Shows (list_of Part.Records (W.lists words.now)) rs → IfNone result (HasNoAttribute rs at) }
-    ensures some { (rs : List Token) → Shows (list_of Part.Records (W.lists words.now)) rs → IfSome result (λ p. token_of p ≡ record_at at rs) }
+    ensures none { (rs : List Record) → Shows (list_of Part.Records (W.lists words.now)) rs → IfNone result (HasNoAttribute rs at) }
+    ensures some { (rs : List Record) → Shows (list_of Part.Records (W.lists words.now)) rs → IfSome result (λ p. record_of p ≡ record_at at rs) }
     ensures kind { IfSome result (λ p. is_attribute_token p.token ≡ true) }
     ensures room { IfSome result (λ p. at + 2 ≤ length (list_of Part.Records (W.lists words.now))) }
     ensures bound { IfSome result (λ p. at + 2 < 2 ^ 32) }
@@ -32,7 +32,7 @@ pub fn attribute_at<W: Words>(words: &W, at: u32) -> Option<Parts>
 }
 
 /// The bytes from a place on.
-pub fn behind(bytes: &[u8], at: u32) -> &[u8]
+pub fn after(bytes: &[u8], at: u32) -> &[u8]
     ensures { result.now ≡ drop at bytes.now }
 {
     let at = at as usize;
@@ -40,7 +40,7 @@ pub fn behind(bytes: &[u8], at: u32) -> &[u8]
 }
 
 /// The first bytes, as many as there are up to a number.
-pub fn front(bytes: &[u8], len: u32) -> &[u8]
+pub fn prefix(bytes: &[u8], len: u32) -> &[u8]
     ensures { result.now ≡ take len bytes.now }
 {
     let len = len as usize;
@@ -53,7 +53,7 @@ pub fn front(bytes: &[u8], len: u32) -> &[u8]
 
 /// The bytes of the token that a record is of.
 pub fn slice_of(bytes: &[u8], parts: Parts) -> &[u8]
-    ensures { result.now ≡ slice_of bytes.now (token_of parts) }
+    ensures { result.now ≡ slice_of bytes.now (record_of parts) }
 {
-    front(behind(bytes, parts.offset), parts.length)
+    prefix(after(bytes, parts.offset), parts.length)
 }

@@ -4,11 +4,11 @@ ghost use Rattle.std.specs.Prelude.{◌≡◌, ℕ, ◌+◌, ◌*◌, ◌≤◌,
 ghost use Rattle.std.specs.List.{list_any};
 ghost use Rattle.xml_model.specs.Items.{Attribute, first_place};
 ghost use Rattle.xml_model.specs.Nest.{Forest};
-ghost use Rattle.xml_model.specs.Records.{Token};
+ghost use Rattle.xml_model.specs.Records.{Record};
 ghost use Rattle.xml_model.specs.Accepted.{over_names, repeated, repeats};
 ghost use Rattle.vtd_words.specs.Lists.{list_of};
 ghost use Rattle.vtd_words.specs.Table.{IsNestOf, Shows};
-ghost use Rattle.vtd_namespaces.specs.Standing.{AttributesStand};
+ghost use Rattle.vtd_namespaces.specs.NameRecords.{AreAttributeRecords};
 ghost use Rattle.vtd_namespaces.specs.Repeats.{names_before};
 ghost use Rattle.vtd_namespaces.specs.Faults.{first_of};
 
@@ -23,7 +23,7 @@ const MANY: u32 = 64;
 fn is_among<W: Words>(bytes: &[u8], words: &W, first: u32, count: u32, name: &[u8]) -> bool
     requires room { first + 2 * count ≤ length (list_of Part.Records (W.lists words.now)) }
     requires bound { first + 2 * count < 2 ^ 32 }
-    ensures { (rs : List Token) → Shows (list_of Part.Records (W.lists words.now)) rs → result ≡ list_any (bytes_eq name.now) (names_before bytes.now rs first count) }
+    ensures { (rs : List Record) → Shows (list_of Part.Records (W.lists words.now)) rs → result ≡ list_any (bytes_eq name.now) (names_before bytes.now rs first count) }
 {
     for number in 0..count {
         if slice_of(bytes, parts_at(words, first + 2 * number)) == name {
@@ -37,8 +37,8 @@ fn is_among<W: Words>(bytes: &[u8], words: &W, first: u32, count: u32, name: &[u
 /// Each name is compared with those before it only where a filter takes it for one of them.
 fn repeat_in_many<W: Words>(bytes: &[u8], words: &W, first: u32) -> Option<u32>
     requires { first ≤ length (list_of Part.Records (W.lists words.now)) }
-    ensures { (rs : List Token) → Shows (list_of Part.Records (W.lists words.now)) rs → (at : ℕ) (others : List Attribute) →
-        AttributesStand bytes.now rs first at others → result ≡ first_of (repeated at [] others) }
+    ensures { (rs : List Record) → Shows (list_of Part.Records (W.lists words.now)) rs → (at : ℕ) (others : List Attribute) →
+        AreAttributeRecords bytes.now rs first at others → result ≡ first_of (repeated at [] others) }
 {
     let mut filter = Filter::new();
     let mut earlier = 0;
@@ -55,8 +55,8 @@ fn repeat_in_many<W: Words>(bytes: &[u8], words: &W, first: u32) -> Option<u32>
 /// The same. Each name is compared with those before it, where they are few.
 fn repeat_in<W: Words>(bytes: &[u8], words: &W, first: u32) -> Option<u32>
     requires { first ≤ length (list_of Part.Records (W.lists words.now)) }
-    ensures { (rs : List Token) → Shows (list_of Part.Records (W.lists words.now)) rs → (at : ℕ) (others : List Attribute) →
-        AttributesStand bytes.now rs first at others → result ≡ first_of (repeated at [] others) }
+    ensures { (rs : List Record) → Shows (list_of Part.Records (W.lists words.now)) rs → (at : ℕ) (others : List Attribute) →
+        AreAttributeRecords bytes.now rs first at others → result ≡ first_of (repeated at [] others) }
 {
     let mut earlier = 0;
     while let Some(parts) = attribute_at(words, first + 2 * earlier) {

@@ -7,9 +7,9 @@ ghost use Rattle.xml_model.specs.Items.{Attribute};
 ghost use Rattle.xml_model.specs.Nest.{Forest};
 ghost use Rattle.xml_model.specs.Records.{name_token};
 ghost use Rattle.xml_model.specs.Tree.{Holder};
-ghost use Rattle.vtd_words.specs.Packed.{token_of};
+ghost use Rattle.vtd_words.specs.Packed.{record_of};
 ghost use Rattle.vtd_namespaces.specs.Filter.{mixed, is_taken};
-ghost use Rattle.vtd_namespaces.specs.Standing.{IsNameRecord};
+ghost use Rattle.vtd_namespaces.specs.NameRecords.{IsNameRecord};
 ghost use Rattle.vtd_namespaces.specs.Scope.{tags_in};
 ghost use Rattle.vtd_namespaces.specs.Uris.{IsScope, uri_value};
 ghost use Rattle.vtd_namespaces.specs.Offences.{key_of, IsNoted, IsWritten};
@@ -21,7 +21,7 @@ use crate::scope::Scope;
 use crate::uri::{Uri, XML_URI};
 use vtd_words::{Parts, Words};
 
-/// The number of a URI as the front of a key; that of none is of no code points.
+/// The number of a URI as the start of a key; that of none is of no code points.
 fn number_of_uri<W: Words>(uri: Uri<'_, W>) -> u64
     ensures number { result ≡ fold mixed 0 (unwrap_or (uri_value uri.entry) []) }
     ensures fits { result < 2 ^ 32 }
@@ -55,9 +55,9 @@ fn note_name<W: Words>(
 /// was noted before has its expanded name.
 pub fn note_attribute<W: Words>(scope: &Scope<'_, '_, W>, filter: &mut Filter, parts: Parts) -> bool
     ensures new { (nest : Forest) (hs : List Holder) → IsScope scope.now.table.now.bytes (W.lists scope.now.table.now.words) scope.now.open_tags.now scope.now.depth nest hs →
-        (a : Attribute) → parts.token ≡ name_token a.name → IsNameRecord scope.now.table.now.bytes (token_of parts) a.name → result ≡ true → is_taken filter.old.slots (key_of (tags_in hs) a) ≡ false }
+        (a : Attribute) → parts.token ≡ name_token a.name → IsNameRecord scope.now.table.now.bytes (record_of parts) a.name → result ≡ true → is_taken filter.old.slots (key_of (tags_in hs) a) ≡ false }
     ensures noted { (nest : Forest) (hs : List Holder) → IsScope scope.now.table.now.bytes (W.lists scope.now.table.now.words) scope.now.open_tags.now scope.now.depth nest hs →
-        (a : Attribute) → parts.token ≡ name_token a.name → IsNameRecord scope.now.table.now.bytes (token_of parts) a.name → IsNoted (tags_in hs) filter.new.slots a }
+        (a : Attribute) → parts.token ≡ name_token a.name → IsNameRecord scope.now.table.now.bytes (record_of parts) a.name → IsNoted (tags_in hs) filter.new.slots a }
     ensures kept { (key : List ℕ) → is_taken filter.old.slots key ≡ true → is_taken filter.new.slots key ≡ true }
 {
     if parts.token == 3 || parts.prefix == 0 {

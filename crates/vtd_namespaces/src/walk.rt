@@ -4,11 +4,11 @@ ghost use Rattle.std.specs.Prelude.{◌≡◌, ℕ, ◌+◌, ◌<◌, ◌⊎◌,
 ghost use Rattle.std.specs.List.{slice_index_or};
 ghost use Rattle.xml_model.specs.Items.{first_place};
 ghost use Rattle.xml_model.specs.Nest.{Forest};
-ghost use Rattle.xml_model.specs.Records.{Token, records};
+ghost use Rattle.xml_model.specs.Records.{Record, records};
 ghost use Rattle.xml_model.specs.Scan.{record_at};
 ghost use Rattle.xml_model.specs.Accepted.{offences, over_names, repeats};
 ghost use Rattle.vtd_words.specs.Lists.{list_of};
-ghost use Rattle.vtd_words.specs.Packed.{token_of};
+ghost use Rattle.vtd_words.specs.Packed.{record_of};
 ghost use Rattle.vtd_words.specs.Table.{IsNestOf, Shows, nodes_of};
 ghost use Rattle.vtd_namespaces.specs.Faults.{first_of, OffenceAt};
 ghost use Rattle.vtd_namespaces.specs.Scope.{IsOpenBefore};
@@ -29,8 +29,8 @@ fn element_offence<W: Words>(
 ) -> Option<u32>
     requires room { at < length (list_of Part.Records (W.lists table.now.words)) }
     requires tags { (k : ℕ) → slice_index_or open_tags.now k 0 < length (list_of Part.Records (W.lists table.now.words)) }
-    requires tag { (rs : List Token) → Shows (list_of Part.Records (W.lists table.now.words)) rs → (record_at at rs).token ≡ 0 }
-    requires depth { (rs : List Token) → Shows (list_of Part.Records (W.lists table.now.words)) rs → (record_at at rs).depth ≡ depth }
+    requires tag { (rs : List Record) → Shows (list_of Part.Records (W.lists table.now.words)) rs → (record_at at rs).token ≡ 0 }
+    requires depth { (rs : List Record) → Shows (list_of Part.Records (W.lists table.now.words)) rs → (record_at at rs).depth ≡ depth }
     ensures { (nest : Forest) → IsNestOf table.now.bytes (W.lists table.now.words) nest → over_names repeats [] (first_place table.now.bytes) nest ≡ [] →
         IsOpenBefore open_tags.now (records nest (first_place table.now.bytes)) (at + 1) → OffenceAt at result (nodes_of table.now.bytes nest) }
 {
@@ -46,7 +46,7 @@ fn element_offence<W: Words>(
 
 /// The place of the target of an instruction, where it has a colon (Namespaces in XML 1.0, section 7).
 fn instruction_offence<W: Words>(table: &Table<'_, W>, at: u32, parts: Parts) -> Option<u32>
-    requires here { (rs : List Token) → Shows (list_of Part.Records (W.lists table.now.words)) rs → token_of parts ≡ record_at at rs }
+    requires here { (rs : List Record) → Shows (list_of Part.Records (W.lists table.now.words)) rs → record_of parts ≡ record_at at rs }
     requires instruction { parts.token ≡ 7 }
     ensures { (nest : Forest) → IsNestOf table.now.bytes (W.lists table.now.words) nest → OffenceAt at result (nodes_of table.now.bytes nest) }
 {
@@ -62,10 +62,10 @@ fn offence_at<W: Words>(table: &Table<'_, W>, open_tags: &mut [u32; 256], at: u3
     requires room { at < length (list_of Part.Records (W.lists table.now.words)) }
     requires tags { (k : ℕ) → slice_index_or open_tags.old k 0 < length (list_of Part.Records (W.lists table.now.words)) }
     ensures tags { (k : ℕ) → slice_index_or open_tags.new k 0 < length (list_of Part.Records (W.lists table.now.words)) }
-    ensures opened { (rs : List Token) → Shows (list_of Part.Records (W.lists table.now.words)) rs → IsOpenBefore open_tags.old rs at → IsOpenBefore open_tags.new rs (at + 1) }
+    ensures opened { (rs : List Record) → Shows (list_of Part.Records (W.lists table.now.words)) rs → IsOpenBefore open_tags.old rs at → IsOpenBefore open_tags.new rs (at + 1) }
     ensures offence { (nest : Forest) → IsNestOf table.now.bytes (W.lists table.now.words) nest → over_names repeats [] (first_place table.now.bytes) nest ≡ [] →
         IsOpenBefore open_tags.old (records nest (first_place table.now.bytes)) at → OffenceAt at result (nodes_of table.now.bytes nest) }
-    ensures starts { IfSome result (λ _. (rs : List Token) → Shows (list_of Part.Records (W.lists table.now.words)) rs → ((record_at at rs).token ≡ 0) ⊎ ((record_at at rs).token ≡ 7)) }
+    ensures starts { IfSome result (λ _. (rs : List Record) → Shows (list_of Part.Records (W.lists table.now.words)) rs → ((record_at at rs).token ≡ 0) ⊎ ((record_at at rs).token ≡ 7)) }
 {
     let parts = parts_at(table.words(), at);
     if parts.token == 0 {

@@ -1,4 +1,4 @@
--- Files in a list: where the first of a name stands, and what a change of one leaves.
+-- Files in a list: where the first of a name is, and what a change of one leaves.
 use Rattle.std.proofs.Common.{◌≡◌, ℕ, zero, suc, ◌+◌, ◌<◌, Bool, true, false, cond, List, [], ◌∷◌, ◌++◌, map, length, get_or, set, Option, Some, None, IfSome, IfNone, Result, Ok, Err, OnOk, refl, sym, ap, subst, ◌∙◌, arith, string_bytes, bytes_eq}
 use Rattle.std.specs.List.{position, position_from}
 use Rattle.std.proofs.lemmas.List.Quantifiers.{position-Some}
@@ -82,9 +82,9 @@ cond_none : (here : Bool) (bytes : List ℕ) (found : Option (List ℕ)) → con
 cond_none true bytes found e = absurd cc
 cond_none false bytes found e = (refl, e)
 
--- a change behind a file of another name
-behind : (file : NamedFile) (name bytes other : List ℕ) (new old : Option (List ℕ)) → bytes_eq file.name name ≡ false → new ≡ cond (bytes_eq name other) (Some bytes) old → cond (bytes_eq file.name other) (Some file.bytes) new ≡ cond (bytes_eq name other) (Some bytes) (cond (bytes_eq file.name other) (Some file.bytes) old)
-behind file name bytes other new old f e =
+-- a change after a file of another name
+after : (file : NamedFile) (name bytes other : List ℕ) (new old : Option (List ℕ)) → bytes_eq file.name name ≡ false → new ≡ cond (bytes_eq name other) (Some bytes) old → cond (bytes_eq file.name other) (Some file.bytes) new ≡ cond (bytes_eq name other) (Some bytes) (cond (bytes_eq file.name other) (Some file.bytes) old)
+after file name bytes other new old f e =
     ap (λ rest. cond (bytes_eq file.name other) (Some file.bytes) rest) e
     ∙ cond_swap (bytes_eq file.name other) (bytes_eq name other) (Some file.bytes) (Some bytes) old (apart file.name name other f)
 
@@ -95,14 +95,14 @@ put_there (file ∷ files) name zero bytes other s =
     let P : List ℕ → Type 0 = λ n. cond (bytes_eq file.name other) (Some bytes) (lookup files other) ≡ cond (bytes_eq n other) (Some bytes) (cond (bytes_eq file.name other) (Some file.bytes) (lookup files other)) in
     subst P s (cond_same (bytes_eq file.name other) (Some bytes) (Some file.bytes) (lookup files other))
 put_there (file ∷ files) name (suc index) bytes other s =
-    behind file name bytes other (lookup (with_bytes files index bytes) other) (lookup files other) s.0 (put_there files name index bytes other s.1)
+    after file name bytes other (lookup (with_bytes files index bytes) other) (lookup files other) s.0 (put_there files name index bytes other s.1)
 
 -- bytes for a new name
 pub put_new : (files : List NamedFile) (name bytes other : List ℕ) → lookup files name ≡ None → lookup (files ++ record { name = name; bytes = bytes } ∷ []) other ≡ put_into (lookup files) name bytes other
 put_new [] name bytes other e = refl
 put_new (file ∷ files) name bytes other e =
     let parts = cond_none (bytes_eq file.name name) file.bytes (lookup files name) e in
-    behind file name bytes other (lookup (files ++ record { name = name; bytes = bytes } ∷ []) other) (lookup files other) parts.0 (put_new files name bytes other parts.1)
+    after file name bytes other (lookup (files ++ record { name = name; bytes = bytes } ∷ []) other) (lookup files other) parts.0 (put_new files name bytes other parts.1)
 
 -- what the code learns of the index that it finds, and of its absence
 pub index_is : (files : List File) (name : List ℕ) (found : Option ℕ) → found ≡ position (has_name name) files → IfSome found (λ index. IsSlot (map shown files) name index)

@@ -2,7 +2,7 @@
 use Rattle.std.specs.Prelude.{◌≡◌, ◌≤◌, ◌<◌, ℕ, zero, suc, Bool, false, List, [], ◌∷◌, length, drop, Option, Some, None, option_map, string_bytes, bytes_eq}
 use Rattle.vtd_outside.specs.declared.memory_files.File.{File}
 use Rattle.vtd_outside.specs.declared.memory_files.Place.{Place}
-use Rattle.vtd_outside.specs.Told.{OpenFile}
+use Rattle.vtd_outside.specs.Known.{OpenFile}
 use Rattle.vtd_outside.specs.Objects.{NamedFile}
 
 -- what contracts see of a file
@@ -41,7 +41,7 @@ IsSlot (file ∷ files) name (suc index) = (bytes_eq file.name name ≡ false) �
 abbrev pub opened_place : List NamedFile → Option Place → Option OpenFile
 opened_place files = option_map (λ place. record { name = name_at files place.file; rest = drop place.at (held_at files place.file) })
 
--- the place stands in a file that is there, or at its end
+-- the place is in a file that is there, or at its end
 abbrev pub IsPlace : List NamedFile → Option Place → Type 0
 IsPlace files None = Unit {0}
 IsPlace files (Some place) = (place.file < length files) × (place.at ≤ length (held_at files place.file))

@@ -1,7 +1,7 @@
 -- What contracts see of the objects that hold all in memory. This project's own.
 use Rattle.std.specs.Prelude.{ℕ, ◌+◌, ◌-◌, ◌^◌, min, Bool, cond, nat_eq, nat_lt, List, [], ◌∷◌, Option, Some, None, length, bytes_eq}
 use Rattle.std.specs.List.{list_any}
-use Rattle.vtd_outside.specs.Told.{NameMap, OpenFile}
+use Rattle.vtd_outside.specs.Known.{NameMap, OpenFile}
 
 -- the trait calls on an object: the numbers of those that fail, the most bytes that one moves, the number of the next
 pub record Calls : Type 0 where

@@ -1,10 +1,10 @@
 //! What lies outside the program: where bytes come from, where they go, and files. Each is a trait with a count of
-//! faults, so that a caller can be proved to fail only where something outside really failed. Beside the traits stand
+//! faults, so that a caller can be proved to fail only where something outside really failed. Beside the traits are
 //! objects that hold all in memory, for tests and for whoever embeds the program, and the loops that take all bytes
 //! of a source or a file, or give all bytes to a sink.
 //!
-//! What an object holds is told or not, and no call changes which of the two it is. Clauses on bytes hold where it is
-//! told: `left`, `taken` and `contents` are then `Some`.
+//! What an object holds is known or not, and no call changes which of the two it is. Clauses on bytes hold where it is
+//! known: `left`, `taken` and `contents` are then `Some`.
 #![tactic(auto)]
 
 mod calls;
@@ -16,7 +16,7 @@ mod sending;
 
 ghost use Rattle.std.specs.Prelude.{◌≡◌, ℕ, ◌<◌, ◌≤◌, Bool, true, false, List, Option, Some, None, length, IfOk, OnOk, OnErr, IsSome, is_some};
 ghost use Rattle.vtd_outside.specs.Causes.{HasCause, HasFileCause, is_missing};
-ghost use Rattle.vtd_outside.specs.Told.{NameMap, OpenFile, Reads, Takes, Begins, ReadsFile};
+ghost use Rattle.vtd_outside.specs.Known.{NameMap, OpenFile, Reads, Takes, Begins, ReadsFile};
 
 pub use gather::{gather_file, gather_source};
 pub use memory_files::MemoryFiles;
@@ -46,14 +46,14 @@ pub enum GatherFault {
 
 /// Where bytes come from.
 ///
-/// `left` are the bytes that are left, where they are told; `faults` is the count of faults, which never falls.
+/// `left` are the bytes that are left, where they are known; `faults` is the count of faults, which never falls.
 pub trait Source {
     ghost left: { Self → Option (List ℕ) };
 
     ghost faults: { Self → ℕ };
 
-    /// Puts the next bytes into the front of `into`, takes them and answers how many; behind the front `into` stays,
-    /// where bytes are told. For a nonempty `into` it answers 0 exactly at the end.
+    /// Puts the next bytes into the start of `into`, takes them and answers how many; after the prefix `into` stays,
+    /// where bytes are known. For a nonempty `into` it answers 0 exactly at the end.
     ///
     /// # Errors
     /// `Failed` only where the count rose in this call. Nothing is taken then; what is in `into` is left open.
@@ -65,7 +65,7 @@ pub trait Source {
 
 /// Where bytes go.
 ///
-/// `taken` are the bytes that it took, where they are told; `faults` is the count of faults, which never falls.
+/// `taken` are the bytes that it took, where they are known; `faults` is the count of faults, which never falls.
 pub trait Sink {
     ghost taken: { Self → Option (List ℕ) };
 
@@ -84,9 +84,9 @@ pub trait Sink {
 
 /// Files by name, one of which may be read at a time.
 ///
-/// `contents` says which names are there and the bytes of each, where that is told; `opened` is then the file being
-/// read. Whether a file is being read or written is told always. The count of faults is the sum of two that never
-/// fall: `missed` rises where a name is told not to be there, `proper` at every other fault.
+/// `contents` says which names are there and the bytes of each, where that is known; `opened` is then the file being
+/// read. Whether a file is being read or written is known always. The count of faults is the sum of two that never
+/// fall: `missed` rises where a name is known not to be there, `proper` at every other fault.
 pub trait Files {
     ghost contents: { Self → Option NameMap };
 
@@ -128,9 +128,9 @@ pub trait Files {
         ensures writing_stays { is_writing self.new ≡ is_writing self.old }
         ensures cause { HasFileCause false (missed self.old) (missed self.new) (proper self.old) (proper self.new) result };
 
-    ghost reading_told: { (s : Self) → IsSome (contents s) → is_some (opened s) ≡ is_reading s };
+    ghost reading_known: { (s : Self) → IsSome (contents s) → is_some (opened s) ≡ is_reading s };
 
-    ghost missed_told: { (s : Self) → contents s ≡ None → missed s ≡ 0 };
+    ghost missed_known: { (s : Self) → contents s ≡ None → missed s ≡ 0 };
 }
 
 #[cfg(test)]

@@ -2,7 +2,7 @@
 
 ghost use Rattle.std.specs.Prelude.{◌≡◌, ◌++◌, ◌∷◌, ℕ, List, ◌+◌, ◌-◌, ◌<◌, ◌≤◌, ◌↔◌, ◌||◌, Bool, true, false, [], Some, None, min, length, map, vec_len, position, IfSome, IfNone, is_none, is_some, IfOk, IsErr, IsTrue, OnOk, OnErr, option_copied, if◌then◌else◌};
 ghost use Rattle.vtd_outside.specs.Causes.{HasFileCause, is_missing};
-ghost use Rattle.vtd_outside.specs.Told.{Begins, ReadsFile, OpenFile};
+ghost use Rattle.vtd_outside.specs.Known.{Begins, ReadsFile, OpenFile};
 ghost use Rattle.vtd_outside.specs.Objects.{is_listed, after_call, raised, rest_length, lookup, put_into};
 ghost use Rattle.vtd_outside.specs.Held.{shown, has_name, name_at, held_at, with_bytes, IsSlot};
 ghost use Rattle.std.proofs.Common.{rules};
@@ -27,7 +27,7 @@ struct Place {
     at: usize,
 }
 
-/// Files in memory, for tests: a read gives bytes in pieces, and fails at the calls that they were told.
+/// Files in memory, for tests: a read gives bytes in pieces, and fails at the calls that they were known.
 #[derive(Drop)]
 pub struct MemoryFiles {
     alloc: Global,
@@ -94,7 +94,7 @@ impl MemoryFiles {
     }
 }
 
-/// Where in the list the first file of that name stands.
+/// Where in the list the first file of that name is.
 fn slot(files: &[File], name: &str) -> Option<usize>
     ensures some { IfSome result (λ index. IsSlot (map shown files.now) name.now index) }
     ensures found { IfSome result (λ index. lookup (map shown files.now) name.now ≡ Some (held_at (map shown files.now) index)) }
@@ -156,9 +156,9 @@ impl Files for MemoryFiles {
 
     ghost proper = { λ s. s.proper };
 
-    ghost reading_told = { λ s told. Prim.search rules };
+    ghost reading_known = { λ s known. Prim.search rules };
 
-    ghost missed_told = { λ s untold. Prim.cc };
+    ghost missed_known = { λ s unknown. Prim.cc };
 
     fn begin_read(&mut self, name: &str) -> Result<(), Failed>
         ensures begins { Begins (Some (lookup self.old.files)) name.now self.new.opened result }

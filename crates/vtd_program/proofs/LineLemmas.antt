@@ -1,4 +1,4 @@
--- How the first line is cut off the front of a script.
+-- How the first line is cut off the start of a script.
 use Rattle.std.proofs.Common.{◌≡◌, ℕ, zero, suc, ◌+◌, ◌-◌, ◌<◌, ◌≤◌, true, false, ◌==◌, List, [], ◌∷◌, ◌++◌, length, get_or, take, drop, inl, inr, refl, sym, ap, ap₂, ◌∙◌, subst, arith}
 use Rattle.std.proofs.lemmas.Bool.{cases_Bool, cases_lt, eqb-true, eq-eqb, ne_eqb, false≢true, false_from_ne_true}
 use Rattle.std.proofs.lemmas.List.{take-append-drop, drop_more, drop-drop, drop_all, length-drop, take_all, take_rest, take-take, length-take-le, get_or-take, get_or-drop}
@@ -18,7 +18,7 @@ no_feed (c ∷ hay) (suc n) h = (false_from_ne_true _ (h 0 (omega arith)), no_fe
 other_way : (d : ℕ) → (d == 10) ≡ false → (10 == d) ≡ false
 other_way d f = ne_eqb 10 d (λ e. false≢true (sym f ∙ ap (λ x. x == 10) (sym e)))
 
-pub lines-ended : (front rest : List ℕ) → HasNoFeed front → lines (front ++ 10 ∷ rest) ≡ without_return front ∷ lines rest
+pub lines-ended : (prefix rest : List ℕ) → HasNoFeed prefix → lines (prefix ++ 10 ∷ rest) ≡ without_return prefix ∷ lines rest
 unfolding lines
 lines-ended [] rest a = refl
 lines-ended (c ∷ []) rest a = elim (cases_Bool (c == 13)) [ inl t ↦ rw t refl | inr f ↦ rw (f, a.0) refl ]
@@ -35,15 +35,15 @@ lines-open c (d ∷ t) a =
     let e = lines-open d t a.1 in
     elim (cases_Bool (c == 13)) [ inl y ↦ rw (e, s, y, a.0) refl | inr n ↦ rw (e, s, n, a.0) refl ]
 
--- the bytes without the return, as a front of them
-pub ends_in_return : (front : List ℕ) (k : ℕ) → length front ≡ suc k → (get_or front k 0 == 13) ≡ true → without_return front ≡ take k front
+-- the bytes without the return, as a prefix of them
+pub ends_in_return : (prefix : List ℕ) (k : ℕ) → length prefix ≡ suc k → (get_or prefix k 0 == 13) ≡ true → without_return prefix ≡ take k prefix
 ends_in_return [] k l e = absurd (omega arith)
 ends_in_return (c ∷ []) zero l e = rw e refl
 ends_in_return (c ∷ []) (suc k) l e = absurd (omega arith)
 ends_in_return (c ∷ d ∷ t) zero l e = absurd (omega arith)
 ends_in_return (c ∷ d ∷ t) (suc k) l e = ap (λ x. c ∷ x) (ends_in_return (d ∷ t) k (omega arith) e)
 
-pub ends_in_other : (front : List ℕ) (k : ℕ) → length front ≡ suc k → (get_or front k 0 == 13) ≡ false → without_return front ≡ front
+pub ends_in_other : (prefix : List ℕ) (k : ℕ) → length prefix ≡ suc k → (get_or prefix k 0 == 13) ≡ false → without_return prefix ≡ prefix
 ends_in_other [] k l e = refl
 ends_in_other (c ∷ []) zero l e = rw e refl
 ends_in_other (c ∷ []) (suc k) l e = absurd (omega arith)

@@ -5,8 +5,8 @@ use Rattle.std.proofs.lemmas.Bool.{cases_lt, lt-ltb, le-ltb}
 use Rattle.std.proofs.lemmas.Option.{same_Some}
 use Rattle.std.specs.Prelude.{is_none}
 use Rattle.vtd_outside.specs.Causes.{Rose, RoseAlone, is_missing}
-use Rattle.vtd_outside.specs.Told.{NameMap}
-use Rattle.vtd_outside.specs.Gathered.{GathersAll, GathersFront}
+use Rattle.vtd_outside.specs.Known.{NameMap}
+use Rattle.vtd_outside.specs.Gathered.{GathersAll, GathersPrefix}
 use Rattle.vtd_outside.specs.declared.GatherFault.{GatherFault}
 use Rattle.vtd_outside.specs.declared.GatherFault.TheVariants as gather
 use Rattle.xml_model.specs.declared.DocFault.{DocFault}
@@ -21,7 +21,7 @@ use Rattle.vtd_program.specs.declared.commands.Command.TheVariants.{Skip, Elemen
 use Rattle.vtd_program.specs.declared.running.Status.{Status}
 use Rattle.vtd_program.specs.declared.running.Status.TheVariants as statuses
 use Rattle.vtd_program.specs.Lines.{lines, command}
-use Rattle.vtd_program.specs.Meaning.{Outcome, Means, MeansName, MeansFile, MeansDocument, too_long, unfit, accepted, document_name, document_limit, script_limit, listed_in, fault_words, scripted, carried_out, step, refused, refused_line, usage_line, SendsAll, SendsFront, SendsAs, EndsUnfit, EndsAs, Ran, RanScript, Carries, CarriesTo, IsBuilt, ReadsDocument, IsFront, IsKnown, IsMeant, RanExactly, DocumentCause}
+use Rattle.vtd_program.specs.Meaning.{Outcome, Means, MeansName, MeansFile, MeansDocument, too_long, unfit, accepted, document_name, document_limit, script_limit, listed_in, fault_words, scripted, carried_out, step, refused, refused_line, usage_line, SendsAll, SendsPrefix, SendsAs, EndsUnfit, EndsAs, Ran, RanScript, Carries, CarriesTo, IsBuilt, ReadsDocument, IsPrefix, IsKnown, IsMeant, RanExactly, DocumentCause}
 use Rattle.vtd_program.specs.declared.running.NoDocument.{NoDocument}
 use Rattle.vtd_program.specs.declared.running.NoDocument.TheVariants as no
 
@@ -100,16 +100,16 @@ ends_refused m text reads script left before after fb fa status h =
           subst P (sym q.0) (all after q.1)
       | inr q ↦
           let P : Status → Type 0 = λ s. (out : List ℕ) × (after ≡ Some (before ++ out)) × (m ≡ refused text reads left → EndsAs m script out [] left s) in
-          subst P (sym q.0) (fronts after q.1)
+          subst P (sym q.0) (prefixes after q.1)
     ]
   where
     all : (after : Option (List ℕ)) → SendsAll (Some before) after (refused_line text) → (out : List ℕ) × (after ≡ Some (before ++ out)) × (m ≡ refused text reads left → EndsAs m script out [] left statuses.Refused)
     all None f = absurd f
     all (Some a) f = (refused_line text, ap (λ (xs : List ℕ). Some xs) f, λ e. record { same_status = ap (λ (o : Outcome). o.status) (sym e); same_out = ap (λ (o : Outcome). o.out) (sym e); same_err = ap (λ (o : Outcome). o.err) (sym e); same_left = ap (λ (o : Outcome). o.left) (sym e) })
 
-    fronts : (after : Option (List ℕ)) → SendsFront (Some before) after (refused_line text) → (out : List ℕ) × (after ≡ Some (before ++ out)) × (m ≡ refused text reads left → EndsAs m script out [] left statuses.WriteFault)
-    fronts None f = absurd f
-    fronts (Some a) f = (f.0, ap (λ (xs : List ℕ). Some xs) f.1, λ e. (record { more = f.2.more; split = ap (λ (o : Outcome). o.out) e ∙ f.2.split }, record { more = []; split = ap (λ (o : Outcome). o.err) e }, sym (ap (λ (o : Outcome). o.left) e)))
+    prefixes : (after : Option (List ℕ)) → SendsPrefix (Some before) after (refused_line text) → (out : List ℕ) × (after ≡ Some (before ++ out)) × (m ≡ refused text reads left → EndsAs m script out [] left statuses.WriteFault)
+    prefixes None f = absurd f
+    prefixes (Some a) f = (f.0, ap (λ (xs : List ℕ). Some xs) f.1, λ e. (record { more = f.2.more; split = ap (λ (o : Outcome). o.out) e ∙ f.2.split }, record { more = []; split = ap (λ (o : Outcome). o.err) e }, sym (ap (λ (o : Outcome). o.left) e)))
 
 -- nothing was sent: the document could not be read, or there was no memory
 abbrev pub EndsEmpty : Status → Type 0
@@ -123,7 +123,7 @@ EndsUnread statuses.ReadFault = Unit {0}
 EndsUnread statuses.NoMemory = Unit {0}
 EndsUnread _ = ⊥
 
-no_output : (m : Outcome) → IsFront [] m.out
+no_output : (m : Outcome) → IsPrefix [] m.out
 no_output m = record { more = m.out; split = refl }
 
 ends_empty : (m : Outcome) (script : List ℕ) (status : Status) → EndsEmpty status → EndsAs m script [] [] script status
@@ -158,12 +158,12 @@ same_taken before o e = e ∙ ap (λ (xs : List ℕ). Some xs) (sym (append-nil 
 
 -- a script that could not be read to its end, or for which there was no memory
 pub script_unread : (doc : List ℕ) (nest : Forest) (script before : List ℕ) (left_before left_after after : Option (List ℕ)) (status : Status) (fault : GatherFault) → left_before ≡ Some script → after ≡ Some before
-    → GathersFront script_limit left_before left_after fault → (fault ≡ gather.Long → ⊥) → EndsUnread status → RanScript doc nest script before left_after after status
+    → GathersPrefix script_limit left_before left_after fault → (fault ≡ gather.Long → ⊥) → EndsUnread status → RanScript doc nest script before left_after after status
 script_unread doc nest script before lb la after status fault e k h n s =
-    let P : Option (List ℕ) → Type 0 = λ o. GathersFront script_limit o la fault in
+    let P : Option (List ℕ) → Type 0 = λ o. GathersPrefix script_limit o la fault in
     by la fault (subst P e h) n
   where
-    by : (la : Option (List ℕ)) (fault : GatherFault) → GathersFront script_limit (Some script) la fault → (fault ≡ gather.Long → ⊥) → RanScript doc nest script before la after status
+    by : (la : Option (List ℕ)) (fault : GatherFault) → GathersPrefix script_limit (Some script) la fault → (fault ≡ gather.Long → ⊥) → RanScript doc nest script before la after status
     by None gather.Failed h n = absurd h
     by None gather.Long h n = absurd h
     by None gather.NoMemory h n = absurd h
@@ -173,15 +173,15 @@ script_unread doc nest script before lb la after status fault e k h n s =
 
 -- a script that is too long
 pub script_too_long : (doc : List ℕ) (nest : Forest) (script before : List ℕ) (left_before left_after out_before after : Option (List ℕ)) (faults_before faults : ℕ) (status : Status) (fault : GatherFault) → left_before ≡ Some script → out_before ≡ Some before
-    → GathersFront script_limit left_before left_after fault → fault ≡ gather.Long → SendsAs out_before after (refused_line (codes "script-long")) faults_before faults statuses.Refused status
+    → GathersPrefix script_limit left_before left_after fault → fault ≡ gather.Long → SendsAs out_before after (refused_line (codes "script-long")) faults_before faults statuses.Refused status
     → RanScript doc nest script before left_after after status
 script_too_long doc nest script before lb la ob after fb fa status fault e k h is s =
-    let P : Option (List ℕ) → Type 0 = λ o. GathersFront script_limit o la gather.Long in
-    let F : GatherFault → Type 0 = λ f. GathersFront script_limit lb la f in
+    let P : Option (List ℕ) → Type 0 = λ o. GathersPrefix script_limit o la gather.Long in
+    let F : GatherFault → Type 0 = λ f. GathersPrefix script_limit lb la f in
     let Q : Option (List ℕ) → Type 0 = λ o. SendsAs o after (refused_line (codes "script-long")) fb fa statuses.Refused status in
     by la (subst P e (subst F is h)) (subst Q k s)
   where
-    by : (la : Option (List ℕ)) → GathersFront script_limit (Some script) la gather.Long → SendsAs (Some before) after (refused_line (codes "script-long")) fb fa statuses.Refused status → RanScript doc nest script before la after status
+    by : (la : Option (List ℕ)) → GathersPrefix script_limit (Some script) la gather.Long → SendsAs (Some before) after (refused_line (codes "script-long")) fb fa statuses.Refused status → RanScript doc nest script before la after status
     by None h s = absurd h
     by (Some left) h s =
         let r = ends_refused (scripted doc nest script) (codes "script-long") true script left before after fb fa status s in
@@ -332,7 +332,7 @@ ran_script words name files doc script out err ln on en status d f l b ee ran =
         let R : List ℕ → Type 0 = λ x. EndsAs (scripted doc.bytes o.0 script) script q.out [] x status in
         subst P (sym o.2) (subst Q same_out (subst R same_left q.ends))
 
--- ---- what was read, where the files are told
+-- ---- what was read, where the files are known
 
 pub reads_ok : (o : Option NameMap) (files : NameMap) (name : List ℕ) (doc : Document) → o ≡ Some files → ReadsDocument o name (Ok doc) → (files name ≡ Some doc.bytes) × (length doc.bytes ≤ document_limit) × IsBuilt doc
 reads_ok o files name doc e h = let P : Option NameMap → Type 0 = λ x. ReadsDocument x name (Ok doc) in subst P e h
@@ -438,10 +438,10 @@ ran_through words files script out err ln on en statuses.FileFault r a b c = abs
 ran_through words files script out err ln on en statuses.NoMemory r a b c = inl refl
 
 -- the name is not there
-pub ran_missing : (words : List (List ℕ)) (name : List ℕ) (told : Option NameMap) (files : NameMap) (script out err : List ℕ) (left_now out_now err_now : Option (List ℕ)) (missed_before missed proper_before proper : ℕ)
-    → document_name words ≡ Some name → told ≡ Some files → RoseAlone (is_missing told name) missed_before missed proper_before proper → (Rose proper_before proper → ⊥) → left_now ≡ Some script → out_now ≡ Some out → err_now ≡ Some err
+pub ran_missing : (words : List (List ℕ)) (name : List ℕ) (known : Option NameMap) (files : NameMap) (script out err : List ℕ) (left_now out_now err_now : Option (List ℕ)) (missed_before missed proper_before proper : ℕ)
+    → document_name words ≡ Some name → known ≡ Some files → RoseAlone (is_missing known name) missed_before missed proper_before proper → (Rose proper_before proper → ⊥) → left_now ≡ Some script → out_now ≡ Some out → err_now ≡ Some err
     → RanExactly words files script out err left_now out_now err_now statuses.FileFault
-ran_missing words name told files script out err ln on en mb ma pb pa d e h n el eo ee =
+ran_missing words name known files script out err ln on en mb ma pb pa d e h n el eo ee =
     let P : Option NameMap → Type 0 = λ o. RoseAlone (is_missing o name) mb ma pb pa in
     by (files name) refl (subst P e h)
   where

@@ -3,7 +3,7 @@ use Rattle.std.proofs.Common.{◌≡◌, ℕ, ◌≤◌, length, inl, inr, List,
 use Rattle.std.proofs.lemmas.List.{take-append-drop}
 use Rattle.vtd_outside.specs.Causes.{Rose}
 use Rattle.vtd_outside.specs.Gathered.{Sends, GathersFile}
-use Rattle.vtd_outside.specs.Told.{NameMap, OpenFile}
+use Rattle.vtd_outside.specs.Known.{NameMap, OpenFile}
 use Rattle.xml_model.specs.declared.DocFault.{DocFault}
 use Rattle.xml_model.specs.Accepted.{IsRefusal}
 use Rattle.vtd_program.specs.declared.running.NoDocument.TheVariants as no
@@ -12,7 +12,7 @@ use Rattle.vtd_program.specs.declared.commands.Command.{Command}
 use Rattle.vtd_program.specs.declared.commands.Command.TheVariants.{Skip, Elements, Unknown}
 use Rattle.vtd_program.specs.declared.running.Status.{Status}
 use Rattle.vtd_program.specs.declared.running.Status.TheVariants as statuses
-use Rattle.vtd_program.specs.Meaning.{ReadsDocument, document_limit, SendsAll, SendsFront, SendsAs, CarriesLine, refused_line}
+use Rattle.vtd_program.specs.Meaning.{ReadsDocument, document_limit, SendsAll, SendsPrefix, SendsAs, CarriesLine, refused_line}
 
 pub sends_all : (before after : Option (List ℕ)) (piece : List ℕ) (x : Unit {0}) → Sends {T = Unit {0}} {E = Failed} before after piece (Ok x) → SendsAll before after piece
 sends_all None None piece x h = tt
@@ -20,11 +20,11 @@ sends_all (Some b) (Some a) piece x h = h
 sends_all None (Some a) piece x h = h
 sends_all (Some b) None piece x h = h
 
-pub sends_front : (before after : Option (List ℕ)) (piece : List ℕ) (x : Failed) → Sends {T = Unit {0}} {E = Failed} before after piece (Err x) → SendsFront before after piece
-sends_front None None piece x h = tt
-sends_front (Some b) (Some a) piece x h = (take h.count piece, h.taken, record { more = drop h.count piece; split = sym (take-append-drop h.count piece) })
-sends_front None (Some a) piece x h = h
-sends_front (Some b) None piece x h = h
+pub sends_prefix : (before after : Option (List ℕ)) (piece : List ℕ) (x : Failed) → Sends {T = Unit {0}} {E = Failed} before after piece (Err x) → SendsPrefix before after piece
+sends_prefix None None piece x h = tt
+sends_prefix (Some b) (Some a) piece x h = (take h.count piece, h.taken, record { more = drop h.count piece; split = sym (take-append-drop h.count piece) })
+sends_prefix None (Some a) piece x h = h
+sends_prefix (Some b) None piece x h = h
 
 pub carries_skip : (cmd : Command) (before : Option (List ℕ)) (faults : ℕ) (listing : List ℕ) → cmd ≡ Skip → CarriesLine before before faults faults listing cmd (Ok tt)
 carries_skip cmd before faults listing e = let P : Command → Type 0 = λ x. CarriesLine before before faults faults listing x (Ok tt) in subst P (sym e) (refl, refl)
@@ -41,12 +41,12 @@ carries_no_memory cmd before faults listing e =
     let P : Command → Type 0 = λ y. CarriesLine before before faults faults listing y (Err statuses.NoMemory) in
     subst P (sym e) (inl (refl, refl, refl))
 
-pub carries_front : (cmd : Command) (before after : Option (List ℕ)) (faults_before faults : ℕ) (listing sent : List ℕ) (x : Failed) → cmd ≡ Elements → sent ≡ listing
+pub carries_prefix : (cmd : Command) (before after : Option (List ℕ)) (faults_before faults : ℕ) (listing sent : List ℕ) (x : Failed) → cmd ≡ Elements → sent ≡ listing
     → Sends {T = Unit {0}} {E = Failed} before after sent (Err x) → Rose faults_before faults → CarriesLine before after faults_before faults listing cmd (Err statuses.WriteFault)
-carries_front cmd before after faults_before faults listing sent x e l s k =
+carries_prefix cmd before after faults_before faults listing sent x e l s k =
     let P : Command → Type 0 = λ y. CarriesLine before after faults_before faults listing y (Err statuses.WriteFault) in
-    let Q : List ℕ → Type 0 = λ y. SendsFront before after y in
-    subst P (sym e) (inr (refl, subst Q l (sends_front before after sent x s), k))
+    let Q : List ℕ → Type 0 = λ y. SendsPrefix before after y in
+    subst P (sym e) (inr (refl, subst Q l (sends_prefix before after sent x s), k))
 
 pub carries_refusal : (cmd : Command) (before after : Option (List ℕ)) (faults_before faults : ℕ) (listing line : List ℕ) (status : Status) → cmd ≡ Unknown → line ≡ refused_line (codes "command")
     → SendsAs before after line faults_before faults statuses.Refused status → CarriesLine before after faults_before faults listing cmd (Err status)

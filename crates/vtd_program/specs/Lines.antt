@@ -6,7 +6,7 @@ use Rattle.vtd_program.specs.declared.commands.Line.{Line}
 use Rattle.vtd_program.specs.declared.commands.Command.{Command}
 use Rattle.vtd_program.specs.declared.commands.Command.TheVariants.{Skip, Elements, Unknown}
 
--- the lines with one byte more at the front of the first
+-- the lines with one byte more at the start of the first
 abbrev pub with_first : ℕ → List (List ℕ) → List (List ℕ)
 with_first byte [] = (byte ∷ []) ∷ []
 with_first byte (line ∷ lines) = (byte ∷ line) ∷ lines
@@ -40,7 +40,7 @@ pub record EndsLine (script : List ℕ) (from end : ℕ) : Type 0 where
 abbrev pub IsUnended : List ℕ → ℕ → Type 0
 IsUnended script from = from < length script → lines (drop from script) ≡ drop from script ∷ []
 
--- the line that begins at a place ends before the line feed, and before a carriage return in front of it
+-- the line that begins at a place ends before the line feed, and before a carriage return in@prefix of it
 pub record IsBeforeReturn (script : List ℕ) (from end result : ℕ) : Type 0 where
   pub low : from ≤ result
   pub high : result ≤ end

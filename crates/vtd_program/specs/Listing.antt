@@ -22,6 +22,6 @@ element_line s = codes "element " ++ decimal s.start ++ codes " " ++ decimal (s.
 unfoldable pub listing : List Span → List ℕ
 listing spans = codes "nodes " ++ decimal (length spans) ++ line_feed ++ flat_map element_line spans
 
--- what the command prints of a nest whose first item stands at a place
+-- what the command prints of a nest whose first item is at a place
 abbrev pub listed : Forest → ℕ → List ℕ
 listed nest first = listing (spans_of (elements nest first))

@@ -1,8 +1,8 @@
 -- What a run means (this project's own): what standard output and standard error take, the status, and what is left of the
--- script, for each list of words behind the program's name, files and script. The files stay.
+-- script, for each list of words after the program's name, files and script. The files stay.
 use Rattle.std.specs.Prelude.{◌≡◌, ℕ, ◌+◌, ◌<◌, ◌≤◌, Bool, cond, List, [], ◌∷◌, ◌++◌, length, drop, nat_lt, codes, ◌⊎◌, Option, Some, None, Result, Ok, Err, true, false}
 use Rattle.vtd_outside.specs.Causes.{Rose, RoseAlone, is_missing}
-use Rattle.vtd_outside.specs.Told.{NameMap}
+use Rattle.vtd_outside.specs.Known.{NameMap}
 use Rattle.xml_model.specs.Chars.{begins}
 use Rattle.std.specs.Fmt.{decimal}
 use Rattle.xml_model.specs.declared.DocFault.{DocFault}
@@ -133,10 +133,10 @@ MeansName (Some name) files script m = MeansFile (files name) script m
 abbrev pub Means : List (List ℕ) → NameMap → List ℕ → Outcome → Type 0
 Means words files script m = MeansName (document_name words) files script m
 
--- the whole is the front and more
-pub record IsFront (front whole : List ℕ) : Type 0 where
+-- the whole is the prefix and more
+pub record IsPrefix (prefix whole : List ℕ) : Type 0 where
   pub more : List ℕ
-  pub split : whole ≡ front ++ more
+  pub split : whole ≡ prefix ++ more
 
 pub record IsMeant (m : Outcome) (out err left : List ℕ) (status : Status) : Type 0 where
   pub same_status : status ≡ m.status
@@ -145,16 +145,16 @@ pub record IsMeant (m : Outcome) (out err left : List ℕ) (status : Status) : T
   pub same_left : left ≡ m.left
 
 -- How a run with this meaning ends, by its status, and by what was taken in it and what is left of the script: exactly as it
--- means, or earlier, after a front of its output. A script that could not be read was to be read; where the document could not be
+-- means, or earlier, after a prefix of its output. A script that could not be read was to be read; where the document could not be
 -- read, the script was not touched.
 abbrev pub EndsAs : Outcome → List ℕ → List ℕ → List ℕ → List ℕ → Status → Type 0
 EndsAs m script out err left statuses.Done = IsMeant m out err left statuses.Done
 EndsAs m script out err left statuses.Refused = IsMeant m out err left statuses.Refused
 EndsAs m script out err left statuses.Usage = IsMeant m out err left statuses.Usage
 EndsAs m script out err left statuses.ReadFault = (out ≡ []) × (err ≡ []) × (m.reads ≡ true)
-EndsAs m script out err left statuses.WriteFault = IsFront out m.out × IsFront err m.err × (left ≡ m.left)
+EndsAs m script out err left statuses.WriteFault = IsPrefix out m.out × IsPrefix err m.err × (left ≡ m.left)
 EndsAs m script out err left statuses.FileFault = (out ≡ []) × (err ≡ []) × (left ≡ script)
-EndsAs m script out err left statuses.NoMemory = IsFront out m.out × (err ≡ [])
+EndsAs m script out err left statuses.NoMemory = IsPrefix out m.out × (err ≡ [])
 
 -- the statuses that come only where it is known what the run means: the words are not of the form, or the document was read
 abbrev pub IsKnown : Status → Type 0
@@ -162,7 +162,7 @@ IsKnown statuses.FileFault = ⊥
 IsKnown statuses.NoMemory = ⊥
 IsKnown _ = Unit {0}
 
--- a run over objects that tell their bytes: what was taken in it, what is left of the script, and how it ends
+-- a run over objects whose bytes are known: what was taken in it, what is left of the script, and how it ends
 pub record Ran (words : List (List ℕ)) (files : NameMap) (script out_before err_before : List ℕ) (left_after out_after err_after : Option (List ℕ)) (status : Status) : Type 0 where
   pub out : List ℕ
   pub err : List ℕ
@@ -188,7 +188,7 @@ pub record IsBuilt (doc : Document) : Type 0 where
   pub accepted : Accepted 8 doc.bytes nest
   pub words : (other : Forest) → Accepted 8 doc.bytes other → IsNavOf doc.bytes doc.words other
 
--- Why no document was read, by the answer, where the files are told: the name is not there, the file is too long, or it is
+-- Why no document was read, by the answer, where the files are known: the name is not there, the file is too long, or it is
 -- refused. Otherwise a document was read whose bytes are the file's, within the limit.
 abbrev pub ReadsDocument : Option NameMap → List ℕ → Result Document NoDocument → Type 0
 ReadsDocument None name result = Unit {0}
@@ -203,23 +203,23 @@ abbrev pub DocumentCause : Bool → ℕ → ℕ → ℕ → ℕ → Result Docum
 DocumentCause missing missed_before missed proper_before proper (Err no.Failed) = RoseAlone missing missed_before missed proper_before proper
 DocumentCause missing missed_before missed proper_before proper result = (missed ≡ missed_before) × (proper ≡ proper_before)
 
--- a sink takes the whole of a piece, or a front of it, where it tells what it took
+-- a sink takes the whole of a piece, or a prefix of it, where it says what it took
 abbrev pub SendsAll : Option (List ℕ) → Option (List ℕ) → List ℕ → Type 0
 SendsAll None None piece = Unit {0}
 SendsAll (Some before) (Some after) piece = after ≡ before ++ piece
 SendsAll None (Some after) piece = ⊥
 SendsAll (Some before) None piece = ⊥
 
-abbrev pub SendsFront : Option (List ℕ) → Option (List ℕ) → List ℕ → Type 0
-SendsFront None None piece = Unit {0}
-SendsFront (Some before) (Some after) piece = (front : List ℕ) × (after ≡ before ++ front) × IsFront front piece
-SendsFront None (Some after) piece = ⊥
-SendsFront (Some before) None piece = ⊥
+abbrev pub SendsPrefix : Option (List ℕ) → Option (List ℕ) → List ℕ → Type 0
+SendsPrefix None None piece = Unit {0}
+SendsPrefix (Some before) (Some after) piece = (prefix : List ℕ) × (after ≡ before ++ prefix) × IsPrefix prefix piece
+SendsPrefix None (Some after) piece = ⊥
+SendsPrefix (Some before) None piece = ⊥
 
--- A piece was sent and the run goes on or ends so, or a front of it was and the count of faults rose.
+-- A piece was sent and the run goes on or ends so, or a prefix of it was and the count of faults rose.
 abbrev pub SendsAs : Option (List ℕ) → Option (List ℕ) → List ℕ → ℕ → ℕ → Status → Status → Type 0
 SendsAs before after piece faults_before faults status result =
-    ((result ≡ status) × SendsAll before after piece × (faults ≡ faults_before)) ⊎ ((result ≡ statuses.WriteFault) × SendsFront before after piece × Rose faults_before faults)
+    ((result ≡ status) × SendsAll before after piece × (faults ≡ faults_before)) ⊎ ((result ≡ statuses.WriteFault) × SendsPrefix before after piece × Rose faults_before faults)
 
 -- The line of a refused document was sent, or there was no memory for it and nothing was sent.
 abbrev pub EndsUnfit : Option (List ℕ) → Option (List ℕ) → DocFault → ℕ → ℕ → Status → Type 0
@@ -245,15 +245,15 @@ CarriesLine before after faults_before faults listing Elements (Ok x) = SendsAll
 CarriesLine before after faults_before faults listing Unknown (Ok x) = ⊥
 CarriesLine before after faults_before faults listing Skip (Err status) = ⊥
 CarriesLine before after faults_before faults listing Elements (Err status) =
-    ((status ≡ statuses.NoMemory) × (after ≡ before) × (faults ≡ faults_before)) ⊎ ((status ≡ statuses.WriteFault) × SendsFront before after listing × Rose faults_before faults)
+    ((status ≡ statuses.NoMemory) × (after ≡ before) × (faults ≡ faults_before)) ⊎ ((status ≡ statuses.WriteFault) × SendsPrefix before after listing × Rose faults_before faults)
 CarriesLine before after faults_before faults listing Unknown (Err status) = SendsAs before after (refused_line (codes "command")) faults_before faults statuses.Refused status
 
 -- how a script with this meaning was carried out, by what was taken
 abbrev pub CarriesTo : Outcome → List ℕ → Status → Type 0
 CarriesTo m out statuses.Done = (statuses.Done ≡ m.status) × (out ≡ m.out)
 CarriesTo m out statuses.Refused = (statuses.Refused ≡ m.status) × (out ≡ m.out)
-CarriesTo m out statuses.WriteFault = IsFront out m.out
-CarriesTo m out statuses.NoMemory = IsFront out m.out
+CarriesTo m out statuses.WriteFault = IsPrefix out m.out
+CarriesTo m out statuses.NoMemory = IsPrefix out m.out
 CarriesTo m out statuses.Usage = ⊥
 CarriesTo m out statuses.ReadFault = ⊥
 CarriesTo m out statuses.FileFault = ⊥
@@ -283,7 +283,7 @@ abbrev pub WriteCause : Option (List ℕ) → ℕ → ℕ → ℕ → ℕ → Ty
 WriteCause None out_before out_after err_before err_after = Rose err_before err_after
 WriteCause (Some name) out_before out_after err_before err_after = Rose out_before out_after
 
--- The document could not be read: its name is told not to be there, or the proper count rose.
+-- The document could not be read: its name is known not to be there, or the proper count rose.
 abbrev pub FileCause : Option (List ℕ) → Option NameMap → ℕ → ℕ → ℕ → ℕ → Type 0
 FileCause None files missed_before missed proper_before proper = ⊥
 FileCause (Some name) files missed_before missed proper_before proper = RoseAlone (is_missing files name) missed_before missed proper_before proper

@@ -1,5 +1,5 @@
 //! The edge: files, standard input, standard output and standard error of the system, each with a count of faults.
-//! They tell nothing of the bytes.
+//! They say nothing of the bytes.
 
 ghost use Rattle.std.specs.Prelude.{◌≡◌, ℕ, ◌+◌, ◌<◌, ◌≤◌, Bool, true, false, List, Option, None, length, IfOk, OnOk, OnErr};
 
@@ -109,9 +109,9 @@ impl<'r, R: Runtime> Files for SystemFiles<'r, R> {
 
     ghost proper = { λ s. s.faults };
 
-    ghost reading_told = { λ s told. absurd Prim.cc };
+    ghost reading_known = { λ s known. absurd Prim.cc };
 
-    ghost missed_told = { λ s untold. refl };
+    ghost missed_known = { λ s unknown. refl };
 
     fn begin_read(&mut self, name: &str) -> Result<(), Failed> {
         self.reading = None;

@@ -37,7 +37,7 @@ fn line_feed(script: &[u8], from: usize) -> Option<usize>
     }
 }
 
-/// Where a line ends whose line feed stands at `end`: a carriage return directly before it belongs to the line end.
+/// Where a line ends whose line feed is at `end`: a carriage return directly before it belongs to the line end.
 fn before_return(script: &[u8], from: usize, end: usize) -> usize
     requires { EndsLine script.now from end }
     ensures { IsBeforeReturn script.now from end result }
@@ -49,7 +49,7 @@ fn before_return(script: &[u8], from: usize, end: usize) -> usize
     }
 }
 
-/// The first line of what stands from `at` on, or `None` exactly at the end of the script.
+/// The first line of what is from `at` on, or `None` exactly at the end of the script.
 pub fn next_line(script: &[u8], at: u32) -> Option<Line>
     requires place { at ≤ length script.now }
     requires size { length script.now ≤ 16777216 }

@@ -2,7 +2,7 @@
 
 ghost use Rattle.std.specs.Prelude.{◌⊎◌, ◌≡◌, ℕ, ◌+◌, ◌-◌, ◌^◌, ◌<◌, ◌≤◌, List, length, map, false, Some, string_bytes, option_copied, Err, IsTrue};
 ghost use Rattle.vtd_outside.specs.Causes.{Rose, is_missing};
-ghost use Rattle.vtd_outside.specs.Told.{NameMap};
+ghost use Rattle.vtd_outside.specs.Known.{NameMap};
 ghost use Rattle.xml_model.specs.Nest.{Forest};
 ghost use Rattle.vtd_location.specs.Nav.{IsNavOf};
 ghost use Rattle.vtd_program.specs.Lines.{command, lines};
@@ -32,7 +32,7 @@ pub enum Status {
     Usage,
     /// The script could not be read to its end.
     ReadFault,
-    /// What was to be sent could not be, or only a front of it.
+    /// What was to be sent could not be, or only a prefix of it.
     WriteFault,
     /// The document is not there, or could not be read.
     FileFault,
@@ -163,16 +163,16 @@ fn carry_out<K: Sink>(alloc: Global, doc: &Doc, script: &[u8], out: &mut K) -> S
 
 /// Runs the program: reads the document that the words name, then the script, and carries out its commands in turn.
 ///
-/// `words` are those behind the program's name. Where they are not one word that does not begin with `-`, `err` takes
+/// `words` are those after the program's name. Where they are not one word that does not begin with `-`, `err` takes
 /// the usage line. A document, a script or a command that is refused prints one line on `out`. No file may be being
 /// written at the call; the files stay as they are.
 ///
-/// What is meant, `Means` of `specs/Meaning.antt` says. Where the objects tell their bytes, `Done`, `Refused` and
-/// `Usage` come only with exactly what is meant, and at every other status the output is a front of it.
+/// What is meant, `Means` of `specs/Meaning.antt` says. Where the objects say their bytes, `Done`, `Refused` and
+/// `Usage` come only with exactly what is meant, and at every other status the output is a prefix of it.
 ///
 /// # Errors
 /// `ReadFault` only where the count of faults of `script` rose in this call; `WriteFault` only where that of `out` did,
-/// or that of `err` where the words are not of the form; `FileFault` only where the name is told not to be there or the
+/// or that of `err` where the words are not of the form; `FileFault` only where the name is known not to be there or the
 /// proper count of `files` rose. `NoMemory` may come at any time.
 pub fn run<F: Files, S: Source, K: Sink, E: Sink>(
     alloc: Global,
@@ -187,17 +187,17 @@ pub fn run<F: Files, S: Source, K: Sink, E: Sink>(
     ensures one_meaning { (contents : NameMap) (left : List ℕ) (m n : Outcome) → Means (map string_bytes words.now) contents left m → Means (map string_bytes words.now) contents left n → m ≡ n }
     ensures some_meaning { (contents : NameMap) (left : List ℕ) → ¬ ((m : Outcome) → ¬ Means (map string_bytes words.now) contents left m) }
 
-    // What the run leaves is what they mean, where all objects tell their bytes.
-    ensures meaning { (contents : NameMap) (left taken told : List ℕ) → F.contents files.old ≡ Some contents → S.left script.old ≡ Some left
-        → K.taken out.old ≡ Some taken → E.taken err.old ≡ Some told
-        → Ran (map string_bytes words.now) contents left taken told (S.left script.new) (K.taken out.new) (E.taken err.new) result }
+    // What the run leaves is what they mean, where the bytes of all objects are known.
+    ensures meaning { (contents : NameMap) (left taken known : List ℕ) → F.contents files.old ≡ Some contents → S.left script.old ≡ Some left
+        → K.taken out.old ≡ Some taken → E.taken err.old ≡ Some known
+        → Ran (map string_bytes words.now) contents left taken known (S.left script.new) (K.taken out.new) (E.taken err.new) result }
     // It is exactly that, or there was no memory, where no count of faults rose but for a name that is not there.
-    ensures exact { (contents : NameMap) (left taken told : List ℕ) → F.contents files.old ≡ Some contents → S.left script.old ≡ Some left
-        → K.taken out.old ≡ Some taken → E.taken err.old ≡ Some told
+    ensures exact { (contents : NameMap) (left taken known : List ℕ) → F.contents files.old ≡ Some contents → S.left script.old ≡ Some left
+        → K.taken out.old ≡ Some taken → E.taken err.old ≡ Some known
         → ¬ Rose (S.faults script.old) (S.faults script.new) → ¬ Rose (K.faults out.old) (K.faults out.new) → ¬ Rose (E.faults err.old) (E.faults err.new) → ¬ Rose (F.proper files.old) (F.proper files.new)
-        → (result ≡ Status.NoMemory) ⊎ RanExactly (map string_bytes words.now) contents left taken told (S.left script.new) (K.taken out.new) (E.taken err.new) result }
+        → (result ≡ Status.NoMemory) ⊎ RanExactly (map string_bytes words.now) contents left taken known (S.left script.new) (K.taken out.new) (E.taken err.new) result }
 
-    // A fault comes only by its cause, whether the bytes are told or not.
+    // A fault comes only by its cause, whether the bytes are known or not.
     ensures read_fault { result ≡ Status.ReadFault → ReadCause (document_name (map string_bytes words.now)) (S.faults script.old) (S.faults script.new) }
     ensures write_fault { result ≡ Status.WriteFault
         → WriteCause (document_name (map string_bytes words.now)) (K.faults out.old) (K.faults out.new) (E.faults err.old) (E.faults err.new) }

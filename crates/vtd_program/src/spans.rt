@@ -1,4 +1,4 @@
-//! Where the elements of a document stand, by its records.
+//! Where the elements of a document are, by its records.
 
 ghost use Rattle.std.specs.Prelude.{◌≡◌, [], ◌∷◌, ◌++◌, length, IfOk, OnOk};
 ghost use Rattle.xml_model.specs.Items.{first_place};

@@ -284,16 +284,16 @@ fn changed(alloc: Global, place: usize, byte: u8) -> Result<Vec<u8>, AllocError>
     Ok(doc)
 }
 
-/// The number that stands alone between a front and an end.
-fn number_in(text: &str, front: &str, end: &str) -> Option<usize> {
-    let digits = text.strip_prefix(front)?.strip_suffix(end)?;
+/// The number that is alone between a prefix and an end.
+fn number_in(text: &str, prefix: &str, end: &str) -> Option<usize> {
+    let digits = text.strip_prefix(prefix)?.strip_suffix(end)?;
     digits.parse::<usize>().ok()
 }
 
 /// Whether an answer is one refusal of a document, at a place within it.
 fn is_refusal(answer: &str, length: usize) -> bool {
-    for front in REFUSALS {
-        if let Some(at) = number_in(answer, front, "\n") {
+    for prefix in REFUSALS {
+        if let Some(at) = number_in(answer, prefix, "\n") {
             return at <= length;
         }
     }

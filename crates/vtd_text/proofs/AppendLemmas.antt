@@ -1,24 +1,24 @@
--- Appending what is left to a text, front by front.
+-- Appending what is left to a text, prefix by prefix.
 use Rattle.std.proofs.Common.{◌≡◌, ℕ, ◌≤◌, List, ◌∷◌, ◌++◌, length, take, refl, sym, ap, subst, ◌∙◌, arith, append_assoc}
 use Rattle.std.specs.Str.{IsUtf8, IsCharBoundary, chars}
 use lib.Utf8.{encode, encodes}
 use Rattle.std.proofs.lemmas.List.{take_at, take-append-le, length-take}
 use Rattle.std.proofs.lemmas.Str.{encodes-chars, encodes-append, encodes_same, IsCharBoundary-from_take}
 
--- a front of what is left was appended
-pub front_appended : (held one front left now : List ℕ) → IsUtf8 front → one ≡ chars front ++ left → now ≡ held ++ front → held ++ encodes one ≡ now ++ encodes left
-front_appended held one front left now u e f =
-    ap (λ (l : List ℕ). held ++ encodes l) e ∙ ap (λ (l : List ℕ). held ++ l) (encodes-append (chars front) left ∙ ap (λ (l : List ℕ). l ++ encodes left) (encodes-chars front u))
-    ∙ sym (append_assoc held front (encodes left)) ∙ ap (λ (l : List ℕ). l ++ encodes left) (sym f)
+-- a prefix of what is left was appended
+pub prefix_appended : (held one prefix left now : List ℕ) → IsUtf8 prefix → one ≡ chars prefix ++ left → now ≡ held ++ prefix → held ++ encodes one ≡ now ++ encodes left
+prefix_appended held one prefix left now u e f =
+    ap (λ (l : List ℕ). held ++ encodes l) e ∙ ap (λ (l : List ℕ). held ++ l) (encodes-append (chars prefix) left ∙ ap (λ (l : List ℕ). l ++ encodes left) (encodes-chars prefix u))
+    ∙ sym (append_assoc held prefix (encodes left)) ∙ ap (λ (l : List ℕ). l ++ encodes left) (sym f)
 
--- a character, and then a front
-pub more_appended : (held one next front left mid now : List ℕ) (c : ℕ) → IsUtf8 front → one ≡ c ∷ next → next ≡ chars front ++ left → mid ≡ held ++ encode c → now ≡ mid ++ front → held ++ encodes one ≡ now ++ encodes left
-more_appended held one next front left mid now c u e f g h =
-    ap (λ (l : List ℕ). held ++ encodes l) e ∙ sym (append_assoc held (encode c) (encodes next)) ∙ ap (λ (l : List ℕ). l ++ encodes next) (sym g) ∙ front_appended mid next front left now u f h
+-- a character, and then a prefix
+pub more_appended : (held one next prefix left mid now : List ℕ) (c : ℕ) → IsUtf8 prefix → one ≡ c ∷ next → next ≡ chars prefix ++ left → mid ≡ held ++ encode c → now ≡ mid ++ prefix → held ++ encodes one ≡ now ++ encodes left
+more_appended held one next prefix left mid now c u e f g h =
+    ap (λ (l : List ℕ). held ++ encodes l) e ∙ sym (append_assoc held (encode c) (encodes next)) ∙ ap (λ (l : List ℕ). l ++ encodes next) (sym g) ∙ prefix_appended mid next prefix left now u f h
 
--- what was there before stays the front
-pub kept_front : (old held more now : List ℕ) → take (length old) held ≡ old → now ≡ held ++ more → take (length old) now ≡ old
-kept_front old held more now k e =
+-- what was there before stays the prefix
+pub kept_prefix : (old held more now : List ℕ) → take (length old) held ≡ old → now ≡ held ++ more → take (length old) now ≡ old
+kept_prefix old held more now k e =
     let low : length old ≤ length held = omega (arith, ap length k, length-take (length old) held) in
     ap (take (length old)) e ∙ take-append-le (length old) held more low ∙ k
 

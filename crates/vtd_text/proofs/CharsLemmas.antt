@@ -3,27 +3,27 @@ use Rattle.std.proofs.Common.{◌≡◌, ℕ, ◌-◌, List, [], ◌∷◌, ◌+
 use Rattle.std.specs.Prelude.{MatchOption}
 use Rattle.std.specs.Iterator.{YieldsFirst, MakesProgress, item_count}
 use Rattle.std.specs.Str.{chars}
-use Rattle.xml_model.specs.Records.{Token}
+use Rattle.xml_model.specs.Records.{Record}
 use Rattle.xml_model.specs.Scan.{record_at}
 use Rattle.vtd_words.specs.Table.{Shows}
 use Rattle.vtd_text.specs.declared.token.Rule.{Rule}
 use Rattle.vtd_text.specs.declared.token.Rule.TheVariants.{Text}
 use Rattle.vtd_text.specs.Tokens.{HasContent}
-use Rattle.vtd_text.specs.Joined.{Joined, IsText, IsLeft, LeavesTail, LeavesBehind, IsAtEnd, slice_of, left_of}
+use Rattle.vtd_text.specs.Joined.{Joined, IsText, IsLeft, LeavesTail, LeavesAfter, IsAtEnd, slice_of, left_of}
 use Rattle.vtd_text.specs.Resolved.{IsResolved, IsRecord, IsRow, HasLeft}
 use Rattle.vtd_text.proofs.PieceLemmas.{nothing_left}
 use Rattle.vtd_text.proofs.Function.{left_is}
 
-whole_row : (bytes : List ℕ) (rs : List Token) (at past : ℕ) (content : List ℕ) → Joined bytes (take (past - at) (drop at rs)) content → IsLeft bytes rs Text [] at past content
+whole_row : (bytes : List ℕ) (rs : List Record) (at past : ℕ) (content : List ℕ) → Joined bytes (take (past - at) (drop at rs)) content → IsLeft bytes rs Text [] at past content
 whole_row bytes rs at past content j = record { head = []; tail = content; whole = refl; first = nothing_left [] refl; rest = j }
 
 pub row_left : (bytes words : List ℕ) (at past : ℕ) → IsRow bytes words at past → HasLeft bytes words Text [] at past
 row_left bytes words at past r = record { rs = r.rs; shown = r.shown; content = r.content; left = whole_row bytes r.rs at past r.content r.joined }
 
-pub row_view : (bytes words : List ℕ) (rs : List Token) (at past : ℕ) (content : List ℕ) → Shows words rs → Joined bytes (take (past - at) (drop at rs)) content → left_of bytes words Text [] at past ≡ content
+pub row_view : (bytes words : List ℕ) (rs : List Record) (at past : ℕ) (content : List ℕ) → Shows words rs → Joined bytes (take (past - at) (drop at rs)) content → left_of bytes words Text [] at past ≡ content
 row_view bytes words rs at past content s j = left_is bytes words rs Text [] at past content s (whole_row bytes rs at past content j)
 
-whole_record : (bytes : List ℕ) (rs : List Token) (rule : Rule) (r : Token) (text content : List ℕ) → text ≡ slice_of bytes r → IsResolved bytes rule r content → IsLeft bytes rs rule text 0 0 content
+whole_record : (bytes : List ℕ) (rs : List Record) (rule : Rule) (r : Record) (text content : List ℕ) → text ≡ slice_of bytes r → IsResolved bytes rule r content → IsLeft bytes rs rule text 0 0 content
 whole_record bytes rs rule r text content e k = record {
   head = content;
   tail = [];
@@ -32,27 +32,27 @@ whole_record bytes rs rule r text content e k = record {
   rest = refl;
 }
 
-pub record_left : (bytes words : List ℕ) (rule : Rule) (at : ℕ) (r : Token) (text : List ℕ) → text ≡ slice_of bytes r → ((rs : List Token) → Shows words rs → r ≡ record_at at rs) → IsRecord bytes words rule at → HasLeft bytes words rule text 0 0
+pub record_left : (bytes words : List ℕ) (rule : Rule) (at : ℕ) (r : Record) (text : List ℕ) → text ≡ slice_of bytes r → ((rs : List Record) → Shows words rs → r ≡ record_at at rs) → IsRecord bytes words rule at → HasLeft bytes words rule text 0 0
 record_left bytes words rule at r text e f k = record {
   rs = k.rs;
   shown = k.shown;
   content = k.content;
-  left = whole_record bytes k.rs rule r text k.content e (subst (λ (x : Token). IsResolved bytes rule x k.content) (sym (f k.rs k.shown)) k.resolved);
+  left = whole_record bytes k.rs rule r text k.content e (subst (λ (x : Record). IsResolved bytes rule x k.content) (sym (f k.rs k.shown)) k.resolved);
 }
 
-pub record_view : (bytes words : List ℕ) (rs : List Token) (rule : Rule) (at : ℕ) (r : Token) (text content : List ℕ) → Shows words rs → text ≡ slice_of bytes r → r ≡ record_at at rs → IsResolved bytes rule (record_at at rs) content →
+pub record_view : (bytes words : List ℕ) (rs : List Record) (rule : Rule) (at : ℕ) (r : Record) (text content : List ℕ) → Shows words rs → text ≡ slice_of bytes r → r ≡ record_at at rs → IsResolved bytes rule (record_at at rs) content →
     left_of bytes words rule text 0 0 ≡ content
 record_view bytes words rs rule at r text content s e f k =
-    left_is bytes words rs rule text 0 0 content s (whole_record bytes rs rule r text content e (subst (λ (x : Token). IsResolved bytes rule x content) (sym f) k))
+    left_is bytes words rs rule text 0 0 content s (whole_record bytes rs rule r text content e (subst (λ (x : Record). IsResolved bytes rule x content) (sym f) k))
 
-pub record_text : (bytes words : List ℕ) (rule : Rule) (at : ℕ) (r : Token) → ((rs : List Token) → Shows words rs → r ≡ record_at at rs) → IsRecord bytes words rule at → IsText bytes r
+pub record_text : (bytes words : List ℕ) (rule : Rule) (at : ℕ) (r : Record) → ((rs : List Record) → Shows words rs → r ≡ record_at at rs) → IsRecord bytes words rule at → IsText bytes r
 record_text bytes words rule at r f k = subst (IsText bytes) (sym (f k.rs k.shown)) k.resolved.text
 
 -- ---- a call of next
 
 -- what a step over a row says, where its bytes, words and end stay
 abbrev pub Steps : (bytes words : List ℕ) (rule new : Rule) (text left : List ℕ) (at next past : ℕ) (found : Option ℕ) → Type 0
-Steps bytes words rule new text left at next past found = (rs : List Token) → Shows words rs → (content : List ℕ) → IsLeft bytes rs rule text at past content →
+Steps bytes words rule new text left at next past found = (rs : List Record) → Shows words rs → (content : List ℕ) → IsLeft bytes rs rule text at past content →
     MatchOption found (IsAtEnd (IsLeft bytes rs new left next past) content) (λ c. LeavesTail (IsLeft bytes rs new left next past) content c)
 
 step_left : (bytes words : List ℕ) (rule new : Rule) (text left : List ℕ) (at next past : ℕ) (found : Option ℕ) → Steps bytes words rule new text left at next past found → HasLeft bytes words rule text at past → HasLeft bytes words new left next past
@@ -84,22 +84,22 @@ goes_on can always old new (Some c) h = record { on = λ f. (always new, tt, ome
 
 -- ---- characters that stand for themselves
 
-abbrev pub Takes : (bytes : List ℕ) (rule new : Rule) (text left : List ℕ) (at past : ℕ) (front : List ℕ) → Type 0
-Takes bytes rule new text left at past front = (rs : List Token) (content : List ℕ) → IsLeft bytes rs rule text at past content → LeavesBehind (IsLeft bytes rs new left at past) content front
+abbrev pub Takes : (bytes : List ℕ) (rule new : Rule) (text left : List ℕ) (at past : ℕ) (prefix : List ℕ) → Type 0
+Takes bytes rule new text left at past prefix = (rs : List Record) (content : List ℕ) → IsLeft bytes rs rule text at past content → LeavesAfter (IsLeft bytes rs new left at past) content prefix
 
-taken_left : (bytes words : List ℕ) (rule new : Rule) (text left : List ℕ) (at past : ℕ) (front : List ℕ) → Takes bytes rule new text left at past front → HasLeft bytes words rule text at past → HasLeft bytes words new left at past
-taken_left bytes words rule new text left at past front f h = let k = f h.rs h.content h.left in record { rs = h.rs; shown = h.shown; content = k.tail; left = k.left }
+taken_left : (bytes words : List ℕ) (rule new : Rule) (text left : List ℕ) (at past : ℕ) (prefix : List ℕ) → Takes bytes rule new text left at past prefix → HasLeft bytes words rule text at past → HasLeft bytes words new left at past
+taken_left bytes words rule new text left at past prefix f h = let k = f h.rs h.content h.left in record { rs = h.rs; shown = h.shown; content = k.tail; left = k.left }
 
-taken_view : (bytes words : List ℕ) (rule new : Rule) (text left : List ℕ) (at past : ℕ) (front : List ℕ) → Takes bytes rule new text left at past front → HasLeft bytes words rule text at past →
-    left_of bytes words rule text at past ≡ front ++ left_of bytes words new left at past
-taken_view bytes words rule new text left at past front f h =
+taken_view : (bytes words : List ℕ) (rule new : Rule) (text left : List ℕ) (at past : ℕ) (prefix : List ℕ) → Takes bytes rule new text left at past prefix → HasLeft bytes words rule text at past →
+    left_of bytes words rule text at past ≡ prefix ++ left_of bytes words new left at past
+taken_view bytes words rule new text left at past prefix f h =
     let k = f h.rs h.content h.left in
-    left_is bytes words h.rs rule text at past h.content h.shown h.left ∙ k.whole ∙ ap (λ (l : List ℕ). front ++ l) (sym (left_is bytes words h.rs new left at past k.tail h.shown k.left))
+    left_is bytes words h.rs rule text at past h.content h.shown h.left ∙ k.whole ∙ ap (λ (l : List ℕ). prefix ++ l) (sym (left_is bytes words h.rs new left at past k.tail h.shown k.left))
 
-pub plain_left : (b0 b1 ws0 ws1 : List ℕ) (p0 p1 a0 a1 : ℕ) (rule new : Rule) (text left front : List ℕ) → b1 ≡ b0 → ws1 ≡ ws0 → p1 ≡ p0 → a1 ≡ a0 → Takes b0 rule new text left a0 p0 front →
+pub plain_left : (b0 b1 ws0 ws1 : List ℕ) (p0 p1 a0 a1 : ℕ) (rule new : Rule) (text left prefix : List ℕ) → b1 ≡ b0 → ws1 ≡ ws0 → p1 ≡ p0 → a1 ≡ a0 → Takes b0 rule new text left a0 p0 prefix →
     HasLeft b0 ws0 rule text a0 p0 → HasLeft b1 ws1 new left a1 p1
-plain_left b0 b1 ws0 ws1 p0 p1 a0 a1 rule new text left front b w p a f h = rw (b, w, p, a) (taken_left b0 ws0 rule new text left a0 p0 front f h)
+plain_left b0 b1 ws0 ws1 p0 p1 a0 a1 rule new text left prefix b w p a f h = rw (b, w, p, a) (taken_left b0 ws0 rule new text left a0 p0 prefix f h)
 
-pub plain_view : (b0 b1 ws0 ws1 : List ℕ) (p0 p1 a0 a1 : ℕ) (rule new : Rule) (text left front : List ℕ) → b1 ≡ b0 → ws1 ≡ ws0 → p1 ≡ p0 → a1 ≡ a0 → Takes b0 rule new text left a0 p0 front →
-    HasLeft b0 ws0 rule text a0 p0 → left_of b0 ws0 rule text a0 p0 ≡ front ++ left_of b1 ws1 new left a1 p1
-plain_view b0 b1 ws0 ws1 p0 p1 a0 a1 rule new text left front b w p a f h = rw (b, w, p, a) (taken_view b0 ws0 rule new text left a0 p0 front f h)
+pub plain_view : (b0 b1 ws0 ws1 : List ℕ) (p0 p1 a0 a1 : ℕ) (rule new : Rule) (text left prefix : List ℕ) → b1 ≡ b0 → ws1 ≡ ws0 → p1 ≡ p0 → a1 ≡ a0 → Takes b0 rule new text left a0 p0 prefix →
+    HasLeft b0 ws0 rule text a0 p0 → left_of b0 ws0 rule text a0 p0 ≡ prefix ++ left_of b1 ws1 new left a1 p1
+plain_view b0 b1 ws0 ws1 p0 p1 a0 a1 rule new text left prefix b w p a f h = rw (b, w, p, a) (taken_view b0 ws0 rule new text left a0 p0 prefix f h)

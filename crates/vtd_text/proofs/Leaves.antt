@@ -1,30 +1,30 @@
--- What the records of a leaf and of a tag say, where it stands in the bytes.
+-- What the records of a leaf and of a tag say, where it is in the bytes.
 use Rattle.std.proofs.Common.{◌≡◌, ℕ, zero, suc, ◌+◌, Bool, true, false, cond, not, ◌&&◌, ◌||◌, ◌==◌, List, [], ◌∷◌, ◌++◌, map, codes, refl, sym, ap, subst, ◌∙◌, append_assoc, append-nil, Option, Some, None, drop}
 use Rattle.std.specs.List.{AllByRecursion as Each, list_all}
 use Rattle.std.proofs.lemmas.Bool.{and_parts, and_from, false≢true}
 use lib.Utf8.{encode, encodes}
 use Rattle.xml_model.specs.Chars.{is_char, size, lacks, is_white, is_name, is_blank}
 use Rattle.xml_model.specs.Items.{Piece, literal, entity, decimal, hexadecimal, Attribute, Tag, Instruction, Leaf, text, cdata, declaration, doctype, quote_char, before_value, written_pieces, written_attribute, written_attributes, written_leaf, written_tag, meets_piece, meets_attribute, meets_tag, meets_leaf, is_nil}
-use Rattle.xml_model.specs.Records.{Token, plain, declares, attributes_tokens, attributes_place, tag_tokens, declaration_part_tokens, declaration_attributes, depth_at, leaf_tokens}
+use Rattle.xml_model.specs.Records.{Record, plain, declares, attributes_records, attributes_place, tag_records, declaration_part_records, declaration_attributes, depth_at, leaf_records}
 use Rattle.xml_model.specs.Content.{text_content, value_content, literal_content, leaf_content}
 use Rattle.xml_model.specs.Scan.{is_text_token}
 use Rattle.xml_model.proofs.Each.{each_more}
 use Rattle.xml_model.proofs.Starts.{ProperLeaf}
 use Rattle.vtd_text.specs.declared.token.Rule.{Rule}
 use Rattle.vtd_text.specs.declared.token.Rule.TheVariants.{Text, Literal, Value}
-use Rattle.vtd_text.specs.Tokens.{may_stand, content_by}
+use Rattle.vtd_text.specs.Tokens.{may_begin_at, content_by}
 use Rattle.vtd_text.specs.Joined.{rule_of, slice_of, Gives, Joined, IsText}
 use Rattle.vtd_text.specs.Resolved.{IsResolved}
-use Rattle.vtd_text.proofs.Standing.{StandsAt, slice_is, stands_left, stands_right, stands_middle}
+use Rattle.vtd_text.proofs.Holding.{HasNameRecord, slice_is, holds_left, holds_right, holds_middle}
 use Rattle.vtd_text.proofs.SliceLemmas.{slice_content}
 
 -- ---- rows of records
 
 -- a record that is of no text and of no CDATA section
-abbrev pub Silent : Token → Type 0
+abbrev pub Silent : Record → Type 0
 Silent r = rule_of r.token ≡ None
 
-pub silent_joined : (bytes : List ℕ) (rs : List Token) → Each Silent rs → Joined bytes rs []
+pub silent_joined : (bytes : List ℕ) (rs : List Record) → Each Silent rs → Joined bytes rs []
 silent_joined bytes [] h = refl
 silent_joined bytes (r ∷ rs) h = record {
   head = [];
@@ -37,7 +37,7 @@ silent_joined bytes (r ∷ rs) h = record {
     none : (o : Option Rule) → o ≡ None → Gives o (slice_of bytes r) []
     none o e = subst (λ (p : Option Rule). Gives p (slice_of bytes r) []) (sym e) refl
 
-pub joined_append : (bytes : List ℕ) (rs ss : List Token) (a b : List ℕ) → Joined bytes rs a → Joined bytes ss b → Joined bytes (rs ++ ss) (a ++ b)
+pub joined_append : (bytes : List ℕ) (rs ss : List Record) (a b : List ℕ) → Joined bytes rs a → Joined bytes ss b → Joined bytes (rs ++ ss) (a ++ b)
 joined_append bytes [] ss a b h k = subst (λ (l : List ℕ). Joined bytes ss (l ++ b)) (sym h) k
 joined_append bytes (r ∷ rs) ss a b h k = record {
   head = h.head;
@@ -49,7 +49,7 @@ joined_append bytes (r ∷ rs) ss a b h k = record {
 
 -- ---- pieces
 
-plain_fit : (cs : List ℕ) → list_all (may_stand Literal) (map literal cs) ≡ true
+plain_fit : (cs : List ℕ) → list_all (may_begin_at Literal) (map literal cs) ≡ true
 plain_fit [] = refl
 plain_fit (c ∷ cs) = plain_fit cs
 
@@ -66,41 +66,41 @@ looser stops (entity n) h = h
 looser stops (decimal n) h = h
 looser stops (hexadecimal n) h = h
 
-value_fit : (stops : ℕ → Bool) (ps : List Piece) → list_all (meets_piece stops) ps ≡ true → list_all (may_stand Value) ps ≡ true
+value_fit : (stops : ℕ → Bool) (ps : List Piece) → list_all (meets_piece stops) ps ≡ true → list_all (may_begin_at Value) ps ≡ true
 value_fit stops [] h = refl
 value_fit stops (p ∷ ps) h =
     let q = and_parts (meets_piece stops p) (list_all (meets_piece stops) ps) h in
-    and_from (meets_piece (λ c. false) p) (list_all (may_stand Value) ps) (looser stops p q.0) (value_fit stops ps q.1)
+    and_from (meets_piece (λ c. false) p) (list_all (may_begin_at Value) ps) (looser stops p q.0) (value_fit stops ps q.1)
 
 -- ---- one token
 
-pub resolved_at : (bytes : List ℕ) (rule : Rule) (token depth at : ℕ) (ps : List Piece) → list_all (may_stand rule) ps ≡ true → StandsAt bytes at (written_pieces ps) →
+pub resolved_at : (bytes : List ℕ) (rule : Rule) (token depth at : ℕ) (ps : List Piece) → list_all (may_begin_at rule) ps ≡ true → HasNameRecord bytes at (written_pieces ps) →
     IsResolved bytes rule (plain token depth (written_pieces ps) at) (content_by rule ps)
 resolved_at bytes rule token depth at ps f s =
     let t = slice_is bytes at (written_pieces ps) s in
     record { text = (t.within, t.utf8); resolved = slice_content rule (drop at bytes) ps s.utf8 f s.there }
 
 -- a record is of the bytes of these characters
-pub record WrittenIs (bytes : List ℕ) (r : Token) (w : List ℕ) : Type 0 where
+pub record WrittenIs (bytes : List ℕ) (r : Record) (w : List ℕ) : Type 0 where
   pub text : IsText bytes r
   pub slice : slice_of bytes r ≡ encodes w
 
-pub written_at : (bytes : List ℕ) (token depth at : ℕ) (w : List ℕ) → StandsAt bytes at w → WrittenIs bytes (plain token depth w at) w
+pub written_at : (bytes : List ℕ) (token depth at : ℕ) (w : List ℕ) → HasNameRecord bytes at w → WrittenIs bytes (plain token depth w at) w
 written_at bytes token depth at w s = let t = slice_is bytes at w s in record { text = (t.within, t.utf8); slice = t.bytes_are }
 
 literal_is : (cs : List ℕ) → content_by Literal (map literal cs) ≡ literal_content cs
 unfolding literal_content
 literal_is cs = refl
 
-pub literal_at : (bytes : List ℕ) (token depth at : ℕ) (cs : List ℕ) → StandsAt bytes at cs → IsResolved bytes Literal (plain token depth cs at) (literal_content cs)
+pub literal_at : (bytes : List ℕ) (token depth at : ℕ) (cs : List ℕ) → HasNameRecord bytes at cs → IsResolved bytes Literal (plain token depth cs at) (literal_content cs)
 literal_at bytes token depth at cs s =
     let w = plain_written cs in
     let r : IsResolved bytes Literal (plain token depth (written_pieces (map literal cs)) at) (content_by Literal (map literal cs)) =
-    resolved_at bytes Literal token depth at (map literal cs) (plain_fit cs) (subst (λ (l : List ℕ). StandsAt bytes at l) (sym w) s) in
+    resolved_at bytes Literal token depth at (map literal cs) (plain_fit cs) (subst (λ (l : List ℕ). HasNameRecord bytes at l) (sym w) s) in
     subst (λ (l : List ℕ). IsResolved bytes Literal (plain token depth l at) (literal_content cs)) w (subst (λ (l : List ℕ). IsResolved bytes Literal (plain token depth (written_pieces (map literal cs)) at) l) (literal_is cs) r)
 
 -- one record of a text or a CDATA section
-one_joined : (bytes : List ℕ) (rule : Rule) (r : Token) (content : List ℕ) → rule_of r.token ≡ Some rule → IsResolved bytes rule r content → Joined bytes (r ∷ []) content
+one_joined : (bytes : List ℕ) (rule : Rule) (r : Record) (content : List ℕ) → rule_of r.token ≡ Some rule → IsResolved bytes rule r content → Joined bytes (r ∷ []) content
 one_joined bytes rule r content e k = record {
   head = content;
   tail = [];
@@ -123,58 +123,58 @@ mark_instruction : size (codes "<?") ≡ 2
 unfolding size encode
 mark_instruction = refl
 
-cdata_stands : (bytes : List ℕ) (at : ℕ) (cs : List ℕ) → StandsAt bytes at (written_leaf (cdata cs)) → StandsAt bytes (at + 9) cs
-cdata_stands bytes at cs s = subst (λ (n : ℕ). StandsAt bytes (at + n) cs) mark_cdata (stands_middle bytes at (codes "<![CDATA[") cs (codes "]]>") s)
+cdata_holds : (bytes : List ℕ) (at : ℕ) (cs : List ℕ) → HasNameRecord bytes at (written_leaf (cdata cs)) → HasNameRecord bytes (at + 9) cs
+cdata_holds bytes at cs s = subst (λ (n : ℕ). HasNameRecord bytes (at + n) cs) mark_cdata (holds_middle bytes at (codes "<![CDATA[") cs (codes "]]>") s)
 
-comment_stands : (bytes : List ℕ) (at : ℕ) (cs : List ℕ) → StandsAt bytes at (written_leaf (Leaf.comment cs)) → StandsAt bytes (at + 4) cs
-comment_stands bytes at cs s = subst (λ (n : ℕ). StandsAt bytes (at + n) cs) mark_comment (stands_middle bytes at (codes "<!--") cs (codes "-->") s)
+comment_holds : (bytes : List ℕ) (at : ℕ) (cs : List ℕ) → HasNameRecord bytes at (written_leaf (Leaf.comment cs)) → HasNameRecord bytes (at + 4) cs
+comment_holds bytes at cs s = subst (λ (n : ℕ). HasNameRecord bytes (at + n) cs) mark_comment (holds_middle bytes at (codes "<!--") cs (codes "-->") s)
 
 -- the data of an instruction
-instruction_stands : (bytes : List ℕ) (at : ℕ) (i : Instruction) → StandsAt bytes at (written_leaf (Leaf.instruction i)) → StandsAt bytes (at + 2 + size i.target + size i.space) i.content
-instruction_stands bytes at i s =
-    let a : StandsAt bytes (at + size (codes "<?")) (i.target ++ (i.space ++ (i.content ++ codes "?>"))) =
-    stands_right bytes at (codes "<?") (i.target ++ (i.space ++ (i.content ++ codes "?>"))) (subst (λ (l : List ℕ). StandsAt bytes at l) (five (codes "<?") i.target i.space i.content (codes "?>")) s) in
-    let b : StandsAt bytes (at + 2) (i.target ++ (i.space ++ (i.content ++ codes "?>"))) = subst (λ (n : ℕ). StandsAt bytes (at + n) (i.target ++ (i.space ++ (i.content ++ codes "?>")))) mark_instruction a in
-    stands_middle bytes (at + 2 + size i.target) i.space i.content (codes "?>") (stands_right bytes (at + 2) i.target (i.space ++ (i.content ++ codes "?>")) b)
+instruction_holds : (bytes : List ℕ) (at : ℕ) (i : Instruction) → HasNameRecord bytes at (written_leaf (Leaf.instruction i)) → HasNameRecord bytes (at + 2 + size i.target + size i.space) i.content
+instruction_holds bytes at i s =
+    let a : HasNameRecord bytes (at + size (codes "<?")) (i.target ++ (i.space ++ (i.content ++ codes "?>"))) =
+    holds_right bytes at (codes "<?") (i.target ++ (i.space ++ (i.content ++ codes "?>"))) (subst (λ (l : List ℕ). HasNameRecord bytes at l) (five (codes "<?") i.target i.space i.content (codes "?>")) s) in
+    let b : HasNameRecord bytes (at + 2) (i.target ++ (i.space ++ (i.content ++ codes "?>"))) = subst (λ (n : ℕ). HasNameRecord bytes (at + n) (i.target ++ (i.space ++ (i.content ++ codes "?>")))) mark_instruction a in
+    holds_middle bytes (at + 2 + size i.target) i.space i.content (codes "?>") (holds_right bytes (at + 2) i.target (i.space ++ (i.content ++ codes "?>")) b)
   where
     five : (a b c d e : List ℕ) → a ++ b ++ c ++ d ++ e ≡ a ++ (b ++ (c ++ (d ++ e)))
     five a b c d e = simp append_assoc
 
-text_resolved : (bytes : List ℕ) (depth at : ℕ) (ps : List Piece) → meets_leaf (text ps) ≡ true → StandsAt bytes at (written_pieces ps) → IsResolved bytes Text (plain 5 depth (written_pieces ps) at) (text_content ps)
+text_resolved : (bytes : List ℕ) (depth at : ℕ) (ps : List Piece) → meets_leaf (text ps) ≡ true → HasNameRecord bytes at (written_pieces ps) → IsResolved bytes Text (plain 5 depth (written_pieces ps) at) (text_content ps)
 text_resolved bytes depth at ps m s =
     let p = and_parts (not (is_nil (written_pieces ps)) && list_all (meets_piece (λ c. false)) ps) (lacks (codes "]]>") (written_pieces ps)) m in
     resolved_at bytes Text 5 depth at ps (and_parts (not (is_nil (written_pieces ps))) (list_all (meets_piece (λ c. false)) ps) p.0).1 s
 
-parts_silent : (depth at : ℕ) (others : List Attribute) → Each Silent (declaration_part_tokens depth at others)
+parts_silent : (depth at : ℕ) (others : List Attribute) → Each Silent (declaration_part_records depth at others)
 parts_silent depth at [] = tt
 parts_silent depth at (a ∷ others) = (refl, (refl, parts_silent depth (at + size (written_attribute a)) others))
 
 -- the records of a leaf that an element holds
-pub leaf_joined : (bytes : List ℕ) (x : Leaf) (d at : ℕ) → meets_leaf x ≡ true → StandsAt bytes at (written_leaf x) → Joined bytes (leaf_tokens (suc d) at x) (leaf_content x)
+pub leaf_joined : (bytes : List ℕ) (x : Leaf) (d at : ℕ) → meets_leaf x ≡ true → HasNameRecord bytes at (written_leaf x) → Joined bytes (leaf_records (suc d) at x) (leaf_content x)
 leaf_joined bytes (text ps) d at m s = one_joined bytes Text _ (text_content ps) refl (text_resolved bytes d at ps m s)
-leaf_joined bytes (cdata cs) d at m s = one_joined bytes Literal _ (literal_content cs) refl (literal_at bytes 11 d (at + 9) cs (cdata_stands bytes at cs s))
-leaf_joined bytes (Leaf.comment cs) d at m s = silent_joined bytes (leaf_tokens (suc d) at (Leaf.comment cs)) (refl, tt)
-leaf_joined bytes (Leaf.instruction i) d at m s = silent_joined bytes (leaf_tokens (suc d) at (Leaf.instruction i)) (refl, (refl, tt))
-leaf_joined bytes (declaration v) d at m s = silent_joined bytes (leaf_tokens (suc d) at (declaration v)) (parts_silent d (at + 5) (declaration_attributes v))
-leaf_joined bytes (doctype v) d at m s = silent_joined bytes (leaf_tokens (suc d) at (doctype v)) (refl, tt)
+leaf_joined bytes (cdata cs) d at m s = one_joined bytes Literal _ (literal_content cs) refl (literal_at bytes 11 d (at + 9) cs (cdata_holds bytes at cs s))
+leaf_joined bytes (Leaf.comment cs) d at m s = silent_joined bytes (leaf_records (suc d) at (Leaf.comment cs)) (refl, tt)
+leaf_joined bytes (Leaf.instruction i) d at m s = silent_joined bytes (leaf_records (suc d) at (Leaf.instruction i)) (refl, (refl, tt))
+leaf_joined bytes (declaration v) d at m s = silent_joined bytes (leaf_records (suc d) at (declaration v)) (parts_silent d (at + 5) (declaration_attributes v))
+leaf_joined bytes (doctype v) d at m s = silent_joined bytes (leaf_records (suc d) at (doctype v)) (refl, tt)
 
 -- and of one outside the root element
-pub outside_joined : (bytes : List ℕ) (x : Leaf) (at : ℕ) → ProperLeaf 0 x → Joined bytes (leaf_tokens 0 at x) []
+pub outside_joined : (bytes : List ℕ) (x : Leaf) (at : ℕ) → ProperLeaf 0 x → Joined bytes (leaf_records 0 at x) []
 outside_joined bytes (text ps) at p = refl
 outside_joined bytes (cdata cs) at p = absurd p
-outside_joined bytes (Leaf.comment cs) at p = silent_joined bytes (leaf_tokens 0 at (Leaf.comment cs)) (refl, tt)
-outside_joined bytes (Leaf.instruction i) at p = silent_joined bytes (leaf_tokens 0 at (Leaf.instruction i)) (refl, (refl, tt))
-outside_joined bytes (declaration v) at p = silent_joined bytes (leaf_tokens 0 at (declaration v)) (parts_silent 255 (at + 5) (declaration_attributes v))
-outside_joined bytes (doctype v) at p = silent_joined bytes (leaf_tokens 0 at (doctype v)) (refl, tt)
+outside_joined bytes (Leaf.comment cs) at p = silent_joined bytes (leaf_records 0 at (Leaf.comment cs)) (refl, tt)
+outside_joined bytes (Leaf.instruction i) at p = silent_joined bytes (leaf_records 0 at (Leaf.instruction i)) (refl, (refl, tt))
+outside_joined bytes (declaration v) at p = silent_joined bytes (leaf_records 0 at (declaration v)) (parts_silent 255 (at + 5) (declaration_attributes v))
+outside_joined bytes (doctype v) at p = silent_joined bytes (leaf_records 0 at (doctype v)) (refl, tt)
 
-pub comment_resolved : (bytes : List ℕ) (depth at : ℕ) (cs : List ℕ) → StandsAt bytes at (written_leaf (Leaf.comment cs)) →
+pub comment_resolved : (bytes : List ℕ) (depth at : ℕ) (cs : List ℕ) → HasNameRecord bytes at (written_leaf (Leaf.comment cs)) →
     IsResolved bytes Literal (plain 6 depth cs (at + 4)) (literal_content cs) × WrittenIs bytes (plain 6 depth cs (at + 4)) cs
-comment_resolved bytes depth at cs s = let t = comment_stands bytes at cs s in (literal_at bytes 6 depth (at + 4) cs t, written_at bytes 6 depth (at + 4) cs t)
+comment_resolved bytes depth at cs s = let t = comment_holds bytes at cs s in (literal_at bytes 6 depth (at + 4) cs t, written_at bytes 6 depth (at + 4) cs t)
 
-pub instruction_resolved : (bytes : List ℕ) (depth at : ℕ) (i : Instruction) → StandsAt bytes at (written_leaf (Leaf.instruction i)) →
+pub instruction_resolved : (bytes : List ℕ) (depth at : ℕ) (i : Instruction) → HasNameRecord bytes at (written_leaf (Leaf.instruction i)) →
     IsResolved bytes Literal (plain 8 depth i.content (at + 2 + size i.target + size i.space)) (literal_content i.content) × WrittenIs bytes (plain 8 depth i.content (at + 2 + size i.target + size i.space)) i.content
 instruction_resolved bytes depth at i s =
-    let t = instruction_stands bytes at i s in
+    let t = instruction_holds bytes at i s in
     (literal_at bytes 8 depth (at + 2 + size i.target + size i.space) i.content t, written_at bytes 8 depth (at + 2 + size i.target + size i.space) i.content t)
 
 -- what the record of a text or of a CDATA section is of
@@ -183,15 +183,15 @@ LeafIs bytes l at (text ps) = WrittenIs bytes (plain 5 (depth_at l) (written_pie
 LeafIs bytes l at (cdata cs) = WrittenIs bytes (plain 11 (depth_at l) cs (at + 9)) cs
 LeafIs bytes l at _ = ⊥
 
-pub text_is : (bytes : List ℕ) (ps : List Piece) (l at : ℕ) → StandsAt bytes at (written_leaf (text ps)) → LeafIs bytes l at (text ps)
+pub text_is : (bytes : List ℕ) (ps : List Piece) (l at : ℕ) → HasNameRecord bytes at (written_leaf (text ps)) → LeafIs bytes l at (text ps)
 text_is bytes ps l at s = written_at bytes 5 (depth_at l) at (written_pieces ps) s
 
-pub cdata_is : (bytes : List ℕ) (cs : List ℕ) (l at : ℕ) → StandsAt bytes at (written_leaf (cdata cs)) → LeafIs bytes l at (cdata cs)
-cdata_is bytes cs l at s = written_at bytes 11 (depth_at l) (at + 9) cs (cdata_stands bytes at cs s)
+pub cdata_is : (bytes : List ℕ) (cs : List ℕ) (l at : ℕ) → HasNameRecord bytes at (written_leaf (cdata cs)) → LeafIs bytes l at (cdata cs)
+cdata_is bytes cs l at s = written_at bytes 11 (depth_at l) (at + 9) cs (cdata_holds bytes at cs s)
 
 -- ---- tags
 
--- the value of an attribute, if the white space before it stands at a place
+-- the value of an attribute, if the white space before it is at a place
 abbrev pub ValueIs : List ℕ → ℕ → ℕ → Attribute → Type 0
 ValueIs bytes depth at a =
     IsResolved bytes Value (plain 4 depth (written_pieces a.value) (at + size a.space + size (before_value a))) (value_content a.value)
@@ -201,12 +201,12 @@ abbrev pub ValuesAre : List ℕ → ℕ → ℕ → List Attribute → Type 0
 ValuesAre bytes depth at [] = Unit {0}
 ValuesAre bytes depth at (a ∷ others) = ValueIs bytes depth at a × ValuesAre bytes depth (at + size (written_attribute a)) others
 
-value_is : (bytes : List ℕ) (depth at : ℕ) (a : Attribute) → meets_attribute a ≡ true → StandsAt bytes at (written_attribute a) → ValueIs bytes depth at a
+value_is : (bytes : List ℕ) (depth at : ℕ) (a : Attribute) → meets_attribute a ≡ true → HasNameRecord bytes at (written_attribute a) → ValueIs bytes depth at a
 value_is bytes depth at a m s =
     let p = and_parts (is_white a.space && is_name a.name && is_blank a.left && is_blank a.right) (list_all (meets_piece (λ c. c == quote_char a.quote)) a.value) m in
-    let t : StandsAt bytes at (a.space ++ (before_value a ++ (written_pieces a.value ++ quote_char a.quote ∷ []))) = subst (λ (l : List ℕ). StandsAt bytes at l) (four a.space (before_value a) (written_pieces a.value) (quote_char a.quote ∷ [])) s in
-    let u : StandsAt bytes (at + size a.space) (before_value a ++ (written_pieces a.value ++ quote_char a.quote ∷ [])) = stands_right bytes at a.space (before_value a ++ (written_pieces a.value ++ quote_char a.quote ∷ [])) t in
-    let v : StandsAt bytes (at + size a.space + size (before_value a)) (written_pieces a.value) = stands_middle bytes (at + size a.space) (before_value a) (written_pieces a.value) (quote_char a.quote ∷ []) u in (
+    let t : HasNameRecord bytes at (a.space ++ (before_value a ++ (written_pieces a.value ++ quote_char a.quote ∷ []))) = subst (λ (l : List ℕ). HasNameRecord bytes at l) (four a.space (before_value a) (written_pieces a.value) (quote_char a.quote ∷ [])) s in
+    let u : HasNameRecord bytes (at + size a.space) (before_value a ++ (written_pieces a.value ++ quote_char a.quote ∷ [])) = holds_right bytes at a.space (before_value a ++ (written_pieces a.value ++ quote_char a.quote ∷ [])) t in
+    let v : HasNameRecord bytes (at + size a.space + size (before_value a)) (written_pieces a.value) = holds_middle bytes (at + size a.space) (before_value a) (written_pieces a.value) (quote_char a.quote ∷ []) u in (
       resolved_at bytes Value 4 depth (at + size a.space + size (before_value a)) a.value (value_fit (λ c. c == quote_char a.quote) a.value p.1) v,
       written_at bytes 4 depth (at + size a.space + size (before_value a)) (written_pieces a.value) v,
     )
@@ -214,28 +214,28 @@ value_is bytes depth at a m s =
     four : (a b c d : List ℕ) → a ++ b ++ c ++ d ≡ a ++ (b ++ (c ++ d))
     four a b c d = simp append_assoc
 
-values_are : (bytes : List ℕ) (depth at : ℕ) (others : List Attribute) → list_all meets_attribute others ≡ true → StandsAt bytes at (written_attributes others) → ValuesAre bytes depth at others
+values_are : (bytes : List ℕ) (depth at : ℕ) (others : List Attribute) → list_all meets_attribute others ≡ true → HasNameRecord bytes at (written_attributes others) → ValuesAre bytes depth at others
 values_are bytes depth at [] m s = tt
 values_are bytes depth at (a ∷ others) m s =
     let p = and_parts (meets_attribute a) (list_all meets_attribute others) m in
-    (value_is bytes depth at a p.0 (stands_left bytes at (written_attribute a) (written_attributes others) s), values_are bytes depth (at + size (written_attribute a)) others p.1 (stands_right bytes at (written_attribute a) (written_attributes others) s))
+    (value_is bytes depth at a p.0 (holds_left bytes at (written_attribute a) (written_attributes others) s), values_are bytes depth (at + size (written_attribute a)) others p.1 (holds_right bytes at (written_attribute a) (written_attributes others) s))
 
 mark_tag : size (codes "<") ≡ 1
 unfolding size encode
 mark_tag = refl
 
-pub tag_values : (bytes : List ℕ) (depth at : ℕ) (t : Tag) → meets_tag t ≡ true → StandsAt bytes at (written_tag t) → ValuesAre bytes depth (attributes_place at t) t.attributes
+pub tag_values : (bytes : List ℕ) (depth at : ℕ) (t : Tag) → meets_tag t ≡ true → HasNameRecord bytes at (written_tag t) → ValuesAre bytes depth (attributes_place at t) t.attributes
 tag_values bytes depth at t m s =
     let p = and_parts (is_name t.name && list_all meets_attribute t.attributes) (is_blank t.space) m in
-    let a : StandsAt bytes at (codes "<" ++ (t.name ++ (written_attributes t.attributes ++ t.space))) = subst (λ (l : List ℕ). StandsAt bytes at l) (four (codes "<") t.name (written_attributes t.attributes) t.space) s in
-    let b : StandsAt bytes (at + 1) (t.name ++ (written_attributes t.attributes ++ t.space)) =
-    subst (λ (n : ℕ). StandsAt bytes (at + n) (t.name ++ (written_attributes t.attributes ++ t.space))) mark_tag (stands_right bytes at (codes "<") (t.name ++ (written_attributes t.attributes ++ t.space)) a) in
-    values_are bytes depth (attributes_place at t) t.attributes (and_parts (is_name t.name) (list_all meets_attribute t.attributes) p.0).1 (stands_middle bytes (at + 1) t.name (written_attributes t.attributes) t.space b)
+    let a : HasNameRecord bytes at (codes "<" ++ (t.name ++ (written_attributes t.attributes ++ t.space))) = subst (λ (l : List ℕ). HasNameRecord bytes at l) (four (codes "<") t.name (written_attributes t.attributes) t.space) s in
+    let b : HasNameRecord bytes (at + 1) (t.name ++ (written_attributes t.attributes ++ t.space)) =
+    subst (λ (n : ℕ). HasNameRecord bytes (at + n) (t.name ++ (written_attributes t.attributes ++ t.space))) mark_tag (holds_right bytes at (codes "<") (t.name ++ (written_attributes t.attributes ++ t.space)) a) in
+    values_are bytes depth (attributes_place at t) t.attributes (and_parts (is_name t.name) (list_all meets_attribute t.attributes) p.0).1 (holds_middle bytes (at + 1) t.name (written_attributes t.attributes) t.space b)
   where
     four : (a b c d : List ℕ) → a ++ b ++ c ++ d ≡ a ++ (b ++ (c ++ d))
     four a b c d = simp append_assoc
 
-attributes_silent : (depth at : ℕ) (others : List Attribute) → Each Silent (attributes_tokens depth at others)
+attributes_silent : (depth at : ℕ) (others : List Attribute) → Each Silent (attributes_records depth at others)
 attributes_silent depth at [] = tt
 attributes_silent depth at (a ∷ others) = (name_silent (declares a.name), (refl, attributes_silent depth (at + size (written_attribute a)) others))
   where
@@ -243,16 +243,16 @@ attributes_silent depth at (a ∷ others) = (name_silent (declares a.name), (ref
     name_silent true = refl
     name_silent false = refl
 
-pub tag_silent : (l at : ℕ) (t : Tag) → Each Silent (tag_tokens l at t)
+pub tag_silent : (l at : ℕ) (t : Tag) → Each Silent (tag_records l at t)
 tag_silent l at t = (refl, attributes_silent l (attributes_place at t) t.attributes)
 
 -- ---- which records are of texts
 
 -- a record, if it is of a text or a CDATA section, is of bytes that are a text
-abbrev pub Fine : List ℕ → Token → Type 0
+abbrev pub Fine : List ℕ → Record → Type 0
 Fine bytes r = is_text_token r.token ≡ true → IsText bytes r
 
-silent_text : (bytes : List ℕ) (r : Token) → Silent r → Fine bytes r
+silent_text : (bytes : List ℕ) (r : Record) → Silent r → Fine bytes r
 silent_text bytes r h t = absurd (no r.token h t)
   where
     by : (a b : Bool) → ◌≡◌ {A = Option Rule} (cond a (Some Text) (cond b (Some Literal) None)) None → (a || b) ≡ true → ⊥
@@ -263,14 +263,14 @@ silent_text bytes r h t = absurd (no r.token h t)
     no : (n : ℕ) → rule_of n ≡ None → is_text_token n ≡ true → ⊥
     no n = by (n == 5) (n == 11)
 
-pub silent_fine : (bytes : List ℕ) (rs : List Token) → Each Silent rs → Each (Fine bytes) rs
+pub silent_fine : (bytes : List ℕ) (rs : List Record) → Each Silent rs → Each (Fine bytes) rs
 silent_fine bytes rs h = each_more Silent (Fine bytes) (silent_text bytes) rs h
 
-pub leaf_fine : (bytes : List ℕ) (x : Leaf) (l at : ℕ) → meets_leaf x ≡ true → StandsAt bytes at (written_leaf x) → Each (Fine bytes) (leaf_tokens l at x)
+pub leaf_fine : (bytes : List ℕ) (x : Leaf) (l at : ℕ) → meets_leaf x ≡ true → HasNameRecord bytes at (written_leaf x) → Each (Fine bytes) (leaf_records l at x)
 leaf_fine bytes (text ps) zero at m s = tt
 leaf_fine bytes (text ps) (suc d) at m s = (λ _. (text_resolved bytes d at ps m s).text, tt)
-leaf_fine bytes (cdata cs) l at m s = (λ _. (literal_at bytes 11 (depth_at l) (at + 9) cs (cdata_stands bytes at cs s)).text, tt)
-leaf_fine bytes (Leaf.comment cs) l at m s = silent_fine bytes (leaf_tokens l at (Leaf.comment cs)) (refl, tt)
-leaf_fine bytes (Leaf.instruction i) l at m s = silent_fine bytes (leaf_tokens l at (Leaf.instruction i)) (refl, (refl, tt))
-leaf_fine bytes (declaration v) l at m s = silent_fine bytes (leaf_tokens l at (declaration v)) (parts_silent (depth_at l) (at + 5) (declaration_attributes v))
-leaf_fine bytes (doctype v) l at m s = silent_fine bytes (leaf_tokens l at (doctype v)) (refl, tt)
+leaf_fine bytes (cdata cs) l at m s = (λ _. (literal_at bytes 11 (depth_at l) (at + 9) cs (cdata_holds bytes at cs s)).text, tt)
+leaf_fine bytes (Leaf.comment cs) l at m s = silent_fine bytes (leaf_records l at (Leaf.comment cs)) (refl, tt)
+leaf_fine bytes (Leaf.instruction i) l at m s = silent_fine bytes (leaf_records l at (Leaf.instruction i)) (refl, (refl, tt))
+leaf_fine bytes (declaration v) l at m s = silent_fine bytes (leaf_records l at (declaration v)) (parts_silent (depth_at l) (at + 5) (declaration_attributes v))
+leaf_fine bytes (doctype v) l at m s = silent_fine bytes (leaf_records l at (doctype v)) (refl, tt)

@@ -2,7 +2,7 @@ mod EntityLemmas
 pub mod PieceLemmas
 mod JoinedLemmas
 mod SliceLemmas
-pub mod Standing
+pub mod Holding
 pub mod Function
 pub mod Leaves
 pub mod Written

@@ -1,4 +1,4 @@
--- Which attribute's name a record is, and what the record behind it says.
+-- Which attribute's name a record is, and what the record after it says.
 use Rattle.std.proofs.Common.{◌≡◌, ℕ, zero, suc, ◌+◌, ◌-◌, ◌*◌, ◌<◌, ◌≤◌, ◌^◌, true, false, inl, inr, ◌⊎◌, List, [], ◌∷◌, ◌++◌, length, map, Option, Some, None, refl, sym, ap, subst, ◌∙◌, arith, append_assoc, length-append, zero-add, suc-add}
 use Rattle.std.specs.Prelude.{slice_get}
 use Rattle.std.specs.List.{AllByRecursion as Each, Contains, cons_option}
@@ -6,11 +6,11 @@ use Rattle.std.proofs.lemmas.Bool.{false≢true}
 use Rattle.xml_model.specs.Chars.{size}
 use Rattle.xml_model.specs.Items.{Attribute, Tag, Leaf, first_place, written_attribute}
 use Rattle.xml_model.specs.Nest.{Forest, done, single, empty, element}
-use Rattle.xml_model.specs.Records.{Token, named, records, attributes_tokens, attributes_place, tag_tokens, leaf_tokens, tokens, declaration_part_tokens, declaration_attributes, depth_at, past_leaf, past_empty, past_start, past_element, name_token}
-use Rattle.xml_model.specs.Tree.{Thing, Entry, Here, child, under, leaf_node, after_leaf, inside_of, behind, element_entry, tag_attributes, nodes, at_first, root_entry, all}
+use Rattle.xml_model.specs.Records.{Record, named, records, attributes_records, attributes_place, tag_records, leaf_records, forest_records, declaration_part_records, declaration_attributes, depth_at, past_leaf, past_empty, past_start, past_element, name_token}
+use Rattle.xml_model.specs.Tree.{Thing, Entry, Here, child, under, leaf_node, after_leaf, inside_of, after_element, element_entry, tag_attributes, nodes, at_first, root_entry, all}
 use Rattle.xml_model.specs.Scan.{record_at}
 use Rattle.xml_model.specs.Content.{value_content}
-use Rattle.xml_model.specs.Laws.{RecordsStand, records_of}
+use Rattle.xml_model.specs.Laws.{HasRecords, records_of}
 use Rattle.xml_model.proofs.Each.{each_at, contains_here, contains_next, contains_map}
 use Rattle.xml_model.proofs.NodeLaws.{records_of_node}
 use Rattle.vtd_words.specs.Lists.{Lists}
@@ -22,7 +22,7 @@ use Rattle.vtd_text.specs.NameRecords.{IsNameOf, IsDeclaration, HasName, is_attr
 use Rattle.vtd_text.specs.Resolved.{IsResolved, IsRecord}
 use Rattle.vtd_text.proofs.Leaves.{ValuesAre}
 use Rattle.vtd_text.proofs.Written.{SaysOf, Says, all_say}
-use Rattle.vtd_text.proofs.NodeFacts.{record_behind}
+use Rattle.vtd_text.proofs.NodeFacts.{record_after}
 
 -- ---- the records of a tag
 
@@ -35,17 +35,17 @@ twice_is zero = refl
 twice_is (suc j) = omega (arith, twice_is j)
 
 -- the name and the value of the attribute with a number
-pub record AttributeAt (bytes : List ℕ) (depth j : ℕ) (a : Attribute) (rs : List Token) : Type 0 where
+pub record AttributeAt (bytes : List ℕ) (depth j : ℕ) (a : Attribute) (rs : List Record) : Type 0 where
   pub place : ℕ
   pub name : record_at (twice j) rs ≡ named (name_token a.name) depth a.name place
   pub value : IsResolved bytes Value (record_at (suc (twice j)) rs) (value_content a.value)
   pub within : suc (twice j) < length rs
 
-attribute_at : (bytes : List ℕ) (others : List Attribute) (depth at j : ℕ) (a : Attribute) (more : List Token) → slice_get others j ≡ Some a → ValuesAre bytes depth at others → AttributeAt bytes depth j a (attributes_tokens depth at others ++ more)
+attribute_at : (bytes : List ℕ) (others : List Attribute) (depth at j : ℕ) (a : Attribute) (more : List Record) → slice_get others j ≡ Some a → ValuesAre bytes depth at others → AttributeAt bytes depth j a (attributes_records depth at others ++ more)
 attribute_at bytes [] depth at j a more g v = absurd cc
 attribute_at bytes (b ∷ others) depth at zero a more g v =
     let same : b ≡ a = cc in
-    subst (λ (x : Attribute). AttributeAt bytes depth 0 x (attributes_tokens depth at (b ∷ others) ++ more)) same (record { place = at + size b.space; name = refl; value = v.0.0; within = omega arith })
+    subst (λ (x : Attribute). AttributeAt bytes depth 0 x (attributes_records depth at (b ∷ others) ++ more)) same (record { place = at + size b.space; name = refl; value = v.0.0; within = omega arith })
 attribute_at bytes (b ∷ others) depth at (suc j) a more g v =
     let so = attribute_at bytes others depth (at + size (written_attribute b)) j a more g v.1 in
     record { place = so.place; name = so.name; value = so.value; within = omega (arith, so.within) }
@@ -58,61 +58,61 @@ pub record NameIn (es : List Entry) (at : ℕ) (a : Attribute) : Type 0 where
   pub inside : Forest
   pub element : entry.what ≡ Thing.element tag inside
   pub number : ℕ
-  pub stands : slice_get tag.attributes number ≡ Some a
-  pub place : at ≡ entry.place + suc (twice number)
+  pub holds : slice_get tag.attributes number ≡ Some a
+  pub place : at ≡ entry.index + suc (twice number)
 
-abbrev pub drop_first : List Token → List Token
+abbrev pub drop_first : List Record → List Record
 drop_first [] = []
 drop_first (r ∷ rs) = rs
 
--- the record and the one behind it, in a list that the records of the node are a part of
-tag_says : (bytes : List ℕ) (what : Thing) (l start : ℕ) (tag : Tag) (inside : Forest) (j : ℕ) (a : Attribute) (rest : List Token) → what ≡ Thing.element tag inside → slice_get tag.attributes j ≡ Some a → SaysOf bytes what l start →
+-- the record and the one after it, in a list that the records of the node are a part of
+tag_says : (bytes : List ℕ) (what : Thing) (l start : ℕ) (tag : Tag) (inside : Forest) (j : ℕ) (a : Attribute) (rest : List Record) → what ≡ Thing.element tag inside → slice_get tag.attributes j ≡ Some a → SaysOf bytes what l start →
     AttributeAt bytes l j a (drop_first (records_of what l start ++ rest))
 tag_says bytes what l start tag inside j a rest e g s =
     let k : SaysOf bytes (Thing.element tag inside) l start = subst (λ (x : Thing). SaysOf bytes x l start) e s in
     subst (λ (x : Thing). AttributeAt bytes l j a (drop_first (records_of x l start ++ rest))) (sym e)
-    (subst (λ (rs : List Token). AttributeAt bytes l j a rs) (sym (append_assoc (attributes_tokens l (attributes_place start tag) tag.attributes) (tokens (suc l) (past_start start tag) inside) rest))
-    (attribute_at bytes tag.attributes l (attributes_place start tag) j a (tokens (suc l) (past_start start tag) inside ++ rest) g k.1))
+    (subst (λ (rs : List Record). AttributeAt bytes l j a rs) (sym (append_assoc (attributes_records l (attributes_place start tag) tag.attributes) (forest_records (suc l) (past_start start tag) inside) rest))
+    (attribute_at bytes tag.attributes l (attributes_place start tag) j a (forest_records (suc l) (past_start start tag) inside ++ rest) g k.1))
 
-pub first_off : (k : ℕ) (rs : List Token) → 0 < length rs → record_at (suc k) rs ≡ record_at k (drop_first rs)
+pub first_off : (k : ℕ) (rs : List Record) → 0 < length rs → record_at (suc k) rs ≡ record_at k (drop_first rs)
 first_off k [] h = absurd (omega arith)
 first_off k (r ∷ rs) h = refl
 
-first_length : (rs : List Token) → length (drop_first rs) ≤ length rs - 1
+first_length : (rs : List Record) → length (drop_first rs) ≤ length rs - 1
 first_length [] = omega arith
 first_length (r ∷ rs) = omega arith
 
-pub some_records : (what : Thing) (l at : ℕ) (tag : Tag) (inside : Forest) (rest : List Token) → what ≡ Thing.element tag inside → 0 < length (records_of what l at ++ rest)
+pub some_records : (what : Thing) (l at : ℕ) (tag : Tag) (inside : Forest) (rest : List Record) → what ≡ Thing.element tag inside → 0 < length (records_of what l at ++ rest)
 some_records what l at tag inside rest e = subst (λ (x : Thing). 0 < length (records_of x l at ++ rest)) (sym e) (omega arith)
 
--- what the name of an attribute and the record behind it say
-pub record NameSays (bytes : List ℕ) (rs : List Token) (at : ℕ) (a : Attribute) (entry : Entry) : Type 0 where
+-- what the name of an attribute and the record after it say
+pub record NameSays (bytes : List ℕ) (rs : List Record) (at : ℕ) (a : Attribute) (entry : Entry) : Type 0 where
   pub place : ℕ
   pub name : record_at at rs ≡ named (name_token a.name) (length entry.holders) a.name place
   pub value : IsResolved bytes Value (record_at (at + 1) rs) (value_content a.value)
   pub within : at + 1 < length rs
 
-name_says : (bytes : List ℕ) (rs : List Token) (at : ℕ) (a : Attribute) (e : Entry) (tag : Tag) (inside : Forest) (j : ℕ) → e.what ≡ Thing.element tag inside → slice_get tag.attributes j ≡ Some a → at ≡ e.place + suc (twice j) →
-    Says bytes e → RecordsStand rs e → NameSays bytes rs at a e
+name_says : (bytes : List ℕ) (rs : List Record) (at : ℕ) (a : Attribute) (e : Entry) (tag : Tag) (inside : Forest) (j : ℕ) → e.what ≡ Thing.element tag inside → slice_get tag.attributes j ≡ Some a → at ≡ e.index + suc (twice j) →
+    Says bytes e → HasRecords rs e → NameSays bytes rs at a e
 name_says bytes rs at a e tag inside j is g p s r =
     let mine = records_of e.what (length e.holders) e.start in
     let more : 0 < length (mine ++ r.rest) = some_records e.what (length e.holders) e.start tag inside r.rest is in
     let k = tag_says bytes e.what (length e.holders) e.start tag inside j a r.rest is g s in
-    let whole : rs ≡ r.front ++ (mine ++ r.rest) = r.split ∙ append_assoc r.front mine r.rest in
-    let there : (n : ℕ) → record_at (length r.front + n) rs ≡ record_at n (mine ++ r.rest) = λ n. ap (record_at (length r.front + n)) whole ∙ record_behind r.front (mine ++ r.rest) n in
-    let one : at ≡ length r.front + suc (twice j) = p ∙ ap (λ (n : ℕ). n + suc (twice j)) (sym r.begins) in
-    let two : at + 1 ≡ length r.front + suc (suc (twice j)) = omega arith in
+    let whole : rs ≡ r.prefix ++ (mine ++ r.rest) = r.split ∙ append_assoc r.prefix mine r.rest in
+    let there : (n : ℕ) → record_at (length r.prefix + n) rs ≡ record_at n (mine ++ r.rest) = λ n. ap (record_at (length r.prefix + n)) whole ∙ record_after r.prefix (mine ++ r.rest) n in
+    let one : at ≡ length r.prefix + suc (twice j) = p ∙ ap (λ (n : ℕ). n + suc (twice j)) (sym r.begins) in
+    let two : at + 1 ≡ length r.prefix + suc (suc (twice j)) = omega arith in
     record {
       place = k.place;
       name = ap (λ (n : ℕ). record_at n rs) one ∙ there (suc (twice j)) ∙ first_off (twice j) (mine ++ r.rest) more ∙ k.name;
-      value = subst (λ (x : Token). IsResolved bytes Value x (value_content a.value)) (sym (ap (λ (n : ℕ). record_at n rs) two ∙ there (suc (suc (twice j))) ∙ first_off (suc (twice j)) (mine ++ r.rest) more)) k.value;
-      within = omega (arith, k.within, one, ap length whole, length-append r.front (mine ++ r.rest), first_length (mine ++ r.rest));
+      value = subst (λ (x : Record). IsResolved bytes Value x (value_content a.value)) (sym (ap (λ (n : ℕ). record_at n rs) two ∙ there (suc (suc (twice j))) ∙ first_off (suc (twice j)) (mine ++ r.rest) more)) k.value;
+      within = omega (arith, k.within, one, ap length whole, length-append r.prefix (mine ++ r.rest), first_length (mine ++ r.rest));
     }
 
 pub name_of_says : (bytes : List ℕ) (lists : Lists) (nest : Forest) → IsNestOf bytes lists nest → (at : ℕ) (a : Attribute) → (n : IsNameOf bytes nest at a) → NameSays bytes (records nest (first_place bytes)) at a n.entry
 name_of_says bytes lists nest s at a n =
     let first = first_place bytes in
-    name_says bytes (records nest first) at a n.entry n.tag n.inside n.number n.element n.stands (omega (arith, n.place, twice_is n.number))
+    name_says bytes (records nest first) at a n.entry n.tag n.inside n.number n.element n.holds (omega (arith, n.place, twice_is n.number))
     (each_at (Says bytes) (all nest first) n.entry (all_say bytes nest s.accepted.utf8 s.accepted.document) n.there)
     (records_of_node nest first s.accepted.document.nests n.entry n.there)
 
@@ -122,16 +122,16 @@ name_of_says bytes lists nest s at a n =
 record Number (others : List Attribute) (n : ℕ) : Type 0 where
   pub number : ℕ
   pub attribute : Attribute
-  pub stands : slice_get others number ≡ Some attribute
+  pub holds : slice_get others number ≡ Some attribute
   pub place : n ≡ twice number
 
-number_of : (others : List Attribute) (depth at n : ℕ) → is_attribute_name (record_at n (attributes_tokens depth at others)).token ≡ true → Number others n
+number_of : (others : List Attribute) (depth at n : ℕ) → is_attribute_name (record_at n (attributes_records depth at others)).token ≡ true → Number others n
 number_of [] depth at n h = absurd (false≢true h)
-number_of (a ∷ others) depth at zero h = record { number = 0; attribute = a; stands = refl; place = refl }
+number_of (a ∷ others) depth at zero h = record { number = 0; attribute = a; holds = refl; place = refl }
 number_of (a ∷ others) depth at (suc zero) h = absurd (false≢true h)
 number_of (a ∷ others) depth at (suc (suc n)) h =
     let so = number_of others depth (at + size (written_attribute a)) n h in
-    record { number = suc so.number; attribute = so.attribute; stands = so.stands; place = ap (λ (k : ℕ). suc (suc k)) so.place }
+    record { number = suc so.number; attribute = so.attribute; holds = so.holds; place = ap (λ (k : ℕ). suc (suc k)) so.place }
 
 -- a node of the list with an attribute whose name is the record
 pub record Found (es : List Entry) (at : ℕ) : Type 0 where
@@ -141,13 +141,13 @@ pub record Found (es : List Entry) (at : ℕ) : Type 0 where
 found_by : (es fs : List Entry) (at : ℕ) → ((e : Entry) → Contains es e → Contains fs e) → Found es at → Found fs at
 found_by es fs at f k = record {
   attribute = k.attribute;
-  name = record { entry = k.name.entry; there = f k.name.entry k.name.there; tag = k.name.tag; inside = k.name.inside; element = k.name.element; number = k.name.number; stands = k.name.stands; place = k.name.place };
+  name = record { entry = k.name.entry; there = f k.name.entry k.name.there; tag = k.name.tag; inside = k.name.inside; element = k.name.element; number = k.name.number; holds = k.name.holds; place = k.name.place };
 }
 
 found_under : (i : ℕ) (es : List Entry) (at : ℕ) → Found es at → Found (map (under (child i)) es) at
 found_under i es at k = record {
   attribute = k.attribute;
-  name = record { entry = under (child i) k.name.entry; there = contains_map (under (child i)) es k.name.entry k.name.there; tag = k.name.tag; inside = k.name.inside; element = k.name.element; number = k.name.number; stands = k.name.stands; place = k.name.place };
+  name = record { entry = under (child i) k.name.entry; there = contains_map (under (child i)) es k.name.entry k.name.there; tag = k.name.tag; inside = k.name.inside; element = k.name.element; number = k.name.number; holds = k.name.holds; place = k.name.place };
 }
 
 contains_left : (es fs : List Entry) (e : Entry) → Contains es e → Contains (es ++ fs) e
@@ -164,15 +164,15 @@ contains_option None es e c = c
 contains_option (Some x) es e c = contains_next x es e c
 
 -- a record of two lists is one of the first or one of the second
-record InFirst (xs : List Token) (n : ℕ) (r : Token) : Type 0 where
+record InFirst (xs : List Record) (n : ℕ) (r : Record) : Type 0 where
   pub is : r ≡ record_at n xs
 
-record InSecond (xs ys : List Token) (n : ℕ) (r : Token) : Type 0 where
+record InSecond (xs ys : List Record) (n : ℕ) (r : Record) : Type 0 where
   pub index : ℕ
   pub place : n ≡ length xs + index
   pub is : r ≡ record_at index ys
 
-in_either : (xs ys : List Token) (n : ℕ) → InFirst xs n (record_at n (xs ++ ys)) ⊎ InSecond xs ys n (record_at n (xs ++ ys))
+in_either : (xs ys : List Record) (n : ℕ) → InFirst xs n (record_at n (xs ++ ys)) ⊎ InSecond xs ys n (record_at n (xs ++ ys))
 in_either [] ys n = inr (record { index = n; place = sym (zero-add n); is = refl })
 in_either (x ∷ xs) ys zero = inl (record { is = refl })
 in_either (x ∷ xs) ys (suc n) = elim (in_either xs ys n) [
@@ -181,14 +181,14 @@ in_either (x ∷ xs) ys (suc n) = elim (in_either xs ys n) [
 ]
 
 -- no record of a leaf is the name of an attribute
-abbrev Other : Token → Type 0
+abbrev Other : Record → Type 0
 Other r = is_attribute_name r.token ≡ false
 
-parts_other : (depth at : ℕ) (others : List Attribute) → Each Other (declaration_part_tokens depth at others)
+parts_other : (depth at : ℕ) (others : List Attribute) → Each Other (declaration_part_records depth at others)
 parts_other depth at [] = tt
 parts_other depth at (a ∷ others) = (refl, (refl, parts_other depth (at + size (written_attribute a)) others))
 
-leaf_other : (x : Leaf) (l at : ℕ) → Each Other (leaf_tokens l at x)
+leaf_other : (x : Leaf) (l at : ℕ) → Each Other (leaf_records l at x)
 leaf_other (Leaf.text ps) zero at = tt
 leaf_other (Leaf.text ps) (suc d) at = (refl, tt)
 leaf_other (Leaf.cdata cs) l at = (refl, tt)
@@ -197,72 +197,72 @@ leaf_other (Leaf.instruction i) l at = (refl, (refl, tt))
 leaf_other (Leaf.declaration v) l at = parts_other (depth_at l) (at + 5) (declaration_attributes v)
 leaf_other (Leaf.doctype v) l at = (refl, tt)
 
-other_at : (rs : List Token) (n : ℕ) → Each Other rs → is_attribute_name (record_at n rs).token ≡ false
+other_at : (rs : List Record) (n : ℕ) → Each Other rs → is_attribute_name (record_at n rs).token ≡ false
 other_at [] n h = refl
 other_at (r ∷ rs) zero h = h.0
 other_at (r ∷ rs) (suc n) h = other_at rs n h.1
 
 -- among the records of a tag
-tag_found : (h : Here) (t : Tag) (inside : Forest) (stop n : ℕ) (es : List Entry) → is_attribute_name (record_at n (tag_tokens (length h.holders) h.at t)).token ≡ true → Found (element_entry h t inside stop ∷ es) (h.place + n)
+tag_found : (h : Here) (t : Tag) (inside : Forest) (stop n : ℕ) (es : List Entry) → is_attribute_name (record_at n (tag_records (length h.holders) h.at t)).token ≡ true → Found (element_entry h t inside stop ∷ es) (h.index + n)
 tag_found h t inside stop zero es k = absurd (false≢true k)
 tag_found h t inside stop (suc n) es k =
     let so = number_of t.attributes (length h.holders) (attributes_place h.at t) n k in
     record {
       attribute = so.attribute;
-      name = record { entry = element_entry h t inside stop; there = contains_here (element_entry h t inside stop) es; tag = t; inside = inside; element = refl; number = so.number; stands = so.stands; place = ap (λ (m : ℕ). h.place + suc m) so.place };
+      name = record { entry = element_entry h t inside stop; there = contains_here (element_entry h t inside stop) es; tag = t; inside = inside; element = refl; number = so.number; holds = so.holds; place = ap (λ (m : ℕ). h.index + suc m) so.place };
     }
 
 along : (es : List Entry) (m n : ℕ) → m ≡ n → Found es m → Found es n
 along es m n e k = subst (Found es) e k
 
-same_true : (r q : Token) → r ≡ q → is_attribute_name r.token ≡ true → is_attribute_name q.token ≡ true
-same_true r q e h = ap (λ (x : Token). is_attribute_name x.token) (sym e) ∙ h
+same_true : (r q : Record) → r ≡ q → is_attribute_name r.token ≡ true → is_attribute_name q.token ≡ true
+same_true r q e h = ap (λ (x : Record). is_attribute_name x.token) (sym e) ∙ h
 
-found : (f : Forest) (h : Here) (n : ℕ) → is_attribute_name (record_at n (tokens (length h.holders) h.at f)).token ≡ true → Found (nodes h f) (h.place + n)
+found : (f : Forest) (h : Here) (n : ℕ) → is_attribute_name (record_at n (forest_records (length h.holders) h.at f)).token ≡ true → Found (nodes h f) (h.index + n)
 found done h n k = absurd (false≢true k)
 found (single x f) h n k =
-    let mine = leaf_tokens (length h.holders) h.at x in
-    let rest = tokens (length h.holders) (past_leaf h.at x) f in
+    let mine = leaf_records (length h.holders) h.at x in
+    let rest = forest_records (length h.holders) (past_leaf h.at x) f in
     elim (in_either mine rest n) [
       | inl q ↦ absurd (false≢true (sym (other_at mine n (leaf_other x (length h.holders) h.at)) ∙ same_true _ _ q.is k))
       | inr q ↦
-          found_by (nodes (after_leaf h x f) f) (nodes h (single x f)) (h.place + n) (contains_option (leaf_node h x f) (nodes (after_leaf h x f) f))
-          (along _ (h.place + length mine + q.index) (h.place + n) (omega (arith, q.place)) (found f (after_leaf h x f) q.index (same_true _ _ q.is k)))
+          found_by (nodes (after_leaf h x f) f) (nodes h (single x f)) (h.index + n) (contains_option (leaf_node h x f) (nodes (after_leaf h x f) f))
+          (along _ (h.index + length mine + q.index) (h.index + n) (omega (arith, q.place)) (found f (after_leaf h x f) q.index (same_true _ _ q.is k)))
     ]
 found (empty t f) h n k =
-    let mine = tag_tokens (length h.holders) h.at t in
-    let rest = tokens (length h.holders) (past_empty h.at t) f in
+    let mine = tag_records (length h.holders) h.at t in
+    let rest = forest_records (length h.holders) (past_empty h.at t) f in
     let own = element_entry h t done (past_empty h.at t) ∷ tag_attributes h t in
-    let next = behind h t done (past_empty h.at t) in
+    let next = after_element h t done (past_empty h.at t) in
     elim (in_either mine rest n) [
       | inl q ↦
-          found_by (map (under (child h.number)) own) (nodes h (empty t f)) (h.place + n) (contains_left (map (under (child h.number)) own) (nodes next f))
-          (found_under h.number own (h.place + n) (tag_found h t done (past_empty h.at t) n (tag_attributes h t) (same_true _ _ q.is k)))
+          found_by (map (under (child h.number)) own) (nodes h (empty t f)) (h.index + n) (contains_left (map (under (child h.number)) own) (nodes next f))
+          (found_under h.number own (h.index + n) (tag_found h t done (past_empty h.at t) n (tag_attributes h t) (same_true _ _ q.is k)))
       | inr q ↦
-          found_by (nodes next f) (nodes h (empty t f)) (h.place + n) (contains_right (map (under (child h.number)) own) (nodes next f))
-          (along _ (next.place + q.index) (h.place + n) (omega (arith, q.place)) (found f next q.index (same_true _ _ q.is k)))
+          found_by (nodes next f) (nodes h (empty t f)) (h.index + n) (contains_right (map (under (child h.number)) own) (nodes next f))
+          (along _ (next.index + q.index) (h.index + n) (omega (arith, q.place)) (found f next q.index (same_true _ _ q.is k)))
     ]
 found (element t inside space f) h n k =
-    let mine = tag_tokens (length h.holders) h.at t in
-    let within = tokens (suc (length h.holders)) (past_start h.at t) inside in
+    let mine = tag_records (length h.holders) h.at t in
+    let within = forest_records (suc (length h.holders)) (past_start h.at t) inside in
     let past = past_element h.at t inside space in
-    let rest = tokens (length h.holders) past f in
+    let rest = forest_records (length h.holders) past f in
     let own = element_entry h t inside past ∷ tag_attributes h t in
     let all_own = own ++ nodes (inside_of h t) inside in
-    let next = behind h t inside past in
+    let next = after_element h t inside past in
     elim (in_either (mine ++ within) rest n) [
       | inl q ↦
-          let there : Found all_own (h.place + n) =
+          let there : Found all_own (h.index + n) =
           elim (in_either mine within n) [
-            | inl p ↦ found_by own all_own (h.place + n) (contains_left own (nodes (inside_of h t) inside)) (tag_found h t inside past n (tag_attributes h t) (same_true _ _ p.is (same_true _ _ q.is k)))
+            | inl p ↦ found_by own all_own (h.index + n) (contains_left own (nodes (inside_of h t) inside)) (tag_found h t inside past n (tag_attributes h t) (same_true _ _ p.is (same_true _ _ q.is k)))
             | inr p ↦
-                found_by (nodes (inside_of h t) inside) all_own (h.place + n) (contains_right own (nodes (inside_of h t) inside))
-                (along _ ((inside_of h t).place + p.index) (h.place + n) (omega (arith, p.place)) (found inside (inside_of h t) p.index (same_true _ _ p.is (same_true _ _ q.is k))))
+                found_by (nodes (inside_of h t) inside) all_own (h.index + n) (contains_right own (nodes (inside_of h t) inside))
+                (along _ ((inside_of h t).place + p.index) (h.index + n) (omega (arith, p.place)) (found inside (inside_of h t) p.index (same_true _ _ p.is (same_true _ _ q.is k))))
           ] in
-          found_by (map (under (child h.number)) all_own) (nodes h (element t inside space f)) (h.place + n) (contains_left (map (under (child h.number)) all_own) (nodes next f)) (found_under h.number all_own (h.place + n) there)
+          found_by (map (under (child h.number)) all_own) (nodes h (element t inside space f)) (h.index + n) (contains_left (map (under (child h.number)) all_own) (nodes next f)) (found_under h.number all_own (h.index + n) there)
       | inr q ↦
-          found_by (nodes next f) (nodes h (element t inside space f)) (h.place + n) (contains_right (map (under (child h.number)) all_own) (nodes next f))
-          (along _ (next.place + q.index) (h.place + n) (omega (arith, q.place, length-append mine within)) (found f next q.index (same_true _ _ q.is k)))
+          found_by (nodes next f) (nodes h (element t inside space f)) (h.index + n) (contains_right (map (under (child h.number)) all_own) (nodes next f))
+          (along _ (next.index + q.index) (h.index + n) (omega (arith, q.place, length-append mine within)) (found f next q.index (same_true _ _ q.is k)))
     ]
 
 -- each record of the type 2 or 3 is the name of an attribute
@@ -281,12 +281,12 @@ name_found bytes nest (suc n) h =
         inside = e.inside;
         element = e.element;
         number = e.number;
-        stands = e.stands;
-        place = omega (arith, e.place, twice_is e.number);
+        holds = e.holds;
+        place = omega (arith, e.index, twice_is e.number);
       };
     }
 
--- the value of a declaration stands among the words
+-- the value of a declaration is among the words
 pub declaration_within : (bytes : List ℕ) (lists : Lists) → length bytes < 2 ^ 30 → (at : ℕ) → IsDeclaration bytes lists at → at + 1 < length lists.records
 declaration_within bytes lists few at d =
     let h = name_found bytes d.nest at (ap is_attribute_name d.declaration) in
@@ -305,7 +305,7 @@ declaration_record bytes lists few at d =
 
 -- what a call on the record of a declaration's value gives
 pub declaration_gives : (bytes : List ℕ) (lists : Lists) → length bytes < 2 ^ 30 → (at : ℕ) (result : List ℕ) →
-    ((rs : List Token) → Shows lists.records rs → (cs : List ℕ) → IsResolved bytes Value (record_at (at + 1) rs) cs → result ≡ cs) →
+    ((rs : List Record) → Shows lists.records rs → (cs : List ℕ) → IsResolved bytes Value (record_at (at + 1) rs) cs → result ≡ cs) →
     (nest : Forest) → IsNestOf bytes lists nest → (a : Attribute) → IsNameOf bytes nest at a → result ≡ value_content a.value
 declaration_gives bytes lists few at result f nest s a n =
     f (records nest (first_place bytes)) (nest_shown bytes lists nest few s) (value_content a.value) (name_of_says bytes lists nest s at a n).value

@@ -18,7 +18,7 @@ use Rattle.xml_chars.specs.Readers.{mapped, Gives}
 use Rattle.xml_chars.proofs.NameLaws.{reference_reads}
 use Rattle.vtd_text.specs.declared.token.Rule.{Rule}
 use Rattle.vtd_text.specs.declared.token.Rule.TheVariants.{Text, Literal, Value}
-use Rattle.vtd_text.specs.Tokens.{HasContent, BeginsWith, LeavesRest, is_special, spaced, after_line_feed, may_stand, content_by, begins_reference}
+use Rattle.vtd_text.specs.Tokens.{HasContent, BeginsWith, LeavesRest, is_special, spaced, after_line_feed, may_begin_at, content_by, begins_reference}
 
 abbrev pub shown_by : Rule → Piece → ℕ
 shown_by Value p = char_in_value p
@@ -66,7 +66,7 @@ ampersand (entity n) qs h = record { tail = (n ++ 59 ∷ []) ++ written_pieces q
 ampersand (decimal n) qs h = record { tail = 35 ∷ (n ++ 59 ∷ []) ++ written_pieces qs; is = refl }
 ampersand (hexadecimal n) qs h = record { tail = 35 ∷ 120 ∷ (n ++ 59 ∷ []) ++ written_pieces qs; is = refl }
 
-begins_so : (rule : Rule) (p : Piece) → is_reference p ≡ true → may_stand rule p ≡ true → begins_reference rule 38 ≡ true
+begins_so : (rule : Rule) (p : Piece) → is_reference p ≡ true → may_begin_at rule p ≡ true → begins_reference rule 38 ≡ true
 begins_so Text p h m = refl
 begins_so Value p h m = refl
 begins_so Literal (literal c) h m = absurd (false≢true h)
@@ -78,7 +78,7 @@ begins_so Literal (hexadecimal n) h m = m
 record FirstLiteral (rule : Rule) (ps : List Piece) (c : ℕ) (rest : List ℕ) : Type 0 where
   pub others : List Piece
   pub is : ps ≡ literal c ∷ others
-  pub fit : list_all (may_stand rule) others ≡ true
+  pub fit : list_all (may_begin_at rule) others ≡ true
   pub written : written_pieces others ≡ rest
 
 head_same : (c d : ℕ) (xs ys : List ℕ) → c ∷ xs ≡ d ∷ ys → c ≡ d
@@ -87,18 +87,18 @@ head_same c d xs ys e = cc
 tail_same : (c d : ℕ) (xs ys : List ℕ) → c ∷ xs ≡ d ∷ ys → xs ≡ ys
 tail_same c d xs ys e = cc
 
-no_reference : (rule : Rule) (p : Piece) (qs : List Piece) (c : ℕ) (rest : List ℕ) → is_reference p ≡ true → list_all (may_stand rule) (p ∷ qs) ≡ true → written_pieces (p ∷ qs) ≡ c ∷ rest → begins_reference rule c ≡ false → FirstLiteral rule (p ∷ qs) c rest
+no_reference : (rule : Rule) (p : Piece) (qs : List Piece) (c : ℕ) (rest : List ℕ) → is_reference p ≡ true → list_all (may_begin_at rule) (p ∷ qs) ≡ true → written_pieces (p ∷ qs) ≡ c ∷ rest → begins_reference rule c ≡ false → FirstLiteral rule (p ∷ qs) c rest
 no_reference rule p qs c rest r f w n =
     let a = ampersand p qs r in
     let same : 38 ≡ c = head_same 38 c a.tail rest (sym a.is ∙ w) in
-    absurd (false≢true (sym n ∙ ap (begins_reference rule) (sym same) ∙ begins_so rule p r (and_parts (may_stand rule p) (list_all (may_stand rule) qs) f).0))
+    absurd (false≢true (sym n ∙ ap (begins_reference rule) (sym same) ∙ begins_so rule p r (and_parts (may_begin_at rule p) (list_all (may_begin_at rule) qs) f).0))
 
-first_literal : (rule : Rule) (ps : List Piece) (c : ℕ) (rest : List ℕ) → list_all (may_stand rule) ps ≡ true → written_pieces ps ≡ c ∷ rest → begins_reference rule c ≡ false → FirstLiteral rule ps c rest
+first_literal : (rule : Rule) (ps : List Piece) (c : ℕ) (rest : List ℕ) → list_all (may_begin_at rule) ps ≡ true → written_pieces ps ≡ c ∷ rest → begins_reference rule c ≡ false → FirstLiteral rule ps c rest
 first_literal rule [] c rest f w n = absurd cc
 first_literal rule (literal d ∷ qs) c rest f w n = record {
   others = qs;
   is = ap (λ (x : ℕ). literal x ∷ qs) (head_same d c (written_pieces qs) rest w);
-  fit = (and_parts (may_stand rule (literal d)) (list_all (may_stand rule) qs) f).1;
+  fit = (and_parts (may_begin_at rule (literal d)) (list_all (may_begin_at rule) qs) f).1;
   written = tail_same d c (written_pieces qs) rest w;
 }
 first_literal rule (entity m ∷ qs) c rest f w n = no_reference rule (entity m) qs c rest refl f w n
@@ -126,13 +126,13 @@ plain_first rule cs content c rest e n k h =
       rest = record { pieces = f.others; fit = f.fit; written = f.written; resolved = refl };
     }
 
--- a carriage return, and what is left behind the line end
-behind_return : (rule : Rule) (ps : List Piece) → list_all (may_stand rule) ps ≡ true → BeginsWith rule (content_by rule (literal 13 ∷ ps)) (spaced rule 10) (after_line_feed (written_pieces ps))
-behind_return rule [] f = record { tail = content_by rule []; whole = first_return rule [] refl; rest = record { pieces = []; fit = refl; written = refl; resolved = refl } }
-behind_return rule (literal d ∷ ps) f = elim (cases_Bool (d == 10)) [
+-- a carriage return, and what is left after the line end
+after_return : (rule : Rule) (ps : List Piece) → list_all (may_begin_at rule) ps ≡ true → BeginsWith rule (content_by rule (literal 13 ∷ ps)) (spaced rule 10) (after_line_feed (written_pieces ps))
+after_return rule [] f = record { tail = content_by rule []; whole = first_return rule [] refl; rest = record { pieces = []; fit = refl; written = refl; resolved = refl } }
+after_return rule (literal d ∷ ps) f = elim (cases_Bool (d == 10)) [
   | inl t ↦
       let is : d ≡ 10 = eqb-true d 10 t in
-      let fit : list_all (may_stand rule) ps ≡ true = (and_parts (may_stand rule (literal d)) (list_all (may_stand rule) ps) f).1 in
+      let fit : list_all (may_begin_at rule) ps ≡ true = (and_parts (may_begin_at rule (literal d)) (list_all (may_begin_at rule) ps) f).1 in
       record {
         tail = content_by rule ps;
         whole = ap (λ (x : ℕ). content_by rule (literal 13 ∷ literal x ∷ ps)) is ∙ first_both rule ps;
@@ -144,9 +144,9 @@ behind_return rule (literal d ∷ ps) f = elim (cases_Bool (d == 10)) [
     rest = record { pieces = literal d ∷ ps; fit = f; written = rw n refl; resolved = refl };
   }
 ]
-behind_return rule (entity m ∷ ps) f = record { tail = content_by rule (entity m ∷ ps); whole = first_return rule (entity m ∷ ps) refl; rest = record { pieces = entity m ∷ ps; fit = f; written = refl; resolved = refl } }
-behind_return rule (decimal m ∷ ps) f = record { tail = content_by rule (decimal m ∷ ps); whole = first_return rule (decimal m ∷ ps) refl; rest = record { pieces = decimal m ∷ ps; fit = f; written = refl; resolved = refl } }
-behind_return rule (hexadecimal m ∷ ps) f = record { tail = content_by rule (hexadecimal m ∷ ps); whole = first_return rule (hexadecimal m ∷ ps) refl; rest = record { pieces = hexadecimal m ∷ ps; fit = f; written = refl; resolved = refl } }
+after_return rule (entity m ∷ ps) f = record { tail = content_by rule (entity m ∷ ps); whole = first_return rule (entity m ∷ ps) refl; rest = record { pieces = entity m ∷ ps; fit = f; written = refl; resolved = refl } }
+after_return rule (decimal m ∷ ps) f = record { tail = content_by rule (decimal m ∷ ps); whole = first_return rule (decimal m ∷ ps) refl; rest = record { pieces = decimal m ∷ ps; fit = f; written = refl; resolved = refl } }
+after_return rule (hexadecimal m ∷ ps) f = record { tail = content_by rule (hexadecimal m ∷ ps); whole = first_return rule (hexadecimal m ∷ ps) refl; rest = record { pieces = hexadecimal m ∷ ps; fit = f; written = refl; resolved = refl } }
 
 no_ampersand : (rule : Rule) → begins_reference rule 13 ≡ false
 no_ampersand Text = refl
@@ -156,7 +156,7 @@ no_ampersand Value = refl
 pub return_first : (rule : Rule) (cs content rest : List ℕ) → cs ≡ 13 ∷ rest → HasContent rule cs content → BeginsWith rule content (spaced rule 10) (after_line_feed rest)
 return_first rule cs content rest e h =
     let f = first_literal rule h.pieces 13 rest h.fit (h.written ∙ e) (no_ampersand rule) in
-    let b = behind_return rule f.others f.fit in
+    let b = after_return rule f.others f.fit in
     record {
       tail = b.tail;
       whole = sym h.resolved ∙ ap (content_by rule) f.is ∙ b.whole;
@@ -170,27 +170,27 @@ record FirstReference (rule : Rule) (ps : List Piece) : Type 0 where
   pub is : ps ≡ piece ∷ others
   pub refers : is_reference piece ≡ true
   pub meets : meets_piece (λ c. false) piece ≡ true
-  pub fit : list_all (may_stand rule) others ≡ true
+  pub fit : list_all (may_begin_at rule) others ≡ true
 
-may_meet : (rule : Rule) (p : Piece) → begins_reference rule 38 ≡ true → may_stand rule p ≡ true → meets_piece (λ c. false) p ≡ true
+may_meet : (rule : Rule) (p : Piece) → begins_reference rule 38 ≡ true → may_begin_at rule p ≡ true → meets_piece (λ c. false) p ≡ true
 may_meet Text p b m = m
 may_meet Value p b m = m
 may_meet Literal p b m = absurd (false≢true b)
 
-with_reference : (rule : Rule) (p : Piece) (qs : List Piece) → is_reference p ≡ true → list_all (may_stand rule) (p ∷ qs) ≡ true → begins_reference rule 38 ≡ true → FirstReference rule (p ∷ qs)
+with_reference : (rule : Rule) (p : Piece) (qs : List Piece) → is_reference p ≡ true → list_all (may_begin_at rule) (p ∷ qs) ≡ true → begins_reference rule 38 ≡ true → FirstReference rule (p ∷ qs)
 with_reference rule p qs r f b =
-    let q = and_parts (may_stand rule p) (list_all (may_stand rule) qs) f in
+    let q = and_parts (may_begin_at rule p) (list_all (may_begin_at rule) qs) f in
     record { piece = p; others = qs; is = refl; refers = r; meets = may_meet rule p b q.0; fit = q.1 }
 
 no_38 : meets_piece (λ c. false) (literal 38) ≡ false
 unfolding Rattle.xml_model.specs.Chars.is_char Rattle.xml_model.specs.Chars.in_ranges
 no_38 = refl
 
-first_reference : (rule : Rule) (ps : List Piece) (rest : List ℕ) → list_all (may_stand rule) ps ≡ true → written_pieces ps ≡ 38 ∷ rest → begins_reference rule 38 ≡ true → FirstReference rule ps
+first_reference : (rule : Rule) (ps : List Piece) (rest : List ℕ) → list_all (may_begin_at rule) ps ≡ true → written_pieces ps ≡ 38 ∷ rest → begins_reference rule 38 ≡ true → FirstReference rule ps
 first_reference rule [] rest f w b = absurd cc
 first_reference rule (literal d ∷ qs) rest f w b =
     let is : d ≡ 38 = head_same d 38 (written_pieces qs) rest w in
-    let m : meets_piece (λ c. false) (literal d) ≡ true = may_meet rule (literal d) b (and_parts (may_stand rule (literal d)) (list_all (may_stand rule) qs) f).0 in
+    let m : meets_piece (λ c. false) (literal d) ≡ true = may_meet rule (literal d) b (and_parts (may_begin_at rule (literal d)) (list_all (may_begin_at rule) qs) f).0 in
     absurd (false≢true (sym no_38 ∙ ap (λ (x : ℕ). meets_piece (λ c. false) (literal x)) (sym is) ∙ m))
 first_reference rule (entity m ∷ qs) rest f w b = with_reference rule (entity m) qs refl f b
 first_reference rule (decimal m ∷ qs) rest f w b = with_reference rule (decimal m) qs refl f b
@@ -271,13 +271,13 @@ plain_char Value c h =
     let q = or_no (c == 9 || c == 10) (c == 13) (ap not p.0) in
     record { begins = p.1; return = q.1; itself = ap (λ (b : Bool). cond b 32 c) q.0 }
 
-pub plain_front : (rule : Rule) (front rest cs content : List ℕ) → cs ≡ front ++ rest → list_all (λ c. not (is_special rule c)) front ≡ true → HasContent rule cs content → LeavesRest rule content front rest
-plain_front rule [] rest cs content e p h = record { tail = content; whole = refl; rest = subst (λ (l : List ℕ). HasContent rule l content) e h }
-plain_front rule (c ∷ front) rest cs content e p h =
-    let q = and_parts (not (is_special rule c)) (list_all (λ c. not (is_special rule c)) front) p in
+pub plain_prefix : (rule : Rule) (prefix rest cs content : List ℕ) → cs ≡ prefix ++ rest → list_all (λ c. not (is_special rule c)) prefix ≡ true → HasContent rule cs content → LeavesRest rule content prefix rest
+plain_prefix rule [] rest cs content e p h = record { tail = content; whole = refl; rest = subst (λ (l : List ℕ). HasContent rule l content) e h }
+plain_prefix rule (c ∷ prefix) rest cs content e p h =
+    let q = and_parts (not (is_special rule c)) (list_all (λ c. not (is_special rule c)) prefix) p in
     let k = plain_char rule c q.0 in
-    let b = plain_first rule cs content c (front ++ rest) e k.begins k.return h in
-    let so = plain_front rule front rest (front ++ rest) b.tail refl q.1 b.rest in
+    let b = plain_first rule cs content c (prefix ++ rest) e k.begins k.return h in
+    let so = plain_prefix rule prefix rest (prefix ++ rest) b.tail refl q.1 b.rest in
     record {
       tail = so.tail;
       whole = b.whole ∙ ap (λ (x : ℕ). x ∷ b.tail) k.itself ∙ ap (λ (l : List ℕ). c ∷ l) so.whole;
@@ -307,7 +307,7 @@ prefix_passes p (c ∷ cs) = elim (cases_Bool (p c)) [
   | inr f ↦ rw f refl
 ]
 
--- the longest front whose bytes stand for themselves, and what follows it
+-- the longest prefix whose bytes stand for themselves, and what follows it
 pub record PlainSplit (rule : Rule) (bs : List ℕ) (n : ℕ) : Type 0 where
   pub boundary : IsCharBoundary bs n
   pub content : (cs : List ℕ) → HasContent rule (chars bs) cs → LeavesRest rule cs (chars (take n bs)) (chars (drop n bs))
@@ -320,7 +320,7 @@ plain_split rule bs hay n e u is =
     record {
       boundary = s.boundary;
       content = λ cs h.
-          subst (λ (l : List ℕ). LeavesRest rule cs l (chars (drop n bs))) (sym s.front)
+          subst (λ (l : List ℕ). LeavesRest rule cs l (chars (drop n bs))) (sym s.prefix)
           (subst (λ (l : List ℕ). LeavesRest rule cs (take m (chars bs)) l) (sym s.back)
-          (plain_front rule (take m (chars bs)) (drop m (chars bs)) (chars bs) cs (sym (take-append-drop m (chars bs))) (prefix_passes p (chars bs)) h));
+          (plain_prefix rule (take m (chars bs)) (drop m (chars bs)) (chars bs) cs (sym (take-append-drop m (chars bs))) (prefix_passes p (chars bs)) h));
     }

@@ -1,4 +1,4 @@
--- Comparing texts front by front.
+-- Comparing texts prefix by prefix.
 use Rattle.std.proofs.Common.{◌≡◌, ℕ, true, false, List, [], ◌∷◌, ◌++◌, length, drop, refl, sym, ap, ◌∙◌, arith}
 use Rattle.std.specs.Prelude.{nat_eq, Option, Some, None, MatchOption}
 use denote.Bor.{Bor}
@@ -10,28 +10,28 @@ use Rattle.std.proofs.lemmas.Slice.Eq.{bytes_eq-Decides}
 use Rattle.std.proofs.lemmas.Str.{chars-nil, encodes-chars, scalars-chars, chars_from_encodes, IsCharBoundary-at_seam}
 use Rattle.xml_model.specs.Chars.{begins}
 use Rattle.xml_chars.proofs.Readers.{begins_split}
-use Rattle.xml_chars.proofs.StandLemmas.{encodes_front, stands_front}
+use Rattle.xml_chars.proofs.HoldLemmas.{encodes_prefix, holds_prefix}
 use Rattle.xml_chars.proofs.Points.{first_of}
 use Rattle.xml_chars.proofs.TextLemmas.{pointwise-begins}
-use Rattle.vtd_text.proofs.Standing.{scalars_back}
+use Rattle.vtd_text.proofs.Holding.{scalars_back}
 
-pub same_front : (a x y : List ℕ) → bytes_eq (a ++ x) (a ++ y) ≡ bytes_eq x y
-same_front [] x y = refl
-same_front (c ∷ a) x y = rw (eq-eqb c c refl) (same_front a x y)
+pub same_prefix : (a x y : List ℕ) → bytes_eq (a ++ x) (a ++ y) ≡ bytes_eq x y
+same_prefix [] x y = refl
+same_prefix (c ∷ a) x y = rw (eq-eqb c c refl) (same_prefix a x y)
 
-pub other_front : (front x y : List ℕ) → ((rest : List ℕ) → y ≡ front ++ rest → ⊥) → bytes_eq (front ++ x) y ≡ false
-other_front front x y f = false_from_ne_true _ (λ t. f x (sym ((bytes_eq-Decides (front ++ x) y).0 t)))
+pub other_prefix : (prefix x y : List ℕ) → ((rest : List ℕ) → y ≡ prefix ++ rest → ⊥) → bytes_eq (prefix ++ x) y ≡ false
+other_prefix prefix x y f = false_from_ne_true _ (λ t. f x (sym ((bytes_eq-Decides (prefix ++ x) y).0 t)))
 
 -- a text that begins with another one
-pub record Front (bs w : List ℕ) : Type 0 where
+pub record Prefix (bs w : List ℕ) : Type 0 where
   pub boundary : IsCharBoundary bs (length w)
   pub points : chars bs ≡ chars w ++ chars (drop (length w) bs)
 
-pub front_of : (bs w : List ℕ) → IsUtf8 bs → IsUtf8 w → starts_with nat_eq bs w ≡ true → Front bs w
-front_of bs w u v t =
+pub prefix_of : (bs w : List ℕ) → IsUtf8 bs → IsUtf8 w → starts_with nat_eq bs w ≡ true → Prefix bs w
+prefix_of bs w u v t =
     let split : bs ≡ w ++ drop (length w) bs = begins_split w bs (sym (pointwise-begins w bs) ∙ t) in
     let coded : encodes (chars bs) ≡ encodes (chars w) ++ drop (length w) bs = encodes-chars bs u ∙ split ∙ ap (λ (l : List ℕ). l ++ drop (length w) bs) (sym (encodes-chars w v)) in
-    let f = encodes_front (chars w) (chars bs) (drop (length w) bs) coded in
+    let f = encodes_prefix (chars w) (chars bs) (drop (length w) bs) coded in
     let good : scalars f.0 ≡ true = scalars_back (chars w) f.0 (ap scalars (sym f.1) ∙ scalars-chars bs u) in
     let rest : IsUtf8 (drop (length w) bs) = (f.0, (good, f.2)) in
     record {
@@ -39,9 +39,9 @@ front_of bs w u v t =
       points = f.1 ∙ ap (λ (l : List ℕ). chars w ++ l) (chars_from_encodes f.0 (drop (length w) bs) rest f.2);
     }
 
-pub no_front : (bs w : List ℕ) → IsUtf8 bs → IsUtf8 w → starts_with nat_eq bs w ≡ false → (rest : List ℕ) → chars bs ≡ chars w ++ rest → ⊥
-no_front bs w u v f rest e =
-    let b : begins (encodes (chars w)) bs ≡ true = stands_front bs (chars w) rest u e in
+pub no_prefix : (bs w : List ℕ) → IsUtf8 bs → IsUtf8 w → starts_with nat_eq bs w ≡ false → (rest : List ℕ) → chars bs ≡ chars w ++ rest → ⊥
+no_prefix bs w u v f rest e =
+    let b : begins (encodes (chars w)) bs ≡ true = holds_prefix bs (chars w) rest u e in
     false≢true (sym f ∙ pointwise-begins w bs ∙ ap (λ (l : List ℕ). begins l bs) (sym (encodes-chars w v)) ∙ b)
 
 cons_tail : (c d : ℕ) (xs ys : List ℕ) → c ∷ xs ≡ d ∷ ys → xs ≡ ys
@@ -50,32 +50,32 @@ cons_tail c d xs ys e = cc
 cons_head : (c d : ℕ) (xs ys : List ℕ) → c ∷ xs ≡ d ∷ ys → c ≡ d
 cons_head c d xs ys e = cc
 
--- a character, and then a front
-pub char_front : (text rest front : List ℕ) (c : ℕ) (o : Option (Bor (List ℕ))) → text ≡ c ∷ rest → MatchOption o ((r : List ℕ) → rest ≡ front ++ r → ⊥) (λ r. rest ≡ front ++ chars r.now) →
-    MatchOption o ((r : List ℕ) → text ≡ c ∷ (front ++ r) → ⊥) (λ r. text ≡ c ∷ (front ++ chars r.now))
-char_front text rest front c None e h = λ r k. h r (cons_tail c c rest (front ++ r) (sym e ∙ k))
-char_front text rest front c (Some x) e h = e ∙ ap (λ (l : List ℕ). c ∷ l) h
+-- a character, and then a prefix
+pub char_prefix : (text rest prefix : List ℕ) (c : ℕ) (o : Option (Bor (List ℕ))) → text ≡ c ∷ rest → MatchOption o ((r : List ℕ) → rest ≡ prefix ++ r → ⊥) (λ r. rest ≡ prefix ++ chars r.now) →
+    MatchOption o ((r : List ℕ) → text ≡ c ∷ (prefix ++ r) → ⊥) (λ r. text ≡ c ∷ (prefix ++ chars r.now))
+char_prefix text rest prefix c None e h = λ r k. h r (cons_tail c c rest (prefix ++ r) (sym e ∙ k))
+char_prefix text rest prefix c (Some x) e h = e ∙ ap (λ (l : List ℕ). c ∷ l) h
 
-pub other_char : (text rest front : List ℕ) (first c : ℕ) → text ≡ first ∷ rest → (first ≡ c → ⊥) → (r : List ℕ) → text ≡ c ∷ (front ++ r) → ⊥
-other_char text rest front first c e n r k = n (cons_head first c rest (front ++ r) (sym e ∙ k))
+pub other_char : (text rest prefix : List ℕ) (first c : ℕ) → text ≡ first ∷ rest → (first ≡ c → ⊥) → (r : List ℕ) → text ≡ c ∷ (prefix ++ r) → ⊥
+other_char text rest prefix first c e n r k = n (cons_head first c rest (prefix ++ r) (sym e ∙ k))
 
-pub no_char : (text front : List ℕ) (c : ℕ) → text ≡ [] → (r : List ℕ) → text ≡ c ∷ (front ++ r) → ⊥
-no_char text front c e r k = absurd (let n : [] ≡ c ∷ (front ++ r) = sym e ∙ k in cc)
+pub no_char : (text prefix : List ℕ) (c : ℕ) → text ≡ [] → (r : List ℕ) → text ≡ c ∷ (prefix ++ r) → ⊥
+no_char text prefix c e r k = absurd (let n : [] ≡ c ∷ (prefix ++ r) = sym e ∙ k in cc)
 
 -- ---- the steps of a comparison
 
 -- what is left on both sides
-pub begin_same : (one front left text rest : List ℕ) → one ≡ front ++ left → text ≡ front ++ rest → bytes_eq one text ≡ bytes_eq left rest
-begin_same one front left text rest e f = rw (e, f) (same_front front left rest)
+pub begin_same : (one prefix left text rest : List ℕ) → one ≡ prefix ++ left → text ≡ prefix ++ rest → bytes_eq one text ≡ bytes_eq left rest
+begin_same one prefix left text rest e f = rw (e, f) (same_prefix prefix left rest)
 
-pub begin_other : (one front left text : List ℕ) → one ≡ front ++ left → ((r : List ℕ) → text ≡ front ++ r → ⊥) → bytes_eq one text ≡ false
-begin_other one front left text e f = rw e (other_front front left text f)
+pub begin_other : (one prefix left text : List ℕ) → one ≡ prefix ++ left → ((r : List ℕ) → text ≡ prefix ++ r → ⊥) → bytes_eq one text ≡ false
+begin_other one prefix left text e f = rw e (other_prefix prefix left text f)
 
-pub go_on : (one next front left rest behind : List ℕ) (c : ℕ) → one ≡ c ∷ next → next ≡ front ++ left → rest ≡ c ∷ (front ++ behind) → bytes_eq one rest ≡ bytes_eq left behind
-go_on one next front left rest behind c e f g = begin_same one (c ∷ front) left rest behind (e ∙ ap (λ (l : List ℕ). c ∷ l) f) g
+pub go_on : (one next prefix left rest after : List ℕ) (c : ℕ) → one ≡ c ∷ next → next ≡ prefix ++ left → rest ≡ c ∷ (prefix ++ after) → bytes_eq one rest ≡ bytes_eq left after
+go_on one next prefix left rest after c e f g = begin_same one (c ∷ prefix) left rest after (e ∙ ap (λ (l : List ℕ). c ∷ l) f) g
 
-pub stop_here : (one next front left rest : List ℕ) (c : ℕ) → one ≡ c ∷ next → next ≡ front ++ left → ((r : List ℕ) → rest ≡ c ∷ (front ++ r) → ⊥) → bytes_eq one rest ≡ false
-stop_here one next front left rest c e f g = begin_other one (c ∷ front) left rest (e ∙ ap (λ (l : List ℕ). c ∷ l) f) g
+pub stop_here : (one next prefix left rest : List ℕ) (c : ℕ) → one ≡ c ∷ next → next ≡ prefix ++ left → ((r : List ℕ) → rest ≡ c ∷ (prefix ++ r) → ⊥) → bytes_eq one rest ≡ false
+stop_here one next prefix left rest c e f g = begin_other one (c ∷ prefix) left rest (e ∙ ap (λ (l : List ℕ). c ∷ l) f) g
 
 pub end_same : (one rest : List ℕ) → IsUtf8 rest → one ≡ [] → nat_eq (length rest) 0 ≡ bytes_eq one (chars rest)
 end_same one [] u e = rw (e, chars-nil) refl

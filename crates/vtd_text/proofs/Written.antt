@@ -1,4 +1,4 @@
--- The pieces of a nest where they stand in the bytes, and what the nodes' records say.
+-- The pieces of a nest where they are in the bytes, and what the nodes' records say.
 use Rattle.std.proofs.Common.{◌≡◌, ℕ, suc, ◌+◌, Bool, true, not, ◌==◌, List, [], ◌∷◌, ◌++◌, length, map, refl, sym, ap, ◌∙◌, append_assoc, append-nil, IfSome}
 use Rattle.std.specs.List.{AllByRecursion as Each, flat_map}
 use Rattle.std.specs.Str.{IsUtf8}
@@ -6,8 +6,8 @@ use Rattle.std.proofs.lemmas.Bool.{and_parts, false≢true}
 use Rattle.xml_model.specs.Chars.{size}
 use Rattle.xml_model.specs.Items.{Attribute, Tag, Leaf, Item, leaf, start_tag, empty_tag, end_tag, meets, meets_leaf, meets_tag, written, written_leaf, written_tag, written_pieces, written_attribute, before_value, spelling, begins_at, walk, walk_from, walk_to_end, end_of_items, first_place}
 use Rattle.xml_model.specs.Nest.{Forest, done, single, empty, element, flat}
-use Rattle.xml_model.specs.Records.{declares, plain, document, records, attributes_place, depth_at, leaf_tokens, run_tokens, tag_tokens, tokens, past_leaf, past_empty, past_start, past_element, past_forest}
-use Rattle.xml_model.specs.Tree.{Thing, Entry, child, Holder, Here, under, attributes, attribute_entry, tag_attributes, element_entry, leaf_node, text_node, begins_run, run, after_leaf, inside_of, behind, nodes, at_first, all, one_if}
+use Rattle.xml_model.specs.Records.{declares, plain, document, records, attributes_place, depth_at, leaf_records, run_records, tag_records, forest_records, past_leaf, past_empty, past_start, past_element, past_forest}
+use Rattle.xml_model.specs.Tree.{Thing, Entry, child, Holder, Here, under, attributes, attribute_entry, tag_attributes, element_entry, leaf_node, text_node, begins_run, run, after_leaf, inside_of, after_element, nodes, at_first, all, one_if}
 use Rattle.xml_model.specs.Content.{value_content, literal_content, leaf_content, inner_content, top_content}
 use Rattle.xml_model.specs.Accepted.{IsDocument}
 use Rattle.xml_model.specs.Laws.{records_of}
@@ -17,45 +17,45 @@ use Rattle.xml_model.proofs.Proper.{document_proper}
 use Rattle.vtd_text.specs.declared.token.Rule.TheVariants.{Literal, Value}
 use Rattle.vtd_text.specs.Joined.{Joined}
 use Rattle.vtd_text.specs.Resolved.{IsResolved}
-use Rattle.vtd_text.proofs.Standing.{StandsAt, ItemStands, item_stands, stands_left, stands_past, first_stands}
+use Rattle.vtd_text.proofs.Holding.{HasNameRecord, ItemHolds, item_holds, holds_left, holds_past, first_holds}
 use Rattle.vtd_text.proofs.Leaves.{WrittenIs, LeafIs, text_is, cdata_is, ValuesAre, Fine, joined_append, silent_joined, leaf_joined, outside_joined, comment_resolved, instruction_resolved, tag_values, tag_silent, silent_fine, leaf_fine}
 
--- a tag that stands at a place
-pub record TagStands (bytes : List ℕ) (at : ℕ) (t : Tag) : Type 0 where
+-- a tag that is at a place
+pub record IsTagRecord (bytes : List ℕ) (at : ℕ) (t : Tag) : Type 0 where
   pub meet : meets_tag t ≡ true
-  pub stands : StandsAt bytes at (written_tag t)
+  pub holds : HasNameRecord bytes at (written_tag t)
 
--- a leaf that stands at a place
-pub record LeafStands (bytes : List ℕ) (at : ℕ) (x : Leaf) : Type 0 where
+-- a leaf that is at a place
+pub record LeafHolds (bytes : List ℕ) (at : ℕ) (x : Leaf) : Type 0 where
   pub meet : meets_leaf x ≡ true
-  pub stands : StandsAt bytes at (written_leaf x)
+  pub holds : HasNameRecord bytes at (written_leaf x)
 
--- each leaf and each tag of a list of pieces stands in its place
+-- each leaf and each tag of a list of pieces is in its place
 abbrev pub Written : List ℕ → ℕ → Forest → Type 0
 Written bytes at done = Unit {0}
-Written bytes at (single x f) = LeafStands bytes at x × Written bytes (past_leaf at x) f
-Written bytes at (empty t f) = TagStands bytes at t × Written bytes (past_empty at t) f
-Written bytes at (element t inside space f) = TagStands bytes at t × Written bytes (past_start at t) inside × Written bytes (past_element at t inside space) f
+Written bytes at (single x f) = LeafHolds bytes at x × Written bytes (past_leaf at x) f
+Written bytes at (empty t f) = IsTagRecord bytes at t × Written bytes (past_empty at t) f
+Written bytes at (element t inside space f) = IsTagRecord bytes at t × Written bytes (past_start at t) inside × Written bytes (past_element at t inside space) f
 
--- what a walk over the items of a list of pieces, and over others behind them, says
+-- what a walk over the items of a list of pieces, and over others after them, says
 record Walked (bytes : List ℕ) (at : ℕ) (f : Forest) (rest : List Item) : Type 0 where
   pub pieces : Written bytes at f
   pub others : walk_from bytes (past_forest at f) rest ≡ true
-  pub past : StandsAt bytes (past_forest at f) []
+  pub past : HasNameRecord bytes (past_forest at f) []
 
--- an item, and those behind it
+-- an item, and those after it
 record Step (bytes : List ℕ) (at : ℕ) (i : Item) (rest : List Item) : Type 0 where
   pub meet : meets i ≡ true
-  pub stands : StandsAt bytes at (written i)
-  pub past : StandsAt bytes (at + size (written i)) []
+  pub holds : HasNameRecord bytes at (written i)
+  pub past : HasNameRecord bytes (at + size (written i)) []
   pub others : walk_from bytes (at + size (written i)) rest ≡ true
 
-step_of : (bytes : List ℕ) (at : ℕ) (i : Item) (rest : List Item) → StandsAt bytes at [] → walk_from bytes at (i ∷ rest) ≡ true → Step bytes at i rest
+step_of : (bytes : List ℕ) (at : ℕ) (i : Item) (rest : List Item) → HasNameRecord bytes at [] → walk_from bytes at (i ∷ rest) ≡ true → Step bytes at i rest
 unfolding spelling size
 step_of bytes at i rest s w =
     let p = and_parts (begins_at bytes at i) (walk_from bytes (at + length (spelling i)) rest) w in
-    let k : ItemStands bytes at i = item_stands bytes at i s p.0 in
-    record { meet = k.meet; stands = k.stands; past = stands_past bytes at (written i) k.stands; others = p.1 }
+    let k : ItemHolds bytes at i = item_holds bytes at i s p.0 in
+    record { meet = k.meet; holds = k.holds; past = holds_past bytes at (written i) k.holds; others = p.1 }
 
 leaf_meets : (x : Leaf) → meets (leaf x) ≡ true → meets_leaf x ≡ true
 unfolding meets
@@ -69,25 +69,25 @@ empty_meets : (t : Tag) → meets (empty_tag t) ≡ true → meets_tag t ≡ tru
 unfolding meets
 empty_meets t h = h
 
-walked : (bytes : List ℕ) (f : Forest) (rest : List Item) (at : ℕ) → StandsAt bytes at [] → walk_from bytes at (flat f ++ rest) ≡ true → Walked bytes at f rest
+walked : (bytes : List ℕ) (f : Forest) (rest : List Item) (at : ℕ) → HasNameRecord bytes at [] → walk_from bytes at (flat f ++ rest) ≡ true → Walked bytes at f rest
 unfolding flat
 walked bytes done rest at s w = record { pieces = tt; others = w; past = s }
 walked bytes (single x f) rest at s w =
     let one = step_of bytes at (leaf x) (flat f ++ rest) s w in
     let so = walked bytes f rest (past_leaf at x) one.past one.others in
-    record { pieces = (record { meet = leaf_meets x one.meet; stands = one.stands }, so.pieces); others = so.others; past = so.past }
+    record { pieces = (record { meet = leaf_meets x one.meet; holds = one.holds }, so.pieces); others = so.others; past = so.past }
 walked bytes (empty t f) rest at s w =
     let one = step_of bytes at (empty_tag t) (flat f ++ rest) s w in
     let so = walked bytes f rest (past_empty at t) one.past one.others in
-    record { pieces = (record { meet = empty_meets t one.meet; stands = stands_left bytes at (written_tag t) _ one.stands }, so.pieces); others = so.others; past = so.past }
+    record { pieces = (record { meet = empty_meets t one.meet; holds = holds_left bytes at (written_tag t) _ one.holds }, so.pieces); others = so.others; past = so.past }
 walked bytes (element t inside space f) rest at s w =
-    let behind : List Item = end_tag t.name space ∷ (flat f ++ rest) in
-    let one = step_of bytes at (start_tag t) (flat inside ++ behind) s (ap (λ (l : List Item). walk_from bytes at (start_tag t ∷ l)) (sym (append_assoc (flat inside) (end_tag t.name space ∷ flat f) rest)) ∙ w) in
-    let within = walked bytes inside behind (past_start at t) one.past one.others in
+    let after_element : List Item = end_tag t.name space ∷ (flat f ++ rest) in
+    let one = step_of bytes at (start_tag t) (flat inside ++ after_element) s (ap (λ (l : List Item). walk_from bytes at (start_tag t ∷ l)) (sym (append_assoc (flat inside) (end_tag t.name space ∷ flat f) rest)) ∙ w) in
+    let within = walked bytes inside after_element (past_start at t) one.past one.others in
     let end = step_of bytes (past_forest (past_start at t) inside) (end_tag t.name space) (flat f ++ rest) within.past within.others in
     let so = walked bytes f rest (past_element at t inside space) end.past end.others in
     record {
-      pieces = (record { meet = start_meets t one.meet; stands = stands_left bytes at (written_tag t) _ one.stands }, within.pieces, so.pieces);
+      pieces = (record { meet = start_meets t one.meet; holds = holds_left bytes at (written_tag t) _ one.holds }, within.pieces, so.pieces);
       others = so.others;
       past = so.past;
     }
@@ -97,38 +97,38 @@ unfolding walk walk_to_end
 written_nest bytes nest u d =
     let p = and_parts (walk bytes (flat nest)) (end_of_items (first_place bytes) (flat nest) == length bytes) d.walked in
     let w : walk_from bytes (first_place bytes) (flat nest ++ []) ≡ true = ap (walk_from bytes (first_place bytes)) (append-nil (flat nest)) ∙ p.0 in
-    (walked bytes nest [] (first_place bytes) (first_stands bytes u) w).pieces
+    (walked bytes nest [] (first_place bytes) (first_holds bytes u) w).pieces
 
 -- ---- the content of lists of pieces
 
-tag_joined : (bytes : List ℕ) (l at : ℕ) (t : Tag) → Joined bytes (tag_tokens l at t) []
-tag_joined bytes l at t = silent_joined bytes (tag_tokens l at t) (tag_silent l at t)
+tag_joined : (bytes : List ℕ) (l at : ℕ) (t : Tag) → Joined bytes (tag_records l at t) []
+tag_joined bytes l at t = silent_joined bytes (tag_records l at t) (tag_silent l at t)
 
-pub forest_joined : (bytes : List ℕ) (f : Forest) (d at : ℕ) → Written bytes at f → Joined bytes (tokens (suc d) at f) (inner_content f)
+pub forest_joined : (bytes : List ℕ) (f : Forest) (d at : ℕ) → Written bytes at f → Joined bytes (forest_records (suc d) at f) (inner_content f)
 forest_joined bytes done d at w = refl
-forest_joined bytes (single x f) d at w = joined_append bytes (leaf_tokens (suc d) at x) _ (leaf_content x) _ (leaf_joined bytes x d at w.0.meet w.0.stands) (forest_joined bytes f d (past_leaf at x) w.1)
-forest_joined bytes (empty t f) d at w = joined_append bytes (tag_tokens (suc d) at t) _ [] _ (tag_joined bytes (suc d) at t) (forest_joined bytes f d (past_empty at t) w.1)
+forest_joined bytes (single x f) d at w = joined_append bytes (leaf_records (suc d) at x) _ (leaf_content x) _ (leaf_joined bytes x d at w.0.meet w.0.holds) (forest_joined bytes f d (past_leaf at x) w.1)
+forest_joined bytes (empty t f) d at w = joined_append bytes (tag_records (suc d) at t) _ [] _ (tag_joined bytes (suc d) at t) (forest_joined bytes f d (past_empty at t) w.1)
 forest_joined bytes (element t inside space f) d at w =
-    joined_append bytes (tag_tokens (suc d) at t ++ tokens (suc (suc d)) (past_start at t) inside) _ (inner_content inside) _
-    (joined_append bytes (tag_tokens (suc d) at t) _ [] _ (tag_joined bytes (suc d) at t) (forest_joined bytes inside (suc d) (past_start at t) w.1))
+    joined_append bytes (tag_records (suc d) at t ++ forest_records (suc (suc d)) (past_start at t) inside) _ (inner_content inside) _
+    (joined_append bytes (tag_records (suc d) at t) _ [] _ (tag_joined bytes (suc d) at t) (forest_joined bytes inside (suc d) (past_start at t) w.1))
     (forest_joined bytes f d (past_element at t inside space) w.2)
 
-pub top_joined : (bytes : List ℕ) (f : Forest) (at : ℕ) → Proper 0 f → Written bytes at f → Joined bytes (tokens 0 at f) (top_content f)
+pub top_joined : (bytes : List ℕ) (f : Forest) (at : ℕ) → Proper 0 f → Written bytes at f → Joined bytes (forest_records 0 at f) (top_content f)
 top_joined bytes done at p w = refl
-top_joined bytes (single x f) at p w = joined_append bytes (leaf_tokens 0 at x) _ [] _ (outside_joined bytes x at p.0) (top_joined bytes f (past_leaf at x) p.1 w.1)
-top_joined bytes (empty t f) at p w = joined_append bytes (tag_tokens 0 at t) _ [] _ (tag_joined bytes 0 at t) (top_joined bytes f (past_empty at t) p w.1)
+top_joined bytes (single x f) at p w = joined_append bytes (leaf_records 0 at x) _ [] _ (outside_joined bytes x at p.0) (top_joined bytes f (past_leaf at x) p.1 w.1)
+top_joined bytes (empty t f) at p w = joined_append bytes (tag_records 0 at t) _ [] _ (tag_joined bytes 0 at t) (top_joined bytes f (past_empty at t) p w.1)
 top_joined bytes (element t inside space f) at p w =
-    joined_append bytes (tag_tokens 0 at t ++ tokens 1 (past_start at t) inside) _ (inner_content inside) _
-    (joined_append bytes (tag_tokens 0 at t) _ [] _ (tag_joined bytes 0 at t) (forest_joined bytes inside 0 (past_start at t) w.1))
+    joined_append bytes (tag_records 0 at t ++ forest_records 1 (past_start at t) inside) _ (inner_content inside) _
+    (joined_append bytes (tag_records 0 at t) _ [] _ (tag_joined bytes 0 at t) (forest_joined bytes inside 0 (past_start at t) w.1))
     (top_joined bytes f (past_element at t inside space) p.1 w.2)
 
 -- one leaf more before a run
-more : (bytes : List ℕ) (x : Leaf) (f : Forest) (d at : ℕ) → Written bytes at (single x f) → Joined bytes (run_tokens (suc d) (past_leaf at x) (run f)) (flat_map leaf_content (run f)) →
-    Joined bytes (run_tokens (suc d) at (x ∷ run f)) (flat_map leaf_content (x ∷ run f))
-more bytes x f d at w k = joined_append bytes (leaf_tokens (suc d) at x) _ (leaf_content x) _ (leaf_joined bytes x d at w.0.meet w.0.stands) k
+more : (bytes : List ℕ) (x : Leaf) (f : Forest) (d at : ℕ) → Written bytes at (single x f) → Joined bytes (run_records (suc d) (past_leaf at x) (run f)) (flat_map leaf_content (run f)) →
+    Joined bytes (run_records (suc d) at (x ∷ run f)) (flat_map leaf_content (x ∷ run f))
+more bytes x f d at w k = joined_append bytes (leaf_records (suc d) at x) _ (leaf_content x) _ (leaf_joined bytes x d at w.0.meet w.0.holds) k
 
 -- the texts and CDATA sections that a list of pieces begins with
-run_joined : (bytes : List ℕ) (f : Forest) (d at : ℕ) → Written bytes at f → Joined bytes (run_tokens (suc d) at (run f)) (flat_map leaf_content (run f))
+run_joined : (bytes : List ℕ) (f : Forest) (d at : ℕ) → Written bytes at f → Joined bytes (run_records (suc d) at (run f)) (flat_map leaf_content (run f))
 run_joined bytes done d at w = refl
 run_joined bytes (empty t f) d at w = refl
 run_joined bytes (element t inside space f) d at w = refl
@@ -148,9 +148,9 @@ FirstIs bytes l at (x ∷ xs) = LeafIs bytes l at x
 
 -- texts and CDATA sections have a record each
 abbrev pub RunIs : List ℕ → ℕ → ℕ → List Leaf → Type 0
-RunIs bytes l at xs = (length (run_tokens l at xs) ≡ length xs) × FirstIs bytes l at xs
+RunIs bytes l at xs = (length (run_records l at xs) ≡ length xs) × FirstIs bytes l at xs
 
-run_length : (f : Forest) (d at : ℕ) → length (run_tokens (suc d) at (run f)) ≡ length (run f)
+run_length : (f : Forest) (d at : ℕ) → length (run_records (suc d) at (run f)) ≡ length (run f)
 run_length done d at = refl
 run_length (empty t f) d at = refl
 run_length (element t inside space f) d at = refl
@@ -161,13 +161,13 @@ run_length (single (Leaf.instruction i) f) d at = refl
 run_length (single (Leaf.declaration v) f) d at = refl
 run_length (single (Leaf.doctype v) f) d at = refl
 
--- the content of what stands at a level and at a place
+-- the content of what is at a level and at a place
 abbrev pub SaysOf : List ℕ → Thing → ℕ → ℕ → Type 0
 SaysOf bytes (Thing.root first f) l at = Joined bytes (records_of (Thing.root first f) l at) (top_content f)
 SaysOf bytes (Thing.element t inside) l at = Joined bytes (records_of (Thing.element t inside) l at) (inner_content inside) × ValuesAre bytes l (attributes_place at t) t.attributes
 SaysOf bytes (Thing.attribute a) l at =
     IsResolved bytes Value (plain 4 (depth_at l) (written_pieces a.value) (at + size (before_value a))) (value_content a.value) × WrittenIs bytes (plain 4 (depth_at l) (written_pieces a.value) (at + size (before_value a))) (written_pieces a.value)
-SaysOf bytes (Thing.text xs) l at = Joined bytes (run_tokens l at xs) (flat_map leaf_content xs) × RunIs bytes l at xs
+SaysOf bytes (Thing.text xs) l at = Joined bytes (run_records l at xs) (flat_map leaf_content xs) × RunIs bytes l at xs
 SaysOf bytes (Thing.comment cs) l at = IsResolved bytes Literal (plain 6 (depth_at l) cs (at + 4)) (literal_content cs) × WrittenIs bytes (plain 6 (depth_at l) cs (at + 4)) cs
 SaysOf bytes (Thing.instruction i) l at =
     IsResolved bytes Literal (plain 8 (depth_at l) i.content (at + 2 + size i.target + size i.space)) (literal_content i.content) × WrittenIs bytes (plain 8 (depth_at l) i.content (at + 2 + size i.target + size i.space)) i.content
@@ -175,69 +175,69 @@ SaysOf bytes (Thing.instruction i) l at =
 abbrev pub Says : List ℕ → Entry → Type 0
 Says bytes e = SaysOf bytes e.what (length e.holders) e.start
 
-text_says : (bytes : List ℕ) (holders : List Holder) (at place number : ℕ) (joins : Bool) (xs : List Leaf) → ((d : ℕ) → length holders ≡ suc d → Joined bytes (run_tokens (suc d) at xs) (flat_map leaf_content xs) × RunIs bytes (suc d) at xs) →
-    IfSome (text_node (record { holders = holders; at = at; place = place; number = number; joins = joins }) xs) (Says bytes)
-text_says bytes [] at place number joins xs k = tt
-text_says bytes (t ∷ hs) at place number joins xs k = if_some_cond (Says bytes) (begins_run (t ∷ hs) joins xs) _ (k (length hs) refl)
+text_says : (bytes : List ℕ) (holders : List Holder) (at index number : ℕ) (joins : Bool) (xs : List Leaf) → ((d : ℕ) → length holders ≡ suc d → Joined bytes (run_records (suc d) at xs) (flat_map leaf_content xs) × RunIs bytes (suc d) at xs) →
+    IfSome (text_node (record { holders = holders; at = at; index = index; number = number; joins = joins }) xs) (Says bytes)
+text_says bytes [] at index number joins xs k = tt
+text_says bytes (t ∷ hs) at index number joins xs k = if_some_cond (Says bytes) (begins_run (t ∷ hs) joins xs) _ (k (length hs) refl)
 
 leaf_says : (bytes : List ℕ) (h : Here) (x : Leaf) (f : Forest) → Written bytes h.at (single x f) → IfSome (leaf_node h x f) (Says bytes)
 leaf_says bytes h (Leaf.text ps) f w =
-    text_says bytes h.holders h.at h.place h.number h.joins (Leaf.text ps ∷ run f) (λ d e. (run_joined bytes (single (Leaf.text ps) f) d h.at w, (run_length (single (Leaf.text ps) f) d h.at, text_is bytes ps (suc d) h.at w.0.stands)))
+    text_says bytes h.holders h.at h.index h.number h.joins (Leaf.text ps ∷ run f) (λ d e. (run_joined bytes (single (Leaf.text ps) f) d h.at w, (run_length (single (Leaf.text ps) f) d h.at, text_is bytes ps (suc d) h.at w.0.holds)))
 leaf_says bytes h (Leaf.cdata cs) f w =
-    text_says bytes h.holders h.at h.place h.number h.joins (Leaf.cdata cs ∷ run f) (λ d e. (run_joined bytes (single (Leaf.cdata cs) f) d h.at w, (run_length (single (Leaf.cdata cs) f) d h.at, cdata_is bytes cs (suc d) h.at w.0.stands)))
-leaf_says bytes h (Leaf.comment cs) f w = comment_resolved bytes (depth_at (length h.holders)) h.at cs w.0.stands
-leaf_says bytes h (Leaf.instruction i) f w = instruction_resolved bytes (depth_at (length h.holders)) h.at i w.0.stands
+    text_says bytes h.holders h.at h.index h.number h.joins (Leaf.cdata cs ∷ run f) (λ d e. (run_joined bytes (single (Leaf.cdata cs) f) d h.at w, (run_length (single (Leaf.cdata cs) f) d h.at, cdata_is bytes cs (suc d) h.at w.0.holds)))
+leaf_says bytes h (Leaf.comment cs) f w = comment_resolved bytes (depth_at (length h.holders)) h.at cs w.0.holds
+leaf_says bytes h (Leaf.instruction i) f w = instruction_resolved bytes (depth_at (length h.holders)) h.at i w.0.holds
 leaf_says bytes h (Leaf.declaration v) f w = tt
 leaf_says bytes h (Leaf.doctype v) f w = tt
 
-attributes_say : (bytes : List ℕ) (x : Holder) (hs : List Holder) (at place i : ℕ) (others : List Attribute) → ValuesAre bytes (length hs) at others → Each (Says bytes) (attributes (x ∷ hs) at place i others)
-attributes_say bytes x hs at place i [] v = tt
-attributes_say bytes x hs at place i (a ∷ others) v =
-    each_option (Says bytes) (attribute_entry (x ∷ hs) at place i a) _ (if_some_second (Says bytes) (declares a.name) _ v.0)
-    (attributes_say bytes x hs (at + size (written_attribute a)) (place + 2) (i + one_if (not (declares a.name))) others v.1)
+attributes_say : (bytes : List ℕ) (x : Holder) (hs : List Holder) (at index i : ℕ) (others : List Attribute) → ValuesAre bytes (length hs) at others → Each (Says bytes) (attributes (x ∷ hs) at index i others)
+attributes_say bytes x hs at index i [] v = tt
+attributes_say bytes x hs at index i (a ∷ others) v =
+    each_option (Says bytes) (attribute_entry (x ∷ hs) at index i a) _ (if_some_second (Says bytes) (declares a.name) _ v.0)
+    (attributes_say bytes x hs (at + size (written_attribute a)) (index + 2) (i + one_if (not (declares a.name))) others v.1)
 
 -- the records of an element, from those of what is in it
-element_joined : (bytes : List ℕ) (l at : ℕ) (t : Tag) (inside : Forest) → Joined bytes (tokens (suc l) (past_start at t) inside) (inner_content inside) → Joined bytes (records_of (Thing.element t inside) l at) (inner_content inside)
-element_joined bytes l at t inside k = joined_append bytes (tag_tokens l at t) _ [] _ (tag_joined bytes l at t) k
+element_joined : (bytes : List ℕ) (l at : ℕ) (t : Tag) (inside : Forest) → Joined bytes (forest_records (suc l) (past_start at t) inside) (inner_content inside) → Joined bytes (records_of (Thing.element t inside) l at) (inner_content inside)
+element_joined bytes l at t inside k = joined_append bytes (tag_records l at t) _ [] _ (tag_joined bytes l at t) k
 
 pub nodes_say : (bytes : List ℕ) (f : Forest) (h : Here) → Written bytes h.at f → Each (Says bytes) (nodes h f)
 nodes_say bytes done h w = tt
 nodes_say bytes (single x f) h w = each_option (Says bytes) (leaf_node h x f) (nodes (after_leaf h x f) f) (leaf_says bytes h x f w) (nodes_say bytes f (after_leaf h x f) w.1)
 nodes_say bytes (empty t f) h w =
     let l = length h.holders in
-    let v = tag_values bytes l h.at t w.0.meet w.0.stands in
+    let v = tag_values bytes l h.at t w.0.meet w.0.holds in
     let own : Each (Says bytes) (element_entry h t done (past_empty h.at t) ∷ tag_attributes h t) =
-    ((element_joined bytes l h.at t done (silent_joined bytes [] tt), v), attributes_say bytes (record { tag = t; place = h.place }) h.holders (attributes_place h.at t) (suc h.place) 0 t.attributes v) in
+    ((element_joined bytes l h.at t done (silent_joined bytes [] tt), v), attributes_say bytes (record { tag = t; index = h.index }) h.holders (attributes_place h.at t) (suc h.index) 0 t.attributes v) in
     each_append (Says bytes) (map (under (child h.number)) (element_entry h t done (past_empty h.at t) ∷ tag_attributes h t)) _
     (each_map (Says bytes) (under (child h.number)) (element_entry h t done (past_empty h.at t) ∷ tag_attributes h t) own)
-    (nodes_say bytes f (behind h t done (past_empty h.at t)) w.1)
+    (nodes_say bytes f (after_element h t done (past_empty h.at t)) w.1)
 nodes_say bytes (element t inside space f) h w =
     let l = length h.holders in
     let past = past_element h.at t inside space in
-    let v = tag_values bytes l h.at t w.0.meet w.0.stands in
+    let v = tag_values bytes l h.at t w.0.meet w.0.holds in
     let own : Each (Says bytes) (element_entry h t inside past ∷ tag_attributes h t) =
-    ((element_joined bytes l h.at t inside (forest_joined bytes inside l (past_start h.at t) w.1), v), attributes_say bytes (record { tag = t; place = h.place }) h.holders (attributes_place h.at t) (suc h.place) 0 t.attributes v) in
+    ((element_joined bytes l h.at t inside (forest_joined bytes inside l (past_start h.at t) w.1), v), attributes_say bytes (record { tag = t; index = h.index }) h.holders (attributes_place h.at t) (suc h.index) 0 t.attributes v) in
     each_append (Says bytes) (map (under (child h.number)) (element_entry h t inside past ∷ tag_attributes h t ++ nodes (inside_of h t) inside)) _
     (each_map (Says bytes) (under (child h.number)) (element_entry h t inside past ∷ tag_attributes h t ++ nodes (inside_of h t) inside)
     (each_append (Says bytes) (element_entry h t inside past ∷ tag_attributes h t) (nodes (inside_of h t) inside) own (nodes_say bytes inside (inside_of h t) w.1)))
-    (nodes_say bytes f (behind h t inside past) w.2)
+    (nodes_say bytes f (after_element h t inside past) w.2)
 
 -- each node of a document
 pub all_say : (bytes : List ℕ) (nest : Forest) → IsUtf8 bytes → IsDocument bytes nest → Each (Says bytes) (all nest (first_place bytes))
 unfolding all
 all_say bytes nest u d =
     let w = written_nest bytes nest u d in
-    (joined_append bytes (document ∷ []) (tokens 0 (first_place bytes) nest) [] (top_content nest) (silent_joined bytes (document ∷ []) (refl, tt)) (top_joined bytes nest (first_place bytes) (document_proper bytes nest d) w), nodes_say bytes nest (at_first (first_place bytes)) w)
+    (joined_append bytes (document ∷ []) (forest_records 0 (first_place bytes) nest) [] (top_content nest) (silent_joined bytes (document ∷ []) (refl, tt)) (top_joined bytes nest (first_place bytes) (document_proper bytes nest d) w), nodes_say bytes nest (at_first (first_place bytes)) w)
 
 -- ---- which records are of texts
 
-forest_fine : (bytes : List ℕ) (f : Forest) (l at : ℕ) → Written bytes at f → Each (Fine bytes) (tokens l at f)
+forest_fine : (bytes : List ℕ) (f : Forest) (l at : ℕ) → Written bytes at f → Each (Fine bytes) (forest_records l at f)
 forest_fine bytes done l at w = tt
-forest_fine bytes (single x f) l at w = each_append (Fine bytes) (leaf_tokens l at x) _ (leaf_fine bytes x l at w.0.meet w.0.stands) (forest_fine bytes f l (past_leaf at x) w.1)
-forest_fine bytes (empty t f) l at w = each_append (Fine bytes) (tag_tokens l at t) _ (silent_fine bytes (tag_tokens l at t) (tag_silent l at t)) (forest_fine bytes f l (past_empty at t) w.1)
+forest_fine bytes (single x f) l at w = each_append (Fine bytes) (leaf_records l at x) _ (leaf_fine bytes x l at w.0.meet w.0.holds) (forest_fine bytes f l (past_leaf at x) w.1)
+forest_fine bytes (empty t f) l at w = each_append (Fine bytes) (tag_records l at t) _ (silent_fine bytes (tag_records l at t) (tag_silent l at t)) (forest_fine bytes f l (past_empty at t) w.1)
 forest_fine bytes (element t inside space f) l at w =
-    each_append (Fine bytes) (tag_tokens l at t ++ tokens (suc l) (past_start at t) inside) _
-    (each_append (Fine bytes) (tag_tokens l at t) _ (silent_fine bytes (tag_tokens l at t) (tag_silent l at t)) (forest_fine bytes inside (suc l) (past_start at t) w.1))
+    each_append (Fine bytes) (tag_records l at t ++ forest_records (suc l) (past_start at t) inside) _
+    (each_append (Fine bytes) (tag_records l at t) _ (silent_fine bytes (tag_records l at t) (tag_silent l at t)) (forest_fine bytes inside (suc l) (past_start at t) w.1))
     (forest_fine bytes f l (past_element at t inside space) w.2)
 
 -- each record of a document

@@ -2,19 +2,21 @@
 use Rattle.std.specs.Prelude.{◌≡◌, ℕ, ◌+◌, ◌-◌, ◌/◌, ◌%◌, ◌^◌, ◌<◌, ◌≤◌, true, cond, ◌==◌, List, [], ◌∷◌, ◌++◌, length, take, drop, Option, Some, None}
 use Rattle.std.specs.List.{flat_map}
 use Rattle.std.specs.Str.{IsUtf8, chars}
-use Rattle.xml_model.specs.Records.{Token}
+use Rattle.xml_model.specs.Records.{Record}
 use Rattle.xml_model.specs.Scan.{record_at, is_text_token}
 use Rattle.vtd_words.specs.Table.{Shows}
 use Rattle.vtd_text.specs.declared.token.Rule.{Rule}
 use Rattle.vtd_text.specs.declared.token.Rule.TheVariants.{Text, Literal}
 use Rattle.vtd_text.specs.Tokens.{HasContent, resolved}
+use Rattle.xml_model.specs.Records.{kind_number}
+use Rattle.xml_model.specs.declared.TokenKind.TheVariants as token
 
 -- how the token of a record is resolved, where it is a text or a CDATA section: types 5 and 11
 abbrev pub rule_of : ℕ → Option Rule
-rule_of n = cond (n == 5) (Some Text) (cond (n == 11) (Some Literal) None)
+rule_of n = cond (n == kind_number token.Text) (Some Text) (cond (n == kind_number token.Cdata) (Some Literal) None)
 
 -- the bytes that a record is of
-abbrev pub slice_of : List ℕ → Token → List ℕ
+abbrev pub slice_of : List ℕ → Record → List ℕ
 slice_of bytes r = take r.len (drop r.offset bytes)
 
 -- a content in two parts
@@ -31,26 +33,26 @@ Gives None slice content = content ≡ []
 Gives (Some rule) slice content = HasContent rule (chars slice) content
 
 -- the content of records
-abbrev pub Joined : List ℕ → List Token → List ℕ → Type 0
+abbrev pub Joined : List ℕ → List Record → List ℕ → Type 0
 Joined bytes [] content = content ≡ []
 Joined bytes (r ∷ rs) content = InTwo (Gives (rule_of r.token) (slice_of bytes r)) (Joined bytes rs) content
 
 -- a slice of the bytes that is a text
-abbrev pub IsText : List ℕ → Token → Type 0
+abbrev pub IsText : List ℕ → Record → Type 0
 IsText bytes r = (r.offset + r.len ≤ length bytes) × IsUtf8 (slice_of bytes r)
 
 -- each text and CDATA section from a record on, below another, is a text
-abbrev pub Readable : List ℕ → List Token → ℕ → ℕ → Type 0
+abbrev pub Readable : List ℕ → List Record → ℕ → ℕ → Type 0
 Readable bytes rs at past = (i : ℕ) → at ≤ i → i < past → is_text_token (record_at i rs).token ≡ true → IsText bytes (record_at i rs)
 
 -- words that show records, each text and CDATA section of which, from one on and below another, is a text
 pub record ShowsReadable (bytes words : List ℕ) (at past : ℕ) : Type 0 where
-  pub rs : List Token
+  pub rs : List Record
   pub shown : Shows words rs
   pub readable : Readable bytes rs at past
 
 -- what is left: the rest of a token, and the records from one on, below another
-abbrev pub IsLeft : List ℕ → List Token → Rule → List ℕ → ℕ → ℕ → List ℕ → Type 0
+abbrev pub IsLeft : List ℕ → List Record → Rule → List ℕ → ℕ → ℕ → List ℕ → Type 0
 IsLeft bytes rs rule text at past content = InTwo (HasContent rule (chars text)) (Joined bytes (take (past - at) (drop at rs))) content
 
 -- a content begins with a character, and the rest of it is left
@@ -60,13 +62,13 @@ pub record LeavesTail (Left : List ℕ → Type 0) (content : List ℕ) (c : ℕ
   pub left : Left tail
 
 -- a content begins with characters, and the rest of it is left
-pub record LeavesBehind (Left : List ℕ → Type 0) (content front : List ℕ) : Type 0 where
+pub record LeavesAfter (Left : List ℕ → Type 0) (content prefix : List ℕ) : Type 0 where
   pub tail : List ℕ
-  pub whole : content ≡ front ++ tail
+  pub whole : content ≡ prefix ++ tail
   pub left : Left tail
 
 -- a token is at its end, and the content is that of the records from one on, below another
-pub record BetweenTokens (bytes : List ℕ) (rs : List Token) (rule : Rule) (text : List ℕ) (at past : ℕ) (content : List ℕ) : Type 0 where
+pub record BetweenTokens (bytes : List ℕ) (rs : List Record) (rule : Rule) (text : List ℕ) (at past : ℕ) (content : List ℕ) : Type 0 where
   pub ended : HasContent rule (chars text) []
   pub rest : Joined bytes (take (past - at) (drop at rs)) content
 

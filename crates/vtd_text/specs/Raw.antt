@@ -1,12 +1,12 @@
--- A node's content where it stands in the document as it is (this project's own).
+-- A node's content where it is in the document as it is (this project's own).
 use Rattle.std.specs.Prelude.{◌≡◌, ℕ, cond, List, [], ◌∷◌, encode_utf8_all, bytes_eq, Option, Some, None, option_and_then}
 use Rattle.xml_model.specs.Items.{Leaf, written_pieces}
-use Rattle.xml_model.specs.Records.{Token}
+use Rattle.xml_model.specs.Records.{Record}
 use Rattle.xml_model.specs.Tree.{Thing}
 use Rattle.xml_model.specs.Content.{content}
 use Rattle.vtd_text.specs.Joined.{IsText, slice_of}
 
--- the characters that the content of a node is written in, where they stand in one piece: not for the root, an element, or a text of
+-- the characters that the content of a node is written in, where they are in one piece: not for the root, an element, or a text of
 -- several texts or CDATA sections
 abbrev pub written_content : Thing → Option (List ℕ)
 written_content (Thing.attribute a) = Some (written_pieces a.value)
@@ -21,7 +21,7 @@ unfoldable pub raw_content : Thing → Option (List ℕ)
 raw_content t = option_and_then (λ w. cond (bytes_eq (content t) w) (Some (encode_utf8_all w)) None) (written_content t)
 
 -- a record is of the characters that the content is written in
-pub record IsWritten (bytes : List ℕ) (r : Token) (content : Option (List ℕ)) : Type 0 where
+pub record IsWritten (bytes : List ℕ) (r : Record) (content : Option (List ℕ)) : Type 0 where
   pub written : List ℕ
   pub is : content ≡ Some written
   pub text : IsText bytes r

@@ -1,7 +1,7 @@
 -- The token of a record, and a row of records, with their content.
 use Rattle.std.specs.Prelude.{ℕ, ◌-◌, List, take, drop}
 use Rattle.std.specs.Str.{chars}
-use Rattle.xml_model.specs.Records.{Token}
+use Rattle.xml_model.specs.Records.{Record}
 use Rattle.xml_model.specs.Scan.{record_at}
 use Rattle.vtd_words.specs.Table.{Shows}
 use Rattle.vtd_text.specs.declared.token.Rule.{Rule}
@@ -9,20 +9,20 @@ use Rattle.vtd_text.specs.Tokens.{HasContent}
 use Rattle.vtd_text.specs.Joined.{IsText, IsLeft, Joined, Readable, slice_of}
 
 -- the bytes that a record is of are a text, whose content by a rule is this
-pub record IsResolved (bytes : List ℕ) (rule : Rule) (r : Token) (content : List ℕ) : Type 0 where
+pub record IsResolved (bytes : List ℕ) (rule : Rule) (r : Record) (content : List ℕ) : Type 0 where
   pub text : IsText bytes r
   pub resolved : HasContent rule (chars (slice_of bytes r)) content
 
 -- words that show records, of which one has a content
 pub record IsRecord (bytes words : List ℕ) (rule : Rule) (at : ℕ) : Type 0 where
-  pub rs : List Token
+  pub rs : List Record
   pub shown : Shows words rs
   pub content : List ℕ
   pub resolved : IsResolved bytes rule (record_at at rs) content
 
 -- words that show records, of which those from one on, below another, have a content
 pub record IsRow (bytes words : List ℕ) (at past : ℕ) : Type 0 where
-  pub rs : List Token
+  pub rs : List Record
   pub shown : Shows words rs
   pub readable : Readable bytes rs at past
   pub content : List ℕ
@@ -30,7 +30,7 @@ pub record IsRow (bytes words : List ℕ) (at past : ℕ) : Type 0 where
 
 -- words that show records, of which, with the rest of a token, some content is left
 pub record HasLeft (bytes words : List ℕ) (rule : Rule) (text : List ℕ) (at past : ℕ) : Type 0 where
-  pub rs : List Token
+  pub rs : List Record
   pub shown : Shows words rs
   pub content : List ℕ
   pub left : IsLeft bytes rs rule text at past content

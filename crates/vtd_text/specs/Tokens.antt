@@ -13,10 +13,10 @@ abbrev pub is_plain : Piece → Bool
 is_plain (literal c) = true
 is_plain _ = false
 
--- whether a piece may stand in a token: where there are no references, a character alone
-abbrev pub may_stand : Rule → Piece → Bool
-may_stand Literal p = is_plain p
-may_stand _ p = meets_piece (λ c. false) p
+-- whether a piece may be in a token: where there are no references, a character alone
+abbrev pub may_begin_at : Rule → Piece → Bool
+may_begin_at Literal p = is_plain p
+may_begin_at _ p = meets_piece (λ c. false) p
 
 -- the content of pieces: white space that is written as itself is a space in attribute values alone
 abbrev pub content_by : Rule → List Piece → List ℕ
@@ -26,7 +26,7 @@ content_by _ ps = text_content ps
 -- the characters are written by pieces whose content this is
 pub record HasContent (rule : Rule) (cs content : List ℕ) : Type 0 where
   pub pieces : List Piece
-  pub fit : list_all (may_stand rule) pieces ≡ true
+  pub fit : list_all (may_begin_at rule) pieces ≡ true
   pub written : written_pieces pieces ≡ cs
   pub resolved : content_by rule pieces ≡ content
 
@@ -46,7 +46,7 @@ abbrev pub spaced : Rule → ℕ → ℕ
 spaced Value c = char_in_value (literal c)
 spaced _ c = c
 
--- whether a character begins a reference where it stands
+-- whether a character begins a reference where it is
 abbrev pub begins_reference : Rule → ℕ → Bool
 begins_reference Literal c = false
 begins_reference _ c = c == 38
@@ -57,10 +57,10 @@ is_special Text c = c == 13 || c == 38
 is_special Literal c = c == 13
 is_special Value c = c == 9 || c == 10 || c == 13 || c == 38
 
--- characters at the front of what is left stand for themselves, and the rest of the content is that of what follows them
-pub record LeavesRest (rule : Rule) (content front left : List ℕ) : Type 0 where
+-- characters at the start of what is left stand for themselves, and the rest of the content is that of what follows them
+pub record LeavesRest (rule : Rule) (content prefix left : List ℕ) : Type 0 where
   pub tail : List ℕ
-  pub whole : content ≡ front ++ tail
+  pub whole : content ≡ prefix ++ tail
   pub rest : HasContent rule left tail
 
 -- what follows a line feed, where one comes first; else the whole

@@ -7,9 +7,9 @@ ghost use Rattle.std.specs.Str.{chars};
 ghost use Rattle.xml_model.specs.Content.{content, value_content};
 ghost use Rattle.xml_model.specs.Items.{Attribute};
 ghost use Rattle.xml_model.specs.Nest.{Forest};
-ghost use Rattle.xml_model.specs.Records.{Token};
+ghost use Rattle.xml_model.specs.Records.{Record};
 ghost use Rattle.xml_model.specs.Scan.{record_at};
-ghost use Rattle.xml_model.specs.Tree.{Entry, Stands};
+ghost use Rattle.xml_model.specs.Tree.{Entry, Identifies};
 ghost use Rattle.vtd_words.specs.Lists.{list_of};
 ghost use Rattle.vtd_words.specs.Table.{IsNestOf, IsNodeOf, Shows, nodes_of};
 ghost use Rattle.vtd_text.specs.Joined.{Joined};
@@ -41,8 +41,8 @@ impl<'a, W: Words> Model for Chars<'a, W> {
     ghost invariant = { λ s. HasLeft s.row.bytes.now (W.lists s.row.words.now).records s.row.token.rule s.row.token.text.now s.row.at s.row.past };
 }
 
-/// The index behind that of a record, where there is one.
-pub(crate) fn behind<W: Words>(words: &W, at: u32) -> u32
+/// The index after that of a record, where there is one.
+pub(crate) fn after<W: Words>(words: &W, at: u32) -> u32
     requires { at + 1 < length (list_of Part.Records (W.lists words.now)) }
     ensures { result ≡ at + 1 }
 {
@@ -57,7 +57,7 @@ impl<'a, W: Words> Chars<'a, W> {
     pub fn of(table: &Table<'a, W>, node: Node) -> Chars<'a, W>
         requires { IsNodeOf table.now.bytes (W.lists table.now.words) node }
         ensures { (nest : Forest) → IsNestOf table.now.bytes (W.lists table.now.words) nest →
-            (e : Entry) → Stands node.kind node.at e (nodes_of table.now.bytes nest) → result ≡ content e.what }
+            (e : Entry) → Identifies node.kind node.at e (nodes_of table.now.bytes nest) → result ≡ content e.what }
     {
         let bytes = table.bytes();
         let words = table.words();
@@ -68,13 +68,13 @@ impl<'a, W: Words> Chars<'a, W> {
                 node.at,
                 table.end_of(node),
             ),
-            Kind::Attribute => Chars::of_record(bytes, words, Rule::Value, behind(words, node.at)),
+            Kind::Attribute => Chars::of_record(bytes, words, Rule::Value, after(words, node.at)),
             Kind::Comment => Chars::of_record(bytes, words, Rule::Literal, node.at),
             Kind::Instruction => Chars::of_record(
                 bytes,
                 words,
                 Rule::Literal,
-                behind(words, node.at),
+                after(words, node.at),
             ),
         }
     }
@@ -87,10 +87,10 @@ impl<'a, W: Words> Chars<'a, W> {
             (a : Attribute) → IsNameOf table.now.bytes nest at a → result ≡ value_content a.value }
     {
         let words = table.words();
-        Chars::of_record(table.bytes(), words, Rule::Value, behind(words, at))
+        Chars::of_record(table.bytes(), words, Rule::Value, after(words, at))
     }
 
-    /// Takes code points at the front, perhaps none; their UTF-8 is answered.
+    /// Takes code points at the start, perhaps none; their UTF-8 is answered.
     pub(crate) fn next_plain(&mut self) -> &'a str
         ensures { self.old ≡ chars result.now ++ self.new }
     {
@@ -101,7 +101,7 @@ impl<'a, W: Words> Chars<'a, W> {
     fn of_row(bytes: &'a [u8], words: &'a W, at: u32, past: u32) -> Chars<'a, W>
         requires within { past ≤ length (list_of Part.Records (W.lists words.now)) }
         requires row { IsRow bytes.now (list_of Part.Records (W.lists words.now)) at past }
-        ensures { (rs : List Token) → Shows (list_of Part.Records (W.lists words.entry.now)) rs →
+        ensures { (rs : List Record) → Shows (list_of Part.Records (W.lists words.entry.now)) rs →
             (content : List ℕ) → Joined bytes.entry.now (take (past - at) (drop at rs)) content → result ≡ content }
     {
         let row = Row {
@@ -121,7 +121,7 @@ impl<'a, W: Words> Chars<'a, W> {
     fn of_record(bytes: &'a [u8], words: &'a W, rule: Rule, at: u32) -> Chars<'a, W>
         requires within { at < length (list_of Part.Records (W.lists words.now)) }
         requires record { IsRecord bytes.now (list_of Part.Records (W.lists words.now)) rule at }
-        ensures { (rs : List Token) → Shows (list_of Part.Records (W.lists words.entry.now)) rs →
+        ensures { (rs : List Record) → Shows (list_of Part.Records (W.lists words.entry.now)) rs →
             (content : List ℕ) → IsResolved bytes.entry.now rule (record_at at rs) content → result ≡ content }
     {
         let text = text_of(bytes, parts_at(words, at));

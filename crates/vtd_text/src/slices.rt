@@ -1,4 +1,4 @@
-//! Contents that stand in the document as they are. No call takes memory.
+//! Contents that are in the document as they are. No call takes memory.
 #![tactic(auto)]
 
 ghost use Rattle.std.specs.Prelude.{◌≡◌, ◌+◌, ◌<◌, length, None, IfSome, MatchOption};
@@ -7,12 +7,12 @@ ghost use Rattle.xml_model.specs.Items.{first_place};
 ghost use Rattle.xml_model.specs.Nest.{Forest};
 ghost use Rattle.xml_model.specs.Records.{records};
 ghost use Rattle.xml_model.specs.Scan.{record_at};
-ghost use Rattle.xml_model.specs.Tree.{Entry, Stands};
+ghost use Rattle.xml_model.specs.Tree.{Entry, Identifies};
 ghost use Rattle.vtd_words.specs.Lists.{list_of};
 ghost use Rattle.vtd_words.specs.Table.{IsNestOf, IsNodeOf, nodes_of};
 ghost use Rattle.vtd_text.specs.Raw.{IsWritten, raw_content, written_content};
 
-use crate::chars::{Chars, behind};
+use crate::chars::{Chars, after};
 use crate::row::text_of;
 use crate::texts::equals_str;
 use vtd_words::{Part, Table, Words, parts_at};
@@ -22,7 +22,7 @@ use xml_model::{Kind, Node};
 /// records.
 fn content_record<W: Words>(table: &Table<'_, W>, node: Node) -> Option<u32>
     requires { IsNodeOf table.now.bytes (W.lists table.now.words) node }
-    ensures record { (nest : Forest) → IsNestOf table.now.bytes (W.lists table.now.words) nest → (e : Entry) → Stands node.kind node.at e (nodes_of table.now.bytes nest) →
+    ensures record { (nest : Forest) → IsNestOf table.now.bytes (W.lists table.now.words) nest → (e : Entry) → Identifies node.kind node.at e (nodes_of table.now.bytes nest) →
         MatchOption result (written_content e.what ≡ None) (λ at. IsWritten table.now.bytes (record_at at (records nest (first_place table.now.bytes))) (written_content e.what)) }
     ensures within { IfSome result (λ at. at < length (list_of Part.Records (W.lists table.now.words))) }
 {
@@ -36,7 +36,7 @@ fn content_record<W: Words>(table: &Table<'_, W>, node: Node) -> Option<u32>
                 None
             }
         }
-        Kind::Attribute | Kind::Instruction => Some(behind(words, node.at)),
+        Kind::Attribute | Kind::Instruction => Some(after(words, node.at)),
         Kind::Comment => Some(node.at),
     }
 }
@@ -46,7 +46,7 @@ fn content_record<W: Words>(table: &Table<'_, W>, node: Node) -> Option<u32>
 /// where the bytes are another text.
 pub fn raw<'a, W: Words>(table: &Table<'a, W>, node: Node) -> Option<&'a [u8]>
     requires { IsNodeOf table.now.bytes (W.lists table.now.words) node }
-    ensures { (nest : Forest) → IsNestOf table.now.bytes (W.lists table.now.words) nest → (e : Entry) → Stands node.kind node.at e (nodes_of table.now.bytes nest) →
+    ensures { (nest : Forest) → IsNestOf table.now.bytes (W.lists table.now.words) nest → (e : Entry) → Identifies node.kind node.at e (nodes_of table.now.bytes nest) →
         option_copied result ≡ raw_content e.what }
 {
     let at = content_record(table, node)?;

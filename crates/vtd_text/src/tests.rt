@@ -42,8 +42,8 @@ fn spells<W: Words>(chars: Chars<'_, W>, expected: &str) -> bool {
     left.next().is_none()
 }
 
-/// A value with a line feed by reference and white space as it stands, a declaration, line ends in a comment and in an
-/// instruction, a run of four records with a carriage return before a section that begins with a line feed, a run behind a deeper
+/// A value with a line feed by reference and white space as it is, a declaration, line ends in a comment and in an
+/// instruction, a run of four records with a carriage return before a section that begins with a line feed, a run after a deeper
 /// one, a run of an empty section alone, and a run of an empty section and a text.
 const DOCUMENT: &[u8] =
     b"<a b=\"&#10;\n\r\n\" xmlns:p=\"u&amp;v\"><!--c\r\n-->x<![CDATA[&y]]>z\r<![CDATA[\n]]><b>1&lt;2\r\n3</b>w<?t d\r?><c><![CDATA[]]></c><d><![CDATA[]]>x</d></a>";
@@ -90,7 +90,7 @@ fn contents_of_each_kind(rt: HostRuntime) -> Result<(), Fail> {
         (18, Kind::Element, "x", false),
         (19, Kind::Text, "x", false),
     ];
-    for (at, kind, expected, stands) in rows {
+    for (at, kind, expected, holds) in rows {
         let Some(node) = table.node_at(at) else {
             return Err(Fail::from("no node"));
         };
@@ -98,7 +98,7 @@ fn contents_of_each_kind(rt: HostRuntime) -> Result<(), Fail> {
         assert!(rt; spells(Chars::of(&table, node), expected));
         assert!(rt; equals_str(Chars::of(&table, node), expected));
         assert!(rt; !equals_str(Chars::of(&table, node), "w\n"));
-        assert_eq!(rt; raw(&table, node).is_some(), stands);
+        assert_eq!(rt; raw(&table, node).is_some(), holds);
     }
     for at in [17, 20] {
         assert_eq!(rt; table.node_at(at), None);
@@ -107,7 +107,7 @@ fn contents_of_each_kind(rt: HostRuntime) -> Result<(), Fail> {
     Ok(())
 }
 
-/// Contents of one piece each, of which one is a front of the run's and one differs from it in the last character.
+/// Contents of one piece each, of which one is a prefix of the run's and one differs from it in the last character.
 const PIECES: &[u8] = b"<a b=\"xy\"><!--xyw-->x<![CDATA[y]]>z<?p d?><e>t</e></a>";
 
 const PIECE_RECORDS: &[u64] = &[
@@ -126,7 +126,7 @@ const PIECE_RECORDS: &[u64] = &[
 ];
 
 #[test]
-fn contents_that_stand_as_they_are(rt: HostRuntime) -> Result<(), Fail> {
+fn contents_that_hold_as_they_are(rt: HostRuntime) -> Result<(), Fail> {
     let words = Fixed {
         words: PIECE_RECORDS,
     };

@@ -22,24 +22,24 @@ pub fn equals<W: Words, V: Words>(one: Chars<'_, W>, other: Chars<'_, V>) -> boo
     other.next().is_none()
 }
 
-/// What follows the front, where the text begins with it.
-fn after_front<'a>(text: &'a str, front: &str) -> Option<&'a str>
-    ensures { MatchOption result ((rest : List ℕ) → chars text.now ≡ chars front.now ++ rest → ⊥) (λ r. chars text.now ≡ chars front.now ++ chars r.now) }
+/// What follows the prefix, where the text begins with it.
+fn after_prefix<'a>(text: &'a str, prefix: &str) -> Option<&'a str>
+    ensures { MatchOption result ((rest : List ℕ) → chars text.now ≡ chars prefix.now ++ rest → ⊥) (λ r. chars text.now ≡ chars prefix.now ++ chars r.now) }
 {
-    if text.as_bytes().starts_with(front.as_bytes()) {
-        Some(text.split_at(front.len()).1)
+    if text.as_bytes().starts_with(prefix.as_bytes()) {
+        Some(text.split_at(prefix.len()).1)
     } else {
         None
     }
 }
 
-/// What follows the character and then the front, where the text begins with them.
-fn after_both<'a>(text: &'a str, c: char, front: &str) -> Option<&'a str>
-    ensures { MatchOption result ((rest : List ℕ) → chars text.now ≡ c ∷ (chars front.now ++ rest) → ⊥) (λ r. chars text.now ≡ c ∷ (chars front.now ++ chars r.now)) }
+/// What follows the character and then the prefix, where the text begins with them.
+fn after_both<'a>(text: &'a str, c: char, prefix: &str) -> Option<&'a str>
+    ensures { MatchOption result ((rest : List ℕ) → chars text.now ≡ c ∷ (chars prefix.now ++ rest) → ⊥) (λ r. chars text.now ≡ c ∷ (chars prefix.now ++ chars r.now)) }
 {
     let (first, rest) = step(text)?;
     if first == c {
-        after_front(rest, front)
+        after_prefix(rest, prefix)
     } else {
         None
     }
@@ -50,14 +50,14 @@ pub fn equals_str<W: Words>(one: Chars<'_, W>, text: &str) -> bool
     ensures { result ≡ bytes_eq one.entry (chars text.now) }
 {
     let mut one = one;
-    let Some(mut rest) = after_front(text, one.next_plain()) else {
+    let Some(mut rest) = after_prefix(text, one.next_plain()) else {
         return false;
     };
     while let Some(c) = one.next() {
-        let Some(behind) = after_both(rest, c, one.next_plain()) else {
+        let Some(after) = after_both(rest, c, one.next_plain()) else {
             return false;
         };
-        rest = behind;
+        rest = after;
     }
     rest.is_empty()
 }

@@ -46,7 +46,7 @@ fn begins_reference(rule: Rule, c: char) -> bool
     }
 }
 
-/// What follows a carriage return that is a line end: a line feed behind it is part of the line end (XML 1.0, section 2.11).
+/// What follows a carriage return that is a line end: a line feed after it is part of the line end (XML 1.0, section 2.11).
 fn after_return(text: &str) -> &str
     ensures rest { chars result.now ≡ after_line_feed (chars text.now) }
     ensures shorter { length result.now ≤ length text.now }
@@ -57,7 +57,7 @@ fn after_return(text: &str) -> &str
     }
 }
 
-/// The character of the reference at the front of the text, and what follows it.
+/// The character of the reference at the start of the text, and what follows it.
 fn referred(text: &str) -> Option<(char, &str)>
     ensures read { Gives (λ x. (x.0, chars x.1.now)) result (mapped char_of read_reference (chars text.now)) }
     ensures shorter { IfSome result (λ x. length x.1.now < length text.now) }
@@ -85,7 +85,7 @@ fn next_char(text: &str, rule: Rule) -> Option<(char, &str)>
     Some((spaced(rule, c), rest))
 }
 
-/// The length of the longest front of an attribute value that has no tab, line feed, carriage return or ampersand.
+/// The length of the longest prefix of an attribute value that has no tab, line feed, carriage return or ampersand.
 fn plain_value_len(bytes: &[u8]) -> usize
     ensures { result ≡ prefix_len (λ b. not (is_special Rule.Value b)) bytes.now }
 {
@@ -97,7 +97,7 @@ fn plain_value_len(bytes: &[u8]) -> usize
     bytes.len()
 }
 
-/// The length of the longest front whose characters stand for themselves.
+/// The length of the longest prefix whose characters stand for themselves.
 fn plain_len(rule: Rule, bytes: &[u8]) -> usize
     ensures { result ≡ prefix_len (λ b. not (is_special rule b)) bytes.now }
 {
@@ -127,17 +127,17 @@ impl<'a> TokenChars<'a> {
         Some(c)
     }
 
-    /// Takes a front, perhaps an empty one, whose characters stand for themselves.
+    /// Takes a prefix, perhaps an empty one, whose characters stand for themselves.
     pub(crate) fn next_plain(&mut self) -> &'a str
         ensures content { (content : List ℕ) → HasContent self.old.rule (chars self.old.text.now) content →
             LeavesRest self.old.rule content (chars result.now) (chars self.new.text.now) }
         ensures rule { self.new.rule ≡ self.old.rule }
     {
-        let (front, rest) = self
+        let (prefix, rest) = self
             .text
             .split_at(plain_len(self.rule, self.text.as_bytes()));
         self.text = rest;
-        front
+        prefix
     }
 }
 

@@ -7,7 +7,7 @@ ghost use Rattle.xml_model.specs.Items.{first_place};
 ghost use Rattle.xml_model.specs.Nest.{Forest};
 ghost use Rattle.xml_model.specs.Records.{records};
 ghost use Rattle.vtd_words.specs.Lists.{Lists};
-ghost use Rattle.vtd_words.specs.Table.{IsNestOf, IsNodeOf, Shows, StandsInEach};
+ghost use Rattle.vtd_words.specs.Table.{IsNestOf, IsNodeOf, Shows, IdentifiesInEach};
 
 /// Each record of a table's nest fits into its word.
 pub fn records_fit()
@@ -21,7 +21,7 @@ pub fn same_records()
         records f (first_place bytes) ≡ records g (first_place bytes) }
 {}
 
-/// A node of a table stands in each nest of the table.
+/// A node of a table is in each nest of the table.
 pub fn node_in_each_nest()
-    ensures { (bytes : List ℕ) (lists : Lists) → length bytes < 2 ^ 30 → (node : Node) → IsNodeOf bytes lists node → StandsInEach bytes lists node }
+    ensures { (bytes : List ℕ) (lists : Lists) → length bytes < 2 ^ 30 → (node : Node) → IsNodeOf bytes lists node → IdentifiesInEach bytes lists node }
 {}

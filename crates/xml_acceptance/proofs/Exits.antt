@@ -9,7 +9,7 @@ use Rattle.xml_model.specs.declared.DocFault.{DocFault}
 use Rattle.xml_model.specs.declared.DocFault.TheVariants as faults
 use Rattle.xml_model.specs.Items.{Item, spelling, begins_at, walk, walk_to_end, first_place}
 use Rattle.xml_model.specs.Nest.{Forest, is_nest, flat}
-use Rattle.xml_model.specs.Records.{Token, document, records}
+use Rattle.xml_model.specs.Records.{Record, document, records}
 use Rattle.xml_model.specs.Accepted.{RefusesItem, RefusesNesting, DoesNotBegin, is_opening, IsDocument, over_items, unknown_item, encoding_item, first_wide, Refuses, IsRefusal, Accepted, AcceptedTo, layer}
 use Rattle.xml_model.proofs.Bridge.{one_walk, no_syntax, no_utf8}
 use Rattle.xml_items.specs.declared.Item.{Item as ItemShown}
@@ -19,13 +19,13 @@ use Rattle.xml_items.specs.Shown.{item_shown, HasNoItem}
 use Rattle.xml_acceptance.specs.declared.checking.Pass.{Pass}
 use Rattle.xml_acceptance.specs.declared.nest_so_far.NestSoFar.{NestSoFar}
 use Rattle.xml_acceptance.specs.Ampersands.{first}
-use Rattle.xml_acceptance.specs.Machine.{Phase, whole, head, body, tail, State, state, run, items_tokens}
+use Rattle.xml_acceptance.specs.Machine.{Phase, whole, head, body, tail, State, state, run, items_records}
 use Rattle.xml_acceptance.specs.Open.{is_end, is_deep}
 use Rattle.xml_acceptance.specs.Passes.{past_items, Finds, Goes, Stops, NestsBy, Nests, Passes, nesting_fault}
 use Rattle.xml_items.proofs.PlaceLaws.{one_item_on_walks}
-use Rattle.xml_acceptance.proofs.Standing.{stand}
+use Rattle.xml_acceptance.proofs.Placement.{hold}
 use Rattle.xml_acceptance.proofs.Tokens.{tokens_whole}
-use Rattle.xml_acceptance.proofs.Fronts.{taken_begins, stops_begins, open_no_nest, open_taken, ends_nest}
+use Rattle.xml_acceptance.proofs.Prefixes.{taken_begins, stops_begins, open_no_nest, open_taken, ends_nest}
 use Rattle.xml_acceptance.proofs.OneAnswer.{one_document}
 use Rattle.xml_acceptance.proofs.SomeAnswer.{walk_more}
 use Rattle.xml_acceptance.proofs.OneMore.{past_more}
@@ -47,7 +47,7 @@ passes_more bytes old new at found i p b s f n = record {
 pub later_end : (bytes : List ℕ) (at : ℕ) (found : Counted) → IsCountedAt bytes at found → (at < found.item.span.end) × (found.item.span.end ≤ length bytes)
 later_end bytes at found a =
     let end : found.item.span.end ≡ at + length (spelling a.item) = ap (λ (x : ItemShown). x.span.end) a.shown in
-    let s = stand bytes at a.item a.begins in
+    let s = hold bytes at a.item a.begins in
     (omega (arith, end, s.some), omega (arith, end, s.within))
 
 -- ---- which layers don't refuse
@@ -67,14 +67,14 @@ no_item f bytes items at w e r =
     let h : at ∷ r.others ≡ [] = sym r.first ∙ ap (over_items f (first_place bytes)) same ∙ e in
     cc
 
-no_longest : (front rest : List Item) (nest : Forest) → is_nest nest ≡ true → flat nest ≡ front ++ rest → DoesNotBegin front rest → ⊥
-no_longest front [] nest n e h = h nest n (e ∙ append-nil front)
-no_longest front (i ∷ is) nest n e h = h (record { nest = nest; rest = is; nests = n; split = e ∙ sym (append_assoc front (i ∷ []) is) })
+no_longest : (prefix rest : List Item) (nest : Forest) → is_nest nest ≡ true → flat nest ≡ prefix ++ rest → DoesNotBegin prefix rest → ⊥
+no_longest prefix [] nest n e h = h nest n (e ∙ append-nil prefix)
+no_longest prefix (i ∷ is) nest n e h = h (record { nest = nest; rest = is; nests = n; split = e ∙ sym (append_assoc prefix (i ∷ []) is) })
 
 no_nesting : (bytes : List ℕ) (items : List Item) (at : ℕ) (deep : Bool) → Whole bytes items → run [] whole items ≡ Some (state [] tail) → RefusesNesting bytes at deep → ⊥
 no_nesting bytes items at deep w ends r =
     let n = ends_nest items ends in
-    no_longest r.front r.rest n.0 n.1 (n.2 ∙ one_walk bytes (one_item_on_walks bytes w.utf8) items (r.front ++ r.rest) w.walked r.walked) r.longest
+    no_longest r.prefix r.rest n.0 n.1 (n.2 ∙ one_walk bytes (one_item_on_walks bytes w.utf8) items (r.prefix ++ r.rest) w.walked r.walked) r.longest
 
 -- the layers of whole items, up to one
 none_to : (bytes : List ℕ) (items : List Item) (k : ℕ) → Whole bytes items → k ≤ 5 → (3 ≤ k → over_items unknown_item (first_place bytes) items ≡ []) → (4 ≤ k → over_items encoding_item (first_place bytes) items ≡ [])
@@ -97,7 +97,7 @@ is_refusal bytes fault k e none r = record { refuses = r; first = λ other l. no
 
 pub refused_utf8 : (bytes : List ℕ) (at : ℕ) → IsValidUpTo bytes at → IsRefusal bytes (faults.Utf8 at)
 refused_utf8 bytes at v =
-    record { refuses = record { within = v.short; prefix = v.front; longest = λ n l m. v.longest n l }; first = λ other l r. no_layer other l }
+    record { refuses = record { within = v.short; prefix = v.prefix; longest = λ n l m. v.longest n l }; first = λ other l r. no_layer other l }
   where
     no_layer : (other : DocFault) → layer other < 1 → ⊥
     no_layer (faults.Utf8 n) l = omega (arith, l)
@@ -174,15 +174,15 @@ pub nesting_layer : (at : ℕ) (deep : Bool) → layer (nesting_fault at deep) �
 nesting_layer at false = refl
 nesting_layer at true = refl
 
-stops_refuses : (bytes : List ℕ) (fault : DocFault) (items : List Item) → Whole bytes items → (s : Stops bytes fault items) → RefusesNesting bytes (past_items bytes s.front) (is_deep s.now.names s.item)
+stops_refuses : (bytes : List ℕ) (fault : DocFault) (items : List Item) → Whole bytes items → (s : Stops bytes fault items) → RefusesNesting bytes (past_items bytes s.prefix) (is_deep s.now.names s.item)
 stops_refuses bytes fault items w s = record {
-  front = s.front;
+  prefix = s.prefix;
   rest = s.item ∷ s.rest;
   walked = ap (walk_to_end bytes) (sym s.split) ∙ w.walked;
-  begins = taken_begins s.front s.now s.ran;
-  longest = stops_begins s.front s.item s.now s.ran s.stuck;
+  begins = taken_begins s.prefix s.now s.ran;
+  longest = stops_begins s.prefix s.item s.now s.ran s.stuck;
   place = refl;
-  deep = ap (λ (n : ℕ). is_opening s.item && n == 255) (open_taken s.front [] whole s.now s.ran);
+  deep = ap (λ (n : ℕ). is_opening s.item && n == 255) (open_taken s.prefix [] whole s.now s.ran);
 }
 
 -- the fault that the pass kept
@@ -192,7 +192,7 @@ fault_of o fault bytes nest items e n = subst (λ (x : Option DocFault). NestsBy
 pub refused_nesting : (bytes : List ℕ) (pass : Pass) (fault : DocFault) → IsUtf8 bytes → Passes bytes pass (length bytes) → IsPlain pass → pass.nest.fault ≡ Some fault → IsRefusal bytes fault × (layer fault ≡ 5)
 refused_nesting bytes pass fault u p n e =
     let s = fault_of pass.nest.fault fault bytes pass.nest p.items e p.nests in
-    let at = past_items bytes s.front in
+    let at = past_items bytes s.prefix in
     let deep = is_deep s.now.names s.item in
     let r = is_refusal bytes (nesting_fault at deep) 4 (nesting_layer at deep) (below_nesting bytes pass u p n) (refuses_nesting bytes at deep (stops_refuses bytes fault p.items (whole_pass bytes pass u p) s)) in
     (subst (IsRefusal bytes) (sym s.fault_is) r, ap layer s.fault_is ∙ nesting_layer at deep)
@@ -216,7 +216,7 @@ is_end_false s f e = false≢true (sym f ∙ ap is_end e)
 pub refused_open : (bytes : List ℕ) (pass : Pass) → IsUtf8 bytes → (p : Passes bytes pass (length bytes)) → IsPlain pass → (g : Goes bytes pass.nest p.items) → is_end g.now ≡ false → IsRefusal bytes (faults.Nesting (length bytes))
 refused_open bytes pass u p n g open_still =
     is_refusal bytes (faults.Nesting (length bytes)) 4 refl (below_nesting bytes pass u p n) (record {
-      front = p.items;
+      prefix = p.items;
       rest = [];
       walked = ap (walk_to_end bytes) (append-nil p.items) ∙ (whole_pass bytes pass u p).walked;
       begins = taken_begins p.items g.now g.ran;
@@ -235,7 +235,7 @@ pub record HasNest (bytes : List ℕ) (items : List Item) : Type 0 where
   pub nest : Forest
   pub is_flat : flat nest ≡ items
   pub is_document : IsDocument bytes nest
-  pub records_are : records nest (first_place bytes) ≡ document ∷ items_tokens 0 (first_place bytes) items
+  pub records_are : records nest (first_place bytes) ≡ document ∷ items_records 0 (first_place bytes) items
 
 pub has_nest : (bytes : List ℕ) (items : List Item) → Whole bytes items → run [] whole items ≡ Some (state [] tail) → HasNest bytes items
 unfolding records
@@ -245,16 +245,16 @@ has_nest bytes items w ends =
       nest = n.0;
       is_flat = n.2;
       is_document = record { nests = n.1; walked = ap (walk_to_end bytes) n.2 ∙ w.walked };
-      records_are = ap (λ (l : List Token). document ∷ l) (sym (tokens_whole n.0 (first_place bytes)) ∙ ap (items_tokens 0 (first_place bytes)) n.2);
+      records_are = ap (λ (l : List Record). document ∷ l) (sym (tokens_whole n.0 (first_place bytes)) ∙ ap (items_records 0 (first_place bytes)) n.2);
     }
 
 -- the document's own record is not too wide
-document_fits : (l : List Token) → first_wide (document ∷ l) ≡ first_wide l
+document_fits : (l : List Record) → first_wide (document ∷ l) ≡ first_wide l
 unfolding first_wide
 document_fits l = refl
 
 widths_are : (bytes : List ℕ) (nest : NestSoFar) (items : List Item) → (h : HasNest bytes items) → Goes bytes nest items → first_wide (records h.nest (first_place bytes)) ≡ nest.wide
-widths_are bytes nest items h g = ap first_wide h.records_are ∙ document_fits (items_tokens 0 (first_place bytes) items) ∙ sym g.wide
+widths_are bytes nest items h g = ap first_wide h.records_are ∙ document_fits (items_records 0 (first_place bytes) items) ∙ sym g.wide
 
 pub refused_width : (bytes : List ℕ) (pass : Pass) (field : Field) (at : ℕ) → IsUtf8 bytes → (p : Passes bytes pass (length bytes)) → IsPlain pass → (g : Goes bytes pass.nest p.items) → is_end g.now ≡ true → pass.nest.wide ≡ Some (field, at)
     → IsRefusal bytes (faults.Width field at)
@@ -285,4 +285,4 @@ accepted_nest bytes pass u p n g e wide =
 pub counted_records : (bytes : List ℕ) (pass : Pass) → IsUtf8 bytes → (p : Passes bytes pass (length bytes)) → (g : Goes bytes pass.nest p.items) → is_end g.now ≡ true → (nest : Forest) → Accepted 6 bytes nest → pass.nest.records ≡ length (records nest (first_place bytes))
 counted_records bytes pass u p g e nest a =
     let h = has_nest bytes p.items (whole_pass bytes pass u p) (ran_to_end bytes pass.nest p.items g e) in
-    g.counted ∙ ap (λ (l : List Token). length l) (sym h.records_are) ∙ ap (λ (f : Forest). length (records f (first_place bytes))) (one_document bytes h.nest nest u h.is_document a.document)
+    g.counted ∙ ap (λ (l : List Record). length l) (sym h.records_are) ∙ ap (λ (f : Forest). length (records f (first_place bytes))) (one_document bytes h.nest nest u h.is_document a.document)

@@ -1,11 +1,11 @@
 pub mod Nests
 pub mod Tokens
-pub mod Fronts
+pub mod Prefixes
 pub mod OneAnswer
 pub mod SomeAnswer
 pub mod ByteLemmas
 pub mod AmpersandLemmas
-pub mod Standing
+pub mod Placement
 pub mod EntityLaws
 pub mod RecordLaws
 pub mod SpaceLaws

@@ -25,7 +25,7 @@ struct Pass {
 }
 
 impl Pass {
-    /// Before the first item, which stands at `first`.
+    /// Before the first item, which is at `first`.
     fn new(bytes: &[u8], first: u32) -> Pass
         requires size { length bytes.now < 2 ^ 30 }
         requires within { first ≤ length bytes.now }

@@ -1,4 +1,4 @@
-//! Which items nest: the elements that stand open (XML 1.0, productions 1, 39 and 43).
+//! Which items nest: the elements that are open (XML 1.0, productions 1, 39 and 43).
 #![tactic(auto)]
 
 ghost use Rattle.std.specs.Prelude.{◌≡◌, ℕ, ◌-◌, ◌^◌, ◌<◌, ◌≤◌, List, [], true, length, take, drop, slice_index_or, nat_lt};
@@ -9,14 +9,14 @@ ghost use Rattle.xml_acceptance.specs.Machine.{Phase as MachinePhase, state, who
 ghost use Rattle.xml_acceptance.specs.Phases.{outer_of};
 ghost use Rattle.xml_acceptance.specs.Widths.{span_bytes, InBytes};
 
-use crate::phases::{OuterKind, Phase, Standing, inner_standing, outer_kind, phase_behind};
+use crate::phases::{OuterKind, Phase, Placement, inner_placement, outer_kind, phase_after};
 use xml_items::{Item, ItemKind};
 use xml_model::Span;
 
-/// How many elements may stand open at once: the depth of an element is at most 254.
+/// How many elements may be open at once: the depth of an element is at most 254.
 const MOST_OPEN: usize = 255;
 
-/// The names of the elements that stand open, the root element's first, and what may stand outside of them.
+/// The names of the elements that are open, the root element's first, and what may be outside of them.
 #[derive(Drop)]
 pub struct OpenTags {
     names: [Span; 255],
@@ -43,7 +43,7 @@ fn are_same(first: &[u8], second: &[u8]) -> bool
     rest.is_empty()
 }
 
-/// Whether the same bytes stand in two places.
+/// Whether the same bytes are in two places.
 fn is_same(bytes: &[u8], one: Span, other: Span) -> bool
     requires one { InBytes bytes.now one }
     requires other { InBytes bytes.now other }
@@ -55,9 +55,9 @@ fn is_same(bytes: &[u8], one: Span, other: Span) -> bool
 }
 
 impl OpenTags {
-    ghost use Rattle.xml_acceptance.specs.Open.{no_span, start_standing, is_end, NameAt, IsStack, Shows, Shown};
+    ghost use Rattle.xml_acceptance.specs.Open.{no_span, start_placement, is_end, NameAt, IsStack, Shows, Shown};
 
-    /// No element stands open, and nothing has come.
+    /// No element is open, and nothing has come.
     pub fn new() -> Self
         ensures { (bytes : List ℕ) → Shows bytes result [] whole }
     {
@@ -68,7 +68,7 @@ impl OpenTags {
         }
     }
 
-    /// Whether an element stands open.
+    /// Whether an element is open.
     pub fn is_inside(&self) -> bool
         ensures { (bytes : List ℕ) (names : List (List ℕ)) (phase : MachinePhase) → Shows bytes self.now names phase →
             result ≡ nat_lt 0 (length names) }
@@ -76,7 +76,7 @@ impl OpenTags {
         self.depth > 0
     }
 
-    /// Whether the root element has come and none stands open.
+    /// Whether the root element has come and none is open.
     pub fn is_complete(&self) -> bool
         ensures { (bytes : List ℕ) (names : List (List ℕ)) (phase : MachinePhase) → Shows bytes self.now names phase →
             result ≡ is_end (state names phase) }
@@ -93,57 +93,57 @@ impl OpenTags {
     }
 
     /// Whether an element may begin here: the root element, or one inside at most 254 others.
-    fn start_standing(&self) -> Standing
+    fn start_placement(&self) -> Placement
         ensures shown { (bytes : List ℕ) (names : List (List ℕ)) (phase : MachinePhase) →
-            Shows bytes self.now names phase → result ≡ start_standing names phase }
-        ensures room { result ≡ Standing.Stands → self.now.depth < 255 }
+            Shows bytes self.now names phase → result ≡ start_placement names phase }
+        ensures room { result ≡ Placement.Fits → self.now.depth < 255 }
     {
         if self.depth == 0 {
             if self.phase == Phase::Tail {
-                return Standing::Misplaced;
+                return Placement::Misplaced;
             }
-            return Standing::Stands;
+            return Placement::Fits;
         }
         if self.depth < MOST_OPEN {
-            Standing::Stands
+            Placement::Fits
         } else {
-            Standing::TooDeep
+            Placement::TooDeep
         }
     }
 
-    /// Takes a start tag, if it may stand here.
-    fn open(&mut self, name: Span) -> Standing
+    /// Takes a start tag, if it may be here.
+    fn open(&mut self, name: Span) -> Placement
         ensures { (bytes : List ℕ) (tag : Tag) (names : List (List ℕ)) (phase : MachinePhase) →
             Shows bytes self.old names phase → NameAt bytes name tag.name
             → Shown bytes self.new result names (start_tag tag) (step names phase (start_tag tag)) }
     {
-        match self.start_standing() {
-            Standing::Stands => {
+        match self.start_placement() {
+            Placement::Fits => {
                 self.names[self.depth] = name;
                 self.depth += 1;
                 self.phase = Phase::Tail;
-                Standing::Stands
+                Placement::Fits
             }
             refusal => refusal,
         }
     }
 
-    /// Takes an empty tag, if it may stand here.
-    fn pass(&mut self) -> Standing
+    /// Takes an empty tag, if it may be here.
+    fn pass(&mut self) -> Placement
         ensures { (bytes : List ℕ) (tag : Tag) (names : List (List ℕ)) (phase : MachinePhase) → Shows bytes self.old names phase
             → Shown bytes self.new result names (empty_tag tag) (step names phase (empty_tag tag)) }
     {
-        match self.start_standing() {
-            Standing::Stands => {
+        match self.start_placement() {
+            Placement::Fits => {
                 self.phase = Phase::Tail;
-                Standing::Stands
+                Placement::Fits
             }
             refusal => refusal,
         }
     }
 
     /// Takes an end tag, if it has the name of the innermost open element.
-    fn close(&mut self, bytes: &[u8], name: Span) -> Standing
+    fn close(&mut self, bytes: &[u8], name: Span) -> Placement
         requires name { InBytes bytes.now name }
         requires stack { IsStack bytes.now self.old }
         ensures { (written space : List ℕ) (names : List (List ℕ)) (phase : MachinePhase) →
@@ -151,32 +151,32 @@ impl OpenTags {
             → Shown bytes.now self.new result names (end_tag written space) (step names phase (end_tag written space)) }
     {
         if self.depth == 0 {
-            return Standing::Misplaced;
+            return Placement::Misplaced;
         }
         if !is_same(bytes, self.top(), name) {
-            return Standing::Misplaced;
+            return Placement::Misplaced;
         }
         self.depth -= 1;
-        Standing::Stands
+        Placement::Fits
     }
 
-    /// Takes an item that is no tag and stands outside of every element, if it may stand here.
-    fn take_outer(&mut self, kind: OuterKind) -> Standing
+    /// Takes an item that is no tag and is outside of every element, if it may be here.
+    fn take_outer(&mut self, kind: OuterKind) -> Placement
         ensures { (bytes : List ℕ) (x : Leaf) (phase : MachinePhase) → Shows bytes self.old [] phase → kind ≡ outer_of x
             → Shown bytes self.new result [] (leaf x) (step [] phase (leaf x)) }
     {
-        match phase_behind(self.phase, kind) {
+        match phase_after(self.phase, kind) {
             Some(phase) => {
                 self.phase = phase;
-                Standing::Stands
+                Placement::Fits
             }
-            None => Standing::Misplaced,
+            None => Placement::Misplaced,
         }
     }
 
-    /// Takes an item, if it may stand behind those before it.
+    /// Takes an item, if it may be after those before it.
     #[inline(always)]
-    pub fn take(&mut self, bytes: &[u8], item: Item) -> Standing
+    pub fn take(&mut self, bytes: &[u8], item: Item) -> Placement
         requires size { length bytes.now < 2 ^ 30 }
         requires item { IsItemAt bytes.now item.span.start item }
         requires stack { IsStack bytes.now self.old }
@@ -189,7 +189,7 @@ impl OpenTags {
             ItemKind::StartTag => self.open(item.name),
             ItemKind::EmptyTag => self.pass(),
             ItemKind::EndTag => self.close(bytes, item.name),
-            kind if self.depth > 0 => inner_standing(kind),
+            kind if self.depth > 0 => inner_placement(kind),
             _ => self.take_outer(outer_kind(bytes, item)),
         }
     }

@@ -1,4 +1,4 @@
--- A text before and behind its first colon, and whether a text is a Name.
+-- A text before and after its first colon, and whether a text is a Name.
 use Rattle.std.proofs.Common.{◌≡◌, ℕ, ◌<◌, Bool, true, false, inl, inr, List, [], ◌∷◌, length, take, drop, Some, None, refl, sym, ap, ◌∙◌, arith}
 use Rattle.std.specs.Prelude.{◌==◌, not}
 use Rattle.std.specs.Str.{IsUtf8, chars}
@@ -14,7 +14,7 @@ use Rattle.xml_chars.proofs.TextLemmas.{Split, split_stop, run_from_first}
 use Rattle.xml_model.specs.Chars.{has_colon, before_colon, after_colon, is_name}
 use Rattle.xml_chars.specs.Reading.{read_name}
 use Rattle.xml_chars.proofs.NameLaws.{name_reads}
-use Rattle.xml_chars.proofs.StandLemmas.{no_chars, some_chars}
+use Rattle.xml_chars.proofs.HoldLemmas.{no_chars, some_chars}
 use Rattle.xml_chars.proofs.PlaceLemmas.{start_reads}
 
 abbrev pub no_colon : ℕ → Bool

@@ -6,7 +6,7 @@ pub mod Ranges
 pub mod Runs
 pub mod NumberLemmas
 pub mod ReferenceLemmas
-pub mod StandLemmas
+pub mod HoldLemmas
 pub mod NameLaws
 pub mod PlaceLemmas
 pub mod ColonLemmas

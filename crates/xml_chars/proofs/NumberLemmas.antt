@@ -119,12 +119,12 @@ unfolding read_digits
 digits_yes base low text digits rest k e all is h =
     let n = prefix_len (λ c. is_digit c base) text in
     let same = same_Some (take n text, drop n text) (digits, rest) e in
-    let front : take n text ≡ digits = ap (λ (z : List ℕ × List ℕ). z.0) same in
+    let prefix : take n text ≡ digits = ap (λ (z : List ℕ × List ℕ). z.0) same in
     let back : drop n text ≡ rest = ap (λ (z : List ℕ × List ℕ). z.1) same in
     let m : k ≡ min (number_of base digits) 0x11_0000 = is ∙ number_capped base low digits in
     let value : number_of base digits ≡ k = capped_yes (number_of base digits) k m h in
-    let yes : is_number base (take n text) ≡ true = ap (is_number base) front ∙ number_yes base digits all (ap is_char value ∙ h) in
-    let number : number_of base (take n text) ≡ k = ap (number_of base) front ∙ value in
+    let yes : is_number base (take n text) ≡ true = ap (is_number base) prefix ∙ number_yes base digits all (ap is_char value ∙ h) in
+    let number : number_of base (take n text) ≡ k = ap (number_of base) prefix ∙ value in
     rw yes (rw (number, back) refl)
 
 pub digits_no : (base : ℕ) → 2 ≤ base → (text digits rest : List ℕ) (k : ℕ) → run (λ c. is_digit c base) text ≡ Some (digits, rest) → k ≡ capped_from base 0 digits → is_char k ≡ false
@@ -133,7 +133,7 @@ unfolding read_digits
 digits_no base low text digits rest k e is h =
     let n = prefix_len (λ c. is_digit c base) text in
     let same = same_Some (take n text, drop n text) (digits, rest) e in
-    let front : take n text ≡ digits = ap (λ (z : List ℕ × List ℕ). z.0) same in
+    let prefix : take n text ≡ digits = ap (λ (z : List ℕ × List ℕ). z.0) same in
     let m : k ≡ min (number_of base digits) 0x11_0000 = is ∙ number_capped base low digits in
-    let no : is_number base (take n text) ≡ false = ap (is_number base) front ∙ number_no base digits (capped_no (number_of base digits) k m h) in
+    let no : is_number base (take n text) ≡ false = ap (is_number base) prefix ∙ number_no base digits (capped_no (number_of base digits) k m h) in
     rw no refl

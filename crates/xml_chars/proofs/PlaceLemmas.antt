@@ -17,13 +17,13 @@ use Rattle.xml_chars.specs.Reading.{read_name, read_space, read_reference}
 use Rattle.xml_chars.specs.Places.{IsLongestName, HasNoName, IsLongestSpace, is_reference, meets_reference, HasNoReference, IsReferenceAt, reference_shown}
 use Rattle.xml_chars.specs.Shown.{Shown, character, name, shown}
 use Rattle.xml_chars.proofs.Readers.{map_some, FitRun, run_again}
-use Rattle.xml_chars.proofs.StandLemmas.{read_to, To, front_stands, front_of_run, size-append}
+use Rattle.xml_chars.proofs.HoldLemmas.{read_to, To, prefix_holds, prefix_of_run, size-append}
 use Rattle.xml_chars.proofs.NameLaws.{name_reads, name_chars, space_reads, reference_reads}
 
--- a front that passes is no longer than a longest one
+-- a prefix that passes is no longer than a longest one
 longest_by : (p : ℕ → Bool) (cs n rest w v : List ℕ) → cs ≡ n ++ rest → FitRun p n rest → cs ≡ w ++ v → list_all p w ≡ true → size w ≤ size n
 longest_by p cs n rest w v e fits f h =
-    let m = front_of_run p w v h in
+    let m = prefix_of_run p w v h in
     let one : take (prefix_len p cs) cs ≡ w ++ m.0 = ap (λ (l : List ℕ). take (prefix_len p l) l) f ∙ m.1 in
     let two : take (prefix_len p cs) cs ≡ n = ap (λ (l : List ℕ). take (prefix_len p l) l) e ∙ ap (λ (k : ℕ). take k (n ++ rest)) (run_again p n rest fits) ∙ take_at n rest (length n) refl in
     omega (arith, ap size (sym two ∙ one), size-append w m.0)
@@ -36,16 +36,16 @@ name_at bytes text n rest at within is u v e =
       record {
         name = n;
         fits = t.1.0;
-        there = k.stands;
+        there = k.holds;
         end = k.end;
         longest = λ other h s.
-            let f = front_stands text other u (ap (begins (encodes other)) is ∙ s) in
+            let f = prefix_holds text other u (ap (begins (encodes other)) is ∙ s) in
             longest_by is_name_char (chars text) n (chars rest) other f.0 t.0 (name_chars n t.1.0, t.1.1) f.1 (name_chars other h);
       },
       k.boundary,
     )
 
--- a name at the front is read, if not whole
+-- a name at the start is read, if not whole
 pub start_reads : (n v : List ℕ) → is_name n ≡ true → read_name (n ++ v) ≡ None → ⊥
 unfolding read_name is_name
 start_reads [] v h e = false≢true h
@@ -56,7 +56,7 @@ start_reads (c ∷ n) v h e =
 
 pub no_name_at : (bytes text : List ℕ) (at : ℕ) → text ≡ drop at bytes → IsUtf8 text → read_name (chars text) ≡ None → HasNoName bytes at
 no_name_at bytes text at is u e n h = false_from_ne_true _ (λ s.
-    let f = front_stands text n u (ap (begins (encodes n)) is ∙ s) in
+    let f = prefix_holds text n u (ap (begins (encodes n)) is ∙ s) in
     start_reads n f.0 h (ap read_name (sym f.1) ∙ e))
 
 pub space_at : (bytes text n rest : List ℕ) (at : ℕ) → at ≤ length bytes → text ≡ drop at bytes → IsUtf8 text → IsUtf8 rest → read_space (chars text) ≡ Some (n, chars rest)
@@ -68,10 +68,10 @@ space_at bytes text n rest at within is u v e =
       record {
         space = n;
         fits = t.1.0;
-        there = k.stands;
+        there = k.holds;
         end = k.end;
         longest = λ other h s.
-            let f = front_stands text other u (ap (begins (encodes other)) is ∙ s) in
+            let f = prefix_holds text other u (ap (begins (encodes other)) is ∙ s) in
             longest_by is_space (chars text) n (chars rest) other f.0 t.0 t.1 f.1 h;
       },
       k.boundary,
@@ -104,7 +104,7 @@ none_by (Some p) e = absurd (cc)
 
 pub no_reference_at : (bytes text : List ℕ) (at : ℕ) → text ≡ drop at bytes → IsUtf8 text → mapped shown read_reference (chars text) ≡ None → HasNoReference bytes at
 no_reference_at bytes text at is u e p r h = false_from_ne_true _ (λ s.
-    let f = front_stands text (written_piece p) u (ap (begins (encodes (written_piece p))) is ∙ s) in
+    let f = prefix_holds text (written_piece p) u (ap (begins (encodes (written_piece p))) is ∙ s) in
     let yes = reference_reads.again p f.0 (and_from (is_reference p) (meets_reference p) r h) in
     let no : read_reference (written_piece p ++ f.0) ≡ None = ap read_reference (sym f.1) ∙ none_by (read_reference (chars text)) e in
     cc)
@@ -119,12 +119,12 @@ char_reference bytes rest at value f = go f.piece f.shows f.fits f.to
         let same : number_of 10 d ≡ value = cc in
         let end = t.end in
         let is : Char value (length bytes - length rest) ≡ reference_shown at (decimal d) = rw (sym same, end) refl in
-        record { piece = decimal d; refers = refl; meets = h; there = t.stands; shown = is }
+        record { piece = decimal d; refers = refl; meets = h; there = t.holds; shown = is }
     go (hexadecimal d) s h t =
         let same : number_of 16 d ≡ value = cc in
         let end = t.end in
         let is : Char value (length bytes - length rest) ≡ reference_shown at (hexadecimal d) = rw (sym same, end) refl in
-        record { piece = hexadecimal d; refers = refl; meets = h; there = t.stands; shown = is }
+        record { piece = hexadecimal d; refers = refl; meets = h; there = t.holds; shown = is }
 
 pub one_byte : (c : ℕ) → c < 128 → size (c ∷ []) ≡ 1
 unfolding size
@@ -144,4 +144,4 @@ named_reference bytes rest n at f = go f.piece f.shows f.fits f.to
         let end : length bytes - length rest ≡ at + size (written_piece (entity m)) = t.end in
         let before : length bytes - length rest - 1 ≡ at + 1 + size m = omega (arith, named_size m) in
         let is : Named record { start = at + 1; end = length bytes - length rest - 1 } (length bytes - length rest) ≡ reference_shown at (entity m) = rw before (ap (λ (k : ℕ). Named record { start = at + 1; end = at + 1 + size m } k) end) in
-        record { piece = entity m; refers = refl; meets = h; there = t.stands; shown = is }
+        record { piece = entity m; refers = refl; meets = h; there = t.holds; shown = is }

@@ -59,29 +59,29 @@ pub record Cut (text rest w : List ℕ) : Type 0 where
   pub whole : text ≡ encodes w ++ rest
   pub len : length text - length rest ≡ length (encodes w)
   pub shorter : length rest ≤ length text
-  pub front : take (length text - length rest) text ≡ encodes w
+  pub prefix : take (length text - length rest) text ≡ encodes w
   pub back : drop (length text - length rest) text ≡ rest
   pub points : chars (take (length text - length rest) text) ≡ w
   pub boundary : IsCharBoundary text (length text - length rest)
 
-scalars_front : (w v : List ℕ) → scalars (w ++ v) ≡ true → scalars w ≡ true
-scalars_front [] v s = refl
-scalars_front (c ∷ w) v s = let q = and_parts (scalar c) (scalars (w ++ v)) s in and_from (scalar c) (scalars w) q.0 (scalars_front w v q.1)
+scalars_prefix : (w v : List ℕ) → scalars (w ++ v) ≡ true → scalars w ≡ true
+scalars_prefix [] v s = refl
+scalars_prefix (c ∷ w) v s = let q = and_parts (scalar c) (scalars (w ++ v)) s in and_from (scalar c) (scalars w) q.0 (scalars_prefix w v q.1)
 
 pub cut_of : (text rest w : List ℕ) → IsUtf8 text → IsUtf8 rest → chars text ≡ w ++ chars rest → Cut text rest w
 cut_of text rest w u v e =
     let whole : text ≡ encodes w ++ rest = sym (encodes-chars text u) ∙ ap encodes e ∙ encodes-append w (chars rest) ∙ ap (λ (l : List ℕ). encodes w ++ l) (encodes-chars rest v) in
     let sum : length text ≡ length (encodes w) + length rest = ap (λ (l : List ℕ). length l) whole ∙ length-append (encodes w) rest in
     let n : length text - length rest ≡ length (encodes w) = omega arith in
-    let scalar_w : scalars w ≡ true = scalars_front w (chars rest) (ap scalars (sym e) ∙ scalars-chars text u) in
-    let front : take (length text - length rest) text ≡ encodes w = ap (λ (k : ℕ). take k text) n ∙ ap (λ (l : List ℕ). take (length (encodes w)) l) whole ∙ take_at (encodes w) rest (length (encodes w)) refl in
+    let scalar_w : scalars w ≡ true = scalars_prefix w (chars rest) (ap scalars (sym e) ∙ scalars-chars text u) in
+    let prefix : take (length text - length rest) text ≡ encodes w = ap (λ (k : ℕ). take k text) n ∙ ap (λ (l : List ℕ). take (length (encodes w)) l) whole ∙ take_at (encodes w) rest (length (encodes w)) refl in
     record {
       whole = whole;
       len = n;
       shorter = omega arith;
-      front = front;
+      prefix = prefix;
       back = ap (λ (k : ℕ). drop k text) n ∙ ap (λ (l : List ℕ). drop (length (encodes w)) l) whole ∙ drop_at (encodes w) rest (length (encodes w)) refl;
-      points = ap chars front ∙ chars-encodes w scalar_w;
+      points = ap chars prefix ∙ chars-encodes w scalar_w;
       boundary = subst (λ (k : ℕ). IsCharBoundary text k) (sym n) (IsCharBoundary-at_seam text (encodes w) rest whole v);
     }
 

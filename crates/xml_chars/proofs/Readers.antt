@@ -1,4 +1,4 @@
--- What a reader gives stands at the front, and what stands at the front is given.
+-- What a reader gives is at the start, and what is at the start is given.
 use Rattle.std.proofs.Common.{◌≡◌, ℕ, zero, suc, ◌<◌, Bool, true, false, ◌⊎◌, inl, inr, cond, eqb, List, [], ◌∷◌, ◌++◌, length, take, drop, Option, Some, None, refl, sym, ap, subst, ◌∙◌, arith, append_assoc}
 use Rattle.std.specs.Prelude.{option_and_then, option_map}
 use Rattle.std.specs.List.{prefix_len, list_all, flat_map}
@@ -100,7 +100,7 @@ kept_reads {X} t f s F r = record { takes = tk; again = ag }
     ag : (x : X) (rest : List ℕ) → F x rest × (t x ≡ true) → kept t f (s x ++ rest) ≡ Some (x, rest)
     ag x rest h = ap (option_and_then (λ (p : X × List ℕ). cond (t p.0) (Some p) None)) (r.again x rest h.0) ∙ rw h.1 refl
 
--- ---- the longest front
+-- ---- the longest prefix
 
 abbrev pub StopsBy : (ℕ → Bool) → List ℕ → Type 0
 StopsBy p [] = Unit {0}

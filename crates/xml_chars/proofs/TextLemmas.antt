@@ -40,10 +40,10 @@ scalars_back : (w v : List ℕ) → scalars (w ++ v) ≡ true → scalars v ≡ 
 scalars_back [] v s = s
 scalars_back (c ∷ w) v s = scalars_back w v (and_parts (scalar c) (scalars (w ++ v)) s).1
 
--- some characters of the front of a text, and what is left
+-- some characters of the start of a text, and what is left
 pub record Split (bs : List ℕ) (n m : ℕ) : Type 0 where
   pub boundary : IsCharBoundary bs n
-  pub front : chars (take n bs) ≡ take m (chars bs)
+  pub prefix : chars (take n bs) ≡ take m (chars bs)
   pub back : chars (drop n bs) ≡ drop m (chars bs)
   pub utf8 : IsUtf8 (drop n bs)
 
@@ -58,7 +58,7 @@ split_at bs n m u within e =
     let same : length bs - length (drop n bs) ≡ n = omega (arith, length-drop n bs) in
     record {
       boundary = subst (λ (i : ℕ). IsCharBoundary bs i) same k.boundary;
-      front = ap (λ (i : ℕ). chars (take i bs)) (sym same) ∙ k.points;
+      prefix = ap (λ (i : ℕ). chars (take i bs)) (sym same) ∙ k.points;
       back = back;
       utf8 = v;
     }
@@ -72,8 +72,8 @@ split_run p low bs n u is =
     let within : n ≤ length bs = subst (λ (k : ℕ). k ≤ length bs) (sym is) (prefix_len-le-length p bs) in
     split_at bs n (prefix_len p (chars bs)) u within (ap (λ (k : ℕ). drop k bs) same ∙ ap (λ (l : List ℕ). drop (prefix_len p (chars bs)) l) (sym e) ∙ r.rest)
 
-pub run_of_split : (p : ℕ → Bool) (bs front back : List ℕ) (n : ℕ) → Split bs n (prefix_len p (chars bs)) → front ≡ take n bs → back ≡ drop n bs → run p (chars bs) ≡ Some (chars front, chars back)
-run_of_split p bs front back n s f b = rw (f, b, s.front, s.back) refl
+pub run_of_split : (p : ℕ → Bool) (bs prefix back : List ℕ) (n : ℕ) → Split bs n (prefix_len p (chars bs)) → prefix ≡ take n bs → back ≡ drop n bs → run p (chars bs) ≡ Some (chars prefix, chars back)
+run_of_split p bs prefix back n s f b = rw (f, b, s.prefix, s.back) refl
 
 -- ---- words of ASCII
 

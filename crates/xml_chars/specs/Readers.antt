@@ -1,4 +1,4 @@
--- Readers: what stands at the front of a text, and what is left, or None. A text is a list of code points.
+-- Readers: what is at the start of a text, and what is left, or None. A text is a list of code points.
 use Rattle.std.specs.Prelude.{ℕ, suc, zero, Bool, cond, List, [], ◌∷◌, length, take, drop, Option, Some, None, option_and_then, option_map, ◌≡◌}
 use Rattle.std.specs.List.{prefix_len}
 use Rattle.xml_model.specs.Chars.{begins}
@@ -18,11 +18,11 @@ mapped h f text = option_map (λ p. (h p.0, p.1)) (f text)
 abbrev pub kept : {X : Type 0} → (X → Bool) → Reader X → Reader X
 kept t f text = option_and_then (λ p. cond (t p.0) (Some p) None) (f text)
 
--- the longest front whose characters pass a test
+-- the longest prefix whose characters pass a test
 abbrev pub run : (ℕ → Bool) → Reader (List ℕ)
 run p text = Some (take (prefix_len p text) text, drop (prefix_len p text) text)
 
--- what follows that front
+-- what follows that prefix
 abbrev pub after_run : (ℕ → Bool) → List ℕ → List ℕ
 after_run p text = drop (prefix_len p text) text
 

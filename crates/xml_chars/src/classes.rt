@@ -8,7 +8,7 @@ ghost use Rattle.xml_chars.specs.Wide.{is_ascii_start, is_ascii_name, is_wide_st
 /// The bit that the digits `2` and `3` alone have.
 const NAME: u8 = 2;
 
-/// For each byte `3` where a name may begin with it, `2` where it may stand further on in a name, `1` where it is white
+/// For each byte `3` where a name may begin with it, `2` where it may be further on in a name, `1` where it is white
 /// space, `4` where it is not ASCII, and else `0`.
 static CLASSES: [u8; 256] = *b"\
     00000000011001000000000000000000\
@@ -27,7 +27,7 @@ pub fn is_ascii_start(byte: u8) -> bool
     CLASSES[byte as usize] == b'3'
 }
 
-/// Whether the byte is an ASCII character that may stand in a name.
+/// Whether the byte is an ASCII character that may be in a name.
 pub fn is_ascii_name(byte: u8) -> bool
     ensures { result ≡ is_ascii_name byte }
 {
@@ -60,7 +60,7 @@ pub fn is_wide_start(code: u32) -> bool
         || (0x1_0000 <= code && code <= 0xE_FFFF)
 }
 
-/// Whether the code point, which is not ASCII, may stand further on in a name (XML 1.0, production 4a).
+/// Whether the code point, which is not ASCII, may be further on in a name (XML 1.0, production 4a).
 #[tactic(auto, unfolding(crate::specs::Wide::is_wide_rest, xml_model::specs::Chars::in_ranges))]
 pub fn is_wide_rest(code: u32) -> bool
     ensures { result ≡ is_wide_rest code }

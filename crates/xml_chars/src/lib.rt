@@ -17,7 +17,7 @@ use references::{Referred, reference_of};
 use text::{space_of, step, text_at};
 use xml_model::Span;
 
-/// Whether the character may stand in a document (XML 1.0, production 2).
+/// Whether the character may be in a document (XML 1.0, production 2).
 #[tactic(auto, unfolding(xml_model::specs::Chars::is_char, xml_model::specs::Chars::in_ranges))]
 pub fn is_char(c: char) -> bool
     ensures { result ≡ is_char c }
@@ -42,7 +42,7 @@ pub fn is_name_start(c: char) -> bool
     }
 }
 
-/// Whether the character may stand in a name (XML 1.0, production 4a).
+/// Whether the character may be in a name (XML 1.0, production 4a).
 pub fn is_name_char(c: char) -> bool
     ensures { result ≡ is_name_char c }
 {
@@ -89,7 +89,7 @@ pub fn name_end(bytes: &[u8], at: u32) -> Option<u32>
     Some((bytes.len() - rest.len()) as u32)
 }
 
-/// The place after the longest white space at the place, in bytes; the place itself where none stands there (XML 1.0,
+/// The place after the longest white space at the place, in bytes; the place itself where none is there (XML 1.0,
 /// production 3).
 pub fn space_end(bytes: &[u8], at: u32) -> u32
     requires utf8 { IsUtf8 bytes.now }

@@ -1,4 +1,4 @@
-//! Names at the front of a text (XML 1.0, productions 4 to 5). No call takes memory.
+//! Names at the start of a text (XML 1.0, productions 4 to 5). No call takes memory.
 #![tactic(auto)]
 
 ghost use Rattle.std.specs.Prelude.{◌≡◌, ◌≤◌, ◌<◌, ◌+◌, length, option_map, MatchOption, IfSome, true, false};
@@ -14,7 +14,7 @@ use crate::text::{head, step};
 use crate::{classes, is_name_char, is_name_start};
 use memchr::memchr;
 
-/// The length of the longest front of ASCII characters that may stand in a name.
+/// The length of the longest prefix of ASCII characters that may be in a name.
 #[inline(always)]
 fn ascii_name_len(bytes: &[u8]) -> usize
     ensures value { result ≡ prefix_len is_ascii_name bytes.now }
@@ -28,7 +28,7 @@ fn ascii_name_len(bytes: &[u8]) -> usize
     bytes.len()
 }
 
-/// What follows the longest front of ASCII characters that may stand in a name.
+/// What follows the longest prefix of ASCII characters that may be in a name.
 #[inline(always)]
 fn after_ascii_name(text: &str) -> &str
     ensures rest { chars result.now ≡ after_run is_ascii_name (chars text.now) }
@@ -37,7 +37,7 @@ fn after_ascii_name(text: &str) -> &str
     text.split_at(ascii_name_len(text.as_bytes())).1
 }
 
-/// What follows the first character, where that may stand in a name.
+/// What follows the first character, where that may be in a name.
 fn after_name_char(text: &str) -> Option<&str>
     ensures read { option_map chars (option_copied result) ≡ skip (one_of is_name_char) (chars text.now) }
     ensures shorter { IfSome result (λ r. length r.now < length text.now) }
@@ -46,7 +46,7 @@ fn after_name_char(text: &str) -> Option<&str>
     if is_name_char(c) { Some(rest) } else { None }
 }
 
-/// What follows the longest front of characters that may stand in a name, ASCII or not.
+/// What follows the longest prefix of characters that may be in a name, ASCII or not.
 #[inline(never)]
 fn after_any_name_chars(text: &str) -> &str
     ensures rest { chars result.now ≡ after_run is_name_char (chars text.now) }
@@ -59,7 +59,7 @@ fn after_any_name_chars(text: &str) -> &str
     rest
 }
 
-/// What follows the longest front of characters that may stand in a name.
+/// What follows the longest prefix of characters that may be in a name.
 #[inline(always)]
 fn after_name_chars(text: &str) -> &str
     ensures rest { chars result.now ≡ after_run is_name_char (chars text.now) }
@@ -97,7 +97,7 @@ pub fn begins_name(text: &str) -> bool
     }
 }
 
-/// The longest name at the front of the text, and what follows it; None where no name begins the text.
+/// The longest name at the start of the text, and what follows it; None where no name begins the text.
 #[inline(always)]
 #[tactic(auto, unfolding(crate::specs::Reading::read_name))]
 pub fn name_of(text: &str) -> Option<(&str, &str)>
@@ -111,7 +111,7 @@ pub fn name_of(text: &str) -> Option<(&str, &str)>
     Some(text.split_at(text.len() - rest.len()))
 }
 
-/// What stands before the first colon and what behind it; None where there is no colon.
+/// What is before the first colon and what after it; None where there is no colon.
 fn split_colon(text: &str) -> Option<(&str, &str)>
     ensures { MatchOption result (has_colon (chars text.now) ≡ false) (λ x. (has_colon (chars text.now) ≡ true) × (chars x.0.now ≡ before_colon (chars text.now)) × (chars x.1.now ≡ after_colon (chars text.now))) }
 {

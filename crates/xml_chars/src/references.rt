@@ -1,4 +1,4 @@
-//! References at the front of a text (XML 1.0, productions 66 to 68). No call takes memory.
+//! References at the start of a text (XML 1.0, productions 66 to 68). No call takes memory.
 #![tactic(auto)]
 
 ghost use Rattle.std.specs.Prelude.{◌≡◌, ◌≤◌, ◌<◌, ◌+◌, length, option_map, IfSome, Some, true};
@@ -18,7 +18,7 @@ use crate::text::word_of;
 /// One above the last code point: a larger number is none either.
 const TOO_LARGE: u32 = 0x11_0000;
 
-/// The length of the longest front of digits of the base.
+/// The length of the longest prefix of digits of the base.
 fn digits_len(bytes: &[u8], base: u32) -> usize
     requires low { 2 ≤ base }
     requires high { base ≤ 36 }
@@ -48,7 +48,7 @@ fn capped_number(digits: &[u8], base: u32) -> u32
     number
 }
 
-/// The longest front of digits of the base, and what follows it.
+/// The longest prefix of digits of the base, and what follows it.
 fn digits_of(text: &str, base: u32) -> (&str, &str)
     requires low { 2 ≤ base }
     requires high { base ≤ 36 }
@@ -60,7 +60,7 @@ fn digits_of(text: &str, base: u32) -> (&str, &str)
     text.split_at(digits_len(text.as_bytes(), base))
 }
 
-/// The Char that the digits at the front name, and what follows them; None where there are none or they name no Char.
+/// The Char that the digits at the start name, and what follows them; None where there are none or they name no Char.
 fn number_of(text: &str, base: u32) -> Option<(char, &str)>
     requires low { 2 ≤ base }
     requires high { base ≤ 36 }
@@ -84,7 +84,7 @@ fn ended_number_of(text: &str, base: u32) -> Option<(char, &str)>
     Some((c, rest))
 }
 
-/// The reference by a name at the front, and what follows it.
+/// The reference by a name at the start, and what follows it.
 fn named_of(text: &str) -> Option<(&str, &str)>
     ensures read { Gives (λ x. (name (chars x.0.now), chars x.1.now)) result (mapped shown (read_form named) (chars text.now)) }
     ensures shorter { IfSome result (λ x. length x.1.now < length text.now) }
@@ -102,7 +102,7 @@ pub enum Referred<'a> {
     Named(&'a str),
 }
 
-/// The reference at the front of the text, and what follows it; None where no reference begins the text.
+/// The reference at the start of the text, and what follows it; None where no reference begins the text.
 pub fn reference_of(text: &str) -> Option<(Referred<'_>, &str)>
     ensures read { Gives (λ x. (referred x.0, chars x.1.now)) result (mapped shown read_reference (chars text.now)) }
     ensures shorter { IfSome result (λ x. length x.1.now < length text.now) }

@@ -3,7 +3,7 @@
 use super::*;
 
 #[test]
-fn tells_chars(rt: HostRuntime) {
+fn decides_chars(rt: HostRuntime) {
     let chars = [
         '\t',
         '\n',
@@ -31,7 +31,7 @@ fn tells_chars(rt: HostRuntime) {
 }
 
 #[test]
-fn tells_name_characters(rt: HostRuntime) {
+fn decides_name_characters(rt: HostRuntime) {
     let starts = [
         ':',
         'A',
@@ -195,7 +195,7 @@ fn ends_white_space(rt: HostRuntime) {
 }
 
 #[test]
-fn tells_qualified_names(rt: HostRuntime) {
+fn decides_qualified_names(rt: HostRuntime) {
     let rows = [
         ("a", true, true),
         ("\u{e9}-1", true, true),

@@ -1,4 +1,4 @@
-//! What stands at the front of a text: each function reads one thing and hands out what is left. No call takes memory.
+//! What is at the start of a text: each function reads one thing and hands out what is left. No call takes memory.
 #![tactic(auto)]
 
 ghost use Rattle.std.specs.Prelude.{◌≡◌, ◌≤◌, ◌<◌, ◌+◌, ℕ, true, length, drop, nat_lt, IfSome, Some};
@@ -75,7 +75,7 @@ pub fn word_of<'a>(text: &'a str, mark: &str) -> Option<&'a str>
     }
 }
 
-/// The length of the longest front of white space.
+/// The length of the longest prefix of white space.
 #[inline(always)]
 fn space_len(bytes: &[u8]) -> usize
     ensures value { result ≡ prefix_len is_space bytes.now }
@@ -89,7 +89,7 @@ fn space_len(bytes: &[u8]) -> usize
     bytes.len()
 }
 
-/// The longest front of white space, which may be empty, and what follows it (XML 1.0, production 3).
+/// The longest prefix of white space, which may be empty, and what follows it (XML 1.0, production 3).
 #[inline(always)]
 #[tactic(auto, unfolding(crate::specs::Reading::read_space))]
 pub fn space_of(text: &str) -> (&str, &str)

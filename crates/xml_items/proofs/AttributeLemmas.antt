@@ -16,9 +16,9 @@ use Rattle.std.proofs.lemmas.List.{append-nil, drop-drop, length-drop, append_ca
 use Rattle.std.proofs.lemmas.Str.{chars-encodes, scalars-chars, IsCharBoundary-from_drop, IsCharBoundary-before_ascii, IsUtf8-drop, encode_ascii}
 use Rattle.std.proofs.lemmas.Bool.{false≢true, and_parts, and_from}
 use Rattle.xml_model.specs.Chars.{size, begins, is_name, is_blank}
-use Rattle.xml_model.specs.Items.{Attribute, Tag, Declaration, Item, leaf, Leaf, start_tag, empty_tag, end_tag, before_value, written, written_pieces, written_attribute, written_attributes, written_option, meets, meets_attribute, begins_at, spelling, ends_well, may_stand, first_place, meets_part_if_there, is_version, is_encoding_name, is_yes_or_no}
+use Rattle.xml_model.specs.Items.{Attribute, Tag, Declaration, Item, leaf, Leaf, start_tag, empty_tag, end_tag, before_value, written, written_pieces, written_attribute, written_attributes, written_option, meets, meets_attribute, begins_at, spelling, ends_well, may_begin_at, first_place, meets_part_if_there, is_version, is_encoding_name, is_yes_or_no}
 use Rattle.xml_model.specs.Records.{declaration_attributes}
-use Rattle.xml_chars.proofs.StandLemmas.{front_stands, stands_front, size-append}
+use Rattle.xml_chars.proofs.HoldLemmas.{prefix_holds, holds_prefix, size-append}
 use Rattle.xml_items.specs.Reading.{read_attribute, begins_attribute, read_attributes}
 use Rattle.xml_items.specs.Suffixes.{Suffixes, suffixes, suffixes_seen}
 use Rattle.xml_items.specs.AttributeList.{attribute_shown, shown_of, item_attributes, has_attributes}
@@ -54,7 +54,7 @@ push_shown : (a : Attribute) (at : ℕ) (o : Option (List Attribute × List ℕ)
 push_shown a at None h = absurd (false≢true h)
 push_shown a at (Some p) h = refl
 
--- the item of the attribute at the front, and what is left
+-- the item of the attribute at the start, and what is left
 pub record Next (s : List ℕ) (at : ℕ) (text : List ℕ) (f : AttributeText) : Type 0 where
   pub read : is_some (read_attributes (chars f.rest.now)) ≡ true
   pub shown : shown_of at (read_attributes (chars text)) ≡ record {
@@ -129,7 +129,7 @@ listed_by bytes at w after xs u b e all stop =
     let ub : IsUtf8 bs = IsUtf8-drop bytes at u b in
     let v = written_attributes xs ++ after in
     let s : scalars v ≡ true = scalar_back w v (ap scalars (sym e) ∙ scalars-chars bs ub) in
-    let f = front_stands bs w ub (stands_front bs w v ub e) in
+    let f = prefix_holds bs w ub (holds_prefix bs w v ub e) in
     let same : f.0 ≡ v = append_cancel_left w f.0 v (sym f.1 ∙ e) in
     let there : drop (at + size w) bytes ≡ encodes v = sym (drop-drop (size w) at bytes) ∙ sym f.2 ∙ ap encodes same in
     let uv : IsUtf8 (drop (at + size w) bytes) = (v, (s, sym there)) in
@@ -141,7 +141,7 @@ listed_by bytes at w after xs u b e all stop =
       read = ap (λ (l : List ℕ). read_attributes (chars l)) there ∙ ap read_attributes (chars-encodes v s) ∙ attributes_reads.again xs after (all, stop);
     }
 
--- an item that begins with < stands where a character begins
+-- an item that begins with < is where a character begins
 open_boundary : (bytes w : List ℕ) (at : ℕ) → begins (encodes (60 ∷ w)) (drop at bytes) ≡ true → IsCharBoundary bytes at
 open_boundary bytes w at h =
     let e : drop at bytes ≡ encodes (60 ∷ w) ++ drop (length (encodes (60 ∷ w))) (drop at bytes) = begins_split (encodes (60 ∷ w)) (drop at bytes) h in
@@ -164,12 +164,12 @@ pub listed_start : (bytes : List ℕ) (at : ℕ) (t : Tag) → IsUtf8 bytes → 
 unfolding begins_at spelling meets
 listed_start bytes at t u h =
     let i = start_tag t in
-    let x = and_parts (meets i && begins (encodes (written i)) (drop at bytes) && ends_well i (drop (at + length (encodes (written i))) bytes)) (may_stand i (first_place bytes) at) h in
+    let x = and_parts (meets i && begins (encodes (written i)) (drop at bytes) && ends_well i (drop (at + length (encodes (written i))) bytes)) (may_begin_at i (first_place bytes) at) h in
     let y = and_parts (meets i && begins (encodes (written i)) (drop at bytes)) (ends_well i (drop (at + length (encodes (written i))) bytes)) x.0 in
     let z = and_parts (meets i) (begins (encodes (written i)) (drop at bytes)) y.0 in
     let k = tagged t z.0 in
     let b : IsCharBoundary bytes at = open_boundary bytes (t.name ++ written_attributes t.attributes ++ t.space ++ codes ">") at z.1 in
-    let f = front_stands (drop at bytes) (written i) (IsUtf8-drop bytes at u b) z.1 in
+    let f = prefix_holds (drop at bytes) (written i) (IsUtf8-drop bytes at u b) z.1 in
     subst (λ (p : ℕ). Listed bytes p t.attributes) (tag_size t.name at)
     (listed_by bytes at (60 ∷ t.name) (t.space ++ 62 ∷ f.0) t.attributes u b (f.1 ∙ start_split t.name (written_attributes t.attributes) t.space f.0) k.attributes (no_more t.space (62 ∷ f.0) k.space (close_space false f.0) (close_start false f.0)))
 
@@ -177,12 +177,12 @@ pub listed_empty : (bytes : List ℕ) (at : ℕ) (t : Tag) → IsUtf8 bytes → 
 unfolding begins_at spelling meets
 listed_empty bytes at t u h =
     let i = empty_tag t in
-    let x = and_parts (meets i && begins (encodes (written i)) (drop at bytes) && ends_well i (drop (at + length (encodes (written i))) bytes)) (may_stand i (first_place bytes) at) h in
+    let x = and_parts (meets i && begins (encodes (written i)) (drop at bytes) && ends_well i (drop (at + length (encodes (written i))) bytes)) (may_begin_at i (first_place bytes) at) h in
     let y = and_parts (meets i && begins (encodes (written i)) (drop at bytes)) (ends_well i (drop (at + length (encodes (written i))) bytes)) x.0 in
     let z = and_parts (meets i) (begins (encodes (written i)) (drop at bytes)) y.0 in
     let k = tagged t z.0 in
     let b : IsCharBoundary bytes at = open_boundary bytes (t.name ++ written_attributes t.attributes ++ t.space ++ codes "/>") at z.1 in
-    let f = front_stands (drop at bytes) (written i) (IsUtf8-drop bytes at u b) z.1 in
+    let f = prefix_holds (drop at bytes) (written i) (IsUtf8-drop bytes at u b) z.1 in
     subst (λ (p : ℕ). Listed bytes p t.attributes) (tag_size t.name at)
     (listed_by bytes at (60 ∷ t.name) (t.space ++ 47 ∷ 62 ∷ f.0) t.attributes u b (f.1 ∙ empty_split t.name (written_attributes t.attributes) t.space f.0) k.attributes (no_more t.space (47 ∷ 62 ∷ f.0) k.space (close_space true f.0) (close_start true f.0)))
 
@@ -218,12 +218,12 @@ pub listed_declaration : (bytes : List ℕ) (at : ℕ) (d : Declaration) → IsU
 unfolding begins_at spelling meets
 listed_declaration bytes at d u h =
     let i : Item = leaf (Leaf.declaration d) in
-    let x = and_parts (meets i && begins (encodes (written i)) (drop at bytes) && ends_well i (drop (at + length (encodes (written i))) bytes)) (may_stand i (first_place bytes) at) h in
+    let x = and_parts (meets i && begins (encodes (written i)) (drop at bytes) && ends_well i (drop (at + length (encodes (written i))) bytes)) (may_begin_at i (first_place bytes) at) h in
     let y = and_parts (meets i && begins (encodes (written i)) (drop at bytes)) (ends_well i (drop (at + length (encodes (written i))) bytes)) x.0 in
     let z = and_parts (meets i) (begins (encodes (written i)) (drop at bytes)) y.0 in
     let k = declared d z.0 in
     let b : IsCharBoundary bytes at = open_boundary bytes (codes "?xml" ++ written_attribute d.version ++ written_option d.encoding ++ written_option d.standalone ++ d.space ++ codes "?>") at z.1 in
-    let f = front_stands (drop at bytes) (written i) (IsUtf8-drop bytes at u b) z.1 in
+    let f = prefix_holds (drop at bytes) (written i) (IsUtf8-drop bytes at u b) z.1 in
     subst (λ (p : ℕ). Listed bytes p (declaration_attributes d)) (ap (λ (n : ℕ). at + n) size_xml)
     (listed_by bytes at (codes "<?xml") (d.space ++ 63 ∷ 62 ∷ f.0) (declaration_attributes d) u b (f.1 ∙ parts_split d.version d.encoding d.standalone d.space f.0) (all_parts d k) (no_more d.space (63 ∷ 62 ∷ f.0) k.space space_63 (start_63 (62 ∷ f.0))))
 
@@ -238,12 +238,12 @@ pub listed_end : (bytes : List ℕ) (at : ℕ) (n sp : List ℕ) → IsUtf8 byte
 unfolding begins_at spelling meets
 listed_end bytes at n sp u h =
     let i = end_tag n sp in
-    let x = and_parts (meets i && begins (encodes (written i)) (drop at bytes) && ends_well i (drop (at + length (encodes (written i))) bytes)) (may_stand i (first_place bytes) at) h in
+    let x = and_parts (meets i && begins (encodes (written i)) (drop at bytes) && ends_well i (drop (at + length (encodes (written i))) bytes)) (may_begin_at i (first_place bytes) at) h in
     let y = and_parts (meets i && begins (encodes (written i)) (drop at bytes)) (ends_well i (drop (at + length (encodes (written i))) bytes)) x.0 in
     let z = and_parts (meets i) (begins (encodes (written i)) (drop at bytes)) y.0 in
     let k = and_parts (is_name n) (is_blank sp) z.0 in
     let b : IsCharBoundary bytes at = open_boundary bytes (codes "/" ++ n ++ sp ++ codes ">") at z.1 in
-    let f = front_stands (drop at bytes) (written i) (IsUtf8-drop bytes at u b) z.1 in
+    let f = prefix_holds (drop at bytes) (written i) (IsUtf8-drop bytes at u b) z.1 in
     subst (λ (p : ℕ). Listed bytes p []) (end_size n at)
     (listed_by bytes at (60 ∷ 47 ∷ n) (sp ++ 62 ∷ f.0) [] u b (f.1 ∙ end_split n sp f.0) refl (no_more sp (62 ∷ f.0) k.1 (close_space false f.0) (close_start false f.0)))
 

@@ -282,23 +282,23 @@ run_at_full q bytes n within h =
     let len : length (take n bytes) ≡ n = length-take-le n bytes within in
     ap (prefix_len q) (sym (take-append-drop n bytes)) ∙ run_full q (take n bytes) (drop n bytes) (omega (arith, prefix_len-le-length q (take n bytes))) ∙ ap (λ (k : ℕ). k + prefix_len q (drop n bytes)) len
 
--- a front of at most so many bytes
-pub run_front : (q : ℕ → Bool) (bytes front : List ℕ) (m n : ℕ) → m ≡ min (length bytes) n → front ≡ take m bytes → prefix_len q front < n → prefix_len q front ≡ prefix_len q bytes
-run_front q bytes front m n e f h = elim (cases_lt n (length bytes)) [
+-- a prefix of at most so many bytes
+pub run_prefix : (q : ℕ → Bool) (bytes prefix : List ℕ) (m n : ℕ) → m ≡ min (length bytes) n → prefix ≡ take m bytes → prefix_len q prefix < n → prefix_len q prefix ≡ prefix_len q bytes
+run_prefix q bytes prefix m n e f h = elim (cases_lt n (length bytes)) [
   | inl lt ↦
-      let same : front ≡ take n bytes = f ∙ ap (λ (k : ℕ). take k bytes) (omega arith) in
+      let same : prefix ≡ take n bytes = f ∙ ap (λ (k : ℕ). take k bytes) (omega arith) in
       ap (prefix_len q) same ∙ sym (run_at_short q bytes n (omega arith) (subst (λ (l : List ℕ). prefix_len q l < n) same h))
   | inr ge ↦ ap (prefix_len q) (f ∙ ap (λ (k : ℕ). take k bytes) (omega arith) ∙ take-length bytes)
 ]
 
-pub run_back : (q : ℕ → Bool) (bytes front back : List ℕ) (m n : ℕ) → m ≡ min (length bytes) n → front ≡ take m bytes → back ≡ drop m bytes → n ≤ prefix_len q front → prefix_len q front + prefix_len q back ≡ prefix_len q bytes
-run_back q bytes front back m n e f b h =
-    let top : prefix_len q front ≤ length front = prefix_len-le-length q front in
-    let len : length front ≡ m = ap (λ (l : List ℕ). length l) f ∙ length-take-le m bytes (omega arith) in
+pub run_back : (q : ℕ → Bool) (bytes prefix back : List ℕ) (m n : ℕ) → m ≡ min (length bytes) n → prefix ≡ take m bytes → back ≡ drop m bytes → n ≤ prefix_len q prefix → prefix_len q prefix + prefix_len q back ≡ prefix_len q bytes
+run_back q bytes prefix back m n e f b h =
+    let top : prefix_len q prefix ≤ length prefix = prefix_len-le-length q prefix in
+    let len : length prefix ≡ m = ap (λ (l : List ℕ). length l) f ∙ length-take-le m bytes (omega arith) in
     let same : m ≡ n = omega arith in
-    let cut : front ≡ take n bytes = f ∙ ap (λ (k : ℕ). take k bytes) same in
+    let cut : prefix ≡ take n bytes = f ∙ ap (λ (k : ℕ). take k bytes) same in
     let left : back ≡ drop n bytes = b ∙ ap (λ (k : ℕ). drop k bytes) same in
-    let all : prefix_len q front ≡ n = omega arith in
+    let all : prefix_len q prefix ≡ n = omega arith in
     ap (λ (k : ℕ). k + prefix_len q back) all ∙ ap (λ (l : List ℕ). n + prefix_len q l) left ∙ sym (run_at_full q bytes n (omega arith) (subst (λ (l : List ℕ). n ≤ prefix_len q l) cut h))
 
 -- a block whose bytes all pass

@@ -26,15 +26,15 @@ counts at o = option_map (λ (p : Item × List ℕ). counted_shown at p.0) o
 abbrev pub number_from : ℕ → List ℕ → Option (ℕ × List ℕ)
 number_from n s = option_map (counted_from n) (read_attributes s)
 
-pub behind_space : (s space a : List ℕ) → read_space s ≡ Some (space, a) → a ≡ after_run is_space s
+pub after_space : (s space a : List ℕ) → read_space s ≡ Some (space, a) → a ≡ after_run is_space s
 unfolding read_space
-behind_space s space a e = sym (ap (λ (p : List ℕ × List ℕ). p.1) (same_Some (take (prefix_len is_space s) s, after_run is_space s) (space, a) e))
+after_space s space a e = sym (ap (λ (p : List ℕ × List ℕ). p.1) (same_Some (take (prefix_len is_space s) s, after_run is_space s) (space, a) e))
 
 pub attribute_goes : (s space a : List ℕ) → read_space s ≡ Some (space, a) → begins_attribute s ≡ begins_name a
 unfolding begins_attribute
-attribute_goes s space a e = ap begins_name (sym (behind_space s space a e))
+attribute_goes s space a e = ap begins_name (sym (after_space s space a e))
 
--- where there are attributes, white space stands before each
+-- where there are attributes, white space is before each
 pub attributes_spaced : (s space a : List ℕ) → is_some (read_attributes s) ≡ true → read_space s ≡ Some (space, a) → begins_name a ≡ true → some_space space ≡ true
 unfolding read_attributes
 attributes_spaced s space a some e go = true_from_ne_false _ (λ f. false≢true (sym (ap is_some (many_none begins_attribute read_attribute s (attribute_goes s space a e ∙ go) (attribute_1 s space a e f))) ∙ some))
@@ -50,7 +50,7 @@ pub number_done : (n : ℕ) (s space a : List ℕ) → read_space s ≡ Some (sp
 unfolding read_attributes
 number_done n s space a e h =
     let none = many_end begins_attribute read_attribute s (attribute_goes s space a e ∙ h) in
-    ap (option_map (counted_from n)) none ∙ ap (λ (k : ℕ). Some (k, after_run is_space s)) (add-zero n) ∙ ap (λ (l : List ℕ). Some (n, l)) (sym (behind_space s space a e))
+    ap (option_map (counted_from n)) none ∙ ap (λ (k : ℕ). Some (k, after_run is_space s)) (add-zero n) ∙ ap (λ (l : List ℕ). Some (n, l)) (sym (after_space s space a e))
 
 pub number_unspaced : (n : ℕ) (s space a : List ℕ) → read_space s ≡ Some (space, a) → begins_name a ≡ true → some_space space ≡ false → number_from n s ≡ None
 unfolding read_attributes

@@ -113,7 +113,7 @@ is_there : (name : List ℕ) (test : List ℕ → Bool) (o : Option Attribute) (
 is_there name test None rest h = refl
 is_there name test (Some a) rest h = h
 
--- no encoding stands where a standalone or the end does
+-- no encoding is where a standalone or the end does
 not_encoding : (o : Option Attribute) (sp rest : List ℕ) → meets_part_if_there (codes "standalone") is_yes_or_no o ≡ true → is_blank sp ≡ true → begins_part (codes "encoding") (written_option o ++ (sp ++ 63 ∷ 62 ∷ rest)) ≡ false
 not_encoding None sp rest h b = no_part_at_end (codes "encoding") sp rest b
 not_encoding (Some a) sp rest h b =

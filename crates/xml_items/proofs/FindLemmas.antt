@@ -68,16 +68,16 @@ pub until_run : (mark : List ℕ) (first : ℕ) (text : List ℕ) → 0 < length
 until_run [] first text lt e = absurd (omega arith)
 until_run (m ∷ mark) first text lt e = until_run_by m mark text ∙ ap (λ (k : ℕ). skip (until (m ∷ mark)) (after_run (other k) text)) e
 
--- ---- with a test of what stands before
+-- ---- with a test of what is before
 
-pub record FrontOf (mark text rest : List ℕ) : Type 0 where
+pub record PrefixOf (mark text rest : List ℕ) : Type 0 where
   pub cut : (cs : List ℕ) × Cut text rest cs
   pub yes : list_all is_char (chars (take (length text - length rest) text)) ≡ true → skip (read_until mark) (chars text) ≡ Some (chars rest)
   pub none : list_all is_char (chars (take (length text - length rest) text)) ≡ false → skip (read_until mark) (chars text) ≡ None
 
-pub front_of : (mark text rest : List ℕ) → IsUtf8 text → IsUtf8 rest → Some (chars rest) ≡ skip (until mark) (chars text) → FrontOf mark text rest
+pub prefix_of : (mark text rest : List ℕ) → IsUtf8 text → IsUtf8 rest → Some (chars rest) ≡ skip (until mark) (chars text) → PrefixOf mark text rest
 unfolding read_until
-front_of mark text rest u v e =
+prefix_of mark text rest u v e =
     let x = skip_some (until mark) (chars text) (chars rest) (sym e) in
     let t = until_takes mark (chars text) x.0 (chars rest) x.1 in
     let k = cut_of text rest x.0 u v t.0 in
@@ -87,9 +87,9 @@ front_of mark text rest u v e =
       none = λ h. let no-all : list_all is_char x.0 ≡ false = ap (list_all is_char) (sym k.points) ∙ h in rw (x.1, no-all) refl;
     }
 
-pub front_none : (mark text : List ℕ) → None ≡ skip (until mark) text → skip (read_until mark) text ≡ None
+pub prefix_none : (mark text : List ℕ) → None ≡ skip (until mark) text → skip (read_until mark) text ≡ None
 unfolding read_until
-front_none mark text e = let n = skip_none (until mark) text (sym e) in rw n refl
+prefix_none mark text e = let n = skip_none (until mark) text (sym e) in rw n refl
 
 -- ---- the name xml
 
@@ -127,7 +127,7 @@ pub xml_is : (bs hay : List ℕ) (b : Bool) → hay ≡ bs → IsUtf8 bs → (Is
 xml_is bs hay true e u h = sym (xml_yes bs (ap (map to_ascii_lowercase) (sym e) ∙ h.0 refl))
 xml_is bs hay false e u h = sym (xml_no bs u (λ x. false≢true (h.1 (ap (map to_ascii_lowercase) e ∙ x))))
 
--- ---- whether the mark stands there
+-- ---- whether the mark is there
 
 pub not_begun : (mark text : List ℕ) (o : Option (Bor (List ℕ))) → Gives (λ (r : Bor (List ℕ)). (tt, chars r.now)) o (word mark text) → is_none o ≡ true → begins mark text ≡ false
 not_begun mark text None g h = word_none mark text g

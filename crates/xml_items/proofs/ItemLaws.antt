@@ -10,7 +10,7 @@ use Rattle.xml_chars.specs.Readers.{Reader}
 use Rattle.xml_chars.proofs.Readers.{IsReader, reads_as, choose_by_reads, StopsBy}
 use Rattle.xml_chars.proofs.NameLaws.{name_reads}
 use Rattle.xml_items.specs.Reading.{ends_text, is_name_read, is_xml, ItemForm, as_text, as_tag, as_end_tag, as_comment, as_cdata, as_doctype, as_instruction, as_declaration, item_form, read_by, read_item}
-use Rattle.xml_items.specs.Stands.{stands_first}
+use Rattle.xml_items.specs.MayBegin.{may_begin}
 use Rattle.xml_items.proofs.TagLaws.{FitTag, tag_reads, FitEnd, end_reads, tagged, attributed, attribute_split, attribute_tail, white_stops_name}
 use Rattle.xml_items.proofs.MarkLaws.{FitComment, comment_reads, FitCdata, cdata_reads, FitInstruction, instruction_reads, instructed, target_stops}
 use Rattle.xml_items.proofs.DeclarationLaws.{FitDeclaration, declaration_reads, declared, part_of}
@@ -18,7 +18,7 @@ use Rattle.xml_items.proofs.DoctypeLaws.{FitDoctype, doctype_reads}
 use Rattle.xml_items.proofs.TextLaws.{none, FitText, text_reads}
 
 abbrev pub FitItem : Bool → Item → List ℕ → Type 0
-FitItem first i rest = (meets i ≡ true) × (ends_well i rest ≡ true) × (stands_first first i ≡ true)
+FitItem first i rest = (meets i ≡ true) × (ends_well i rest ≡ true) × (may_begin first i ≡ true)
 
 -- ---- the readers by form
 
@@ -50,13 +50,13 @@ by_reads first as_instruction = instruction_reads
 by_reads true as_declaration = declaration_reads
 by_reads false as_declaration = nothing_reads
 
-stands_any : (first : Bool) (i : Item) → stands_first false i ≡ true → stands_first first i ≡ true
-stands_any true i h = refl
-stands_any false i h = h
+holds_any : (first : Bool) (i : Item) → may_begin false i ≡ true → may_begin first i ≡ true
+holds_any true i h = refl
+holds_any false i h = h
 
 as_text_to : (first : Bool) (i : Item) (rest : List ℕ) → FitText i rest → FitItem first i rest
 unfolding meets
-as_text_to first (leaf (Leaf.text ps)) rest h = (h.0, h.1, stands_any first (leaf (Leaf.text ps)) refl)
+as_text_to first (leaf (Leaf.text ps)) rest h = (h.0, h.1, holds_any first (leaf (Leaf.text ps)) refl)
 as_text_to first (leaf (cdata cs)) rest h = absurd h
 as_text_to first (leaf (Leaf.comment cs)) rest h = absurd h
 as_text_to first (leaf (Leaf.instruction x)) rest h = absurd h
@@ -74,8 +74,8 @@ as_tag_to first (leaf (Leaf.comment cs)) rest h = absurd h
 as_tag_to first (leaf (Leaf.instruction x)) rest h = absurd h
 as_tag_to first (leaf (declaration d)) rest h = absurd h
 as_tag_to first (leaf (doctype d)) rest h = absurd h
-as_tag_to first (start_tag t) rest h = (h, refl, stands_any first (start_tag t) refl)
-as_tag_to first (empty_tag t) rest h = (h, refl, stands_any first (empty_tag t) refl)
+as_tag_to first (start_tag t) rest h = (h, refl, holds_any first (start_tag t) refl)
+as_tag_to first (empty_tag t) rest h = (h, refl, holds_any first (empty_tag t) refl)
 as_tag_to first (end_tag n s) rest h = absurd h
 
 as_end_tag_to : (first : Bool) (i : Item) (rest : List ℕ) → FitEnd i rest → FitItem first i rest
@@ -88,13 +88,13 @@ as_end_tag_to first (leaf (declaration d)) rest h = absurd h
 as_end_tag_to first (leaf (doctype d)) rest h = absurd h
 as_end_tag_to first (start_tag t) rest h = absurd h
 as_end_tag_to first (empty_tag t) rest h = absurd h
-as_end_tag_to first (end_tag n s) rest h = (h, refl, stands_any first (end_tag n s) refl)
+as_end_tag_to first (end_tag n s) rest h = (h, refl, holds_any first (end_tag n s) refl)
 
 as_comment_to : (first : Bool) (i : Item) (rest : List ℕ) → FitComment i rest → FitItem first i rest
 unfolding meets
 as_comment_to first (leaf (Leaf.text ps)) rest h = absurd h
 as_comment_to first (leaf (cdata cs)) rest h = absurd h
-as_comment_to first (leaf (Leaf.comment cs)) rest h = (h, refl, stands_any first (leaf (Leaf.comment cs)) refl)
+as_comment_to first (leaf (Leaf.comment cs)) rest h = (h, refl, holds_any first (leaf (Leaf.comment cs)) refl)
 as_comment_to first (leaf (Leaf.instruction x)) rest h = absurd h
 as_comment_to first (leaf (declaration d)) rest h = absurd h
 as_comment_to first (leaf (doctype d)) rest h = absurd h
@@ -105,7 +105,7 @@ as_comment_to first (end_tag n s) rest h = absurd h
 as_cdata_to : (first : Bool) (i : Item) (rest : List ℕ) → FitCdata i rest → FitItem first i rest
 unfolding meets
 as_cdata_to first (leaf (Leaf.text ps)) rest h = absurd h
-as_cdata_to first (leaf (cdata cs)) rest h = (h, refl, stands_any first (leaf (cdata cs)) refl)
+as_cdata_to first (leaf (cdata cs)) rest h = (h, refl, holds_any first (leaf (cdata cs)) refl)
 as_cdata_to first (leaf (Leaf.comment cs)) rest h = absurd h
 as_cdata_to first (leaf (Leaf.instruction x)) rest h = absurd h
 as_cdata_to first (leaf (declaration d)) rest h = absurd h
@@ -121,7 +121,7 @@ as_doctype_to first (leaf (cdata cs)) rest h = absurd h
 as_doctype_to first (leaf (Leaf.comment cs)) rest h = absurd h
 as_doctype_to first (leaf (Leaf.instruction x)) rest h = absurd h
 as_doctype_to first (leaf (declaration d)) rest h = absurd h
-as_doctype_to first (leaf (doctype d)) rest h = (h, refl, stands_any first (leaf (doctype d)) refl)
+as_doctype_to first (leaf (doctype d)) rest h = (h, refl, holds_any first (leaf (doctype d)) refl)
 as_doctype_to first (start_tag t) rest h = absurd h
 as_doctype_to first (empty_tag t) rest h = absurd h
 as_doctype_to first (end_tag n s) rest h = absurd h
@@ -131,7 +131,7 @@ unfolding meets
 as_instruction_to first (leaf (Leaf.text ps)) rest h = absurd h
 as_instruction_to first (leaf (cdata cs)) rest h = absurd h
 as_instruction_to first (leaf (Leaf.comment cs)) rest h = absurd h
-as_instruction_to first (leaf (Leaf.instruction x)) rest h = (h, refl, stands_any first (leaf (Leaf.instruction x)) refl)
+as_instruction_to first (leaf (Leaf.instruction x)) rest h = (h, refl, holds_any first (leaf (Leaf.instruction x)) refl)
 as_instruction_to first (leaf (declaration d)) rest h = absurd h
 as_instruction_to first (leaf (doctype d)) rest h = absurd h
 as_instruction_to first (start_tag t) rest h = absurd h

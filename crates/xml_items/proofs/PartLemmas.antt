@@ -18,7 +18,7 @@ use Rattle.xml_chars.proofs.Readers.{skip_some, skip_none, word_reads}
 use Rattle.xml_chars.proofs.NameLaws.{space_reads}
 use Rattle.xml_chars.proofs.NumberLemmas.{ascii_chars}
 use Rattle.xml_chars.proofs.Points.{encode_pos, Cut, cut_of}
-use Rattle.xml_chars.proofs.StandLemmas.{size-append}
+use Rattle.xml_chars.proofs.HoldLemmas.{size-append}
 use Rattle.xml_items.specs.Reading.{read_attribute, is_part, read_part, is_name_read, begins_part, read_option_by, read_option, read_declaration}
 use Rattle.xml_items.specs.Suffixes.{Suffixes, suffixes, suffixes_seen}
 use Rattle.xml_items.specs.declared.tags.AttributeText.{AttributeText}

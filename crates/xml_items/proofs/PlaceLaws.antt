@@ -1,4 +1,4 @@
--- Where items stand: between characters, and at most one at each place that a walk reaches.
+-- Where items are: between characters, and at most one at each place that a walk reaches.
 use Rattle.std.proofs.Common.{◌≡◌, ℕ, ◌+◌, true, inl, inr, List, [], ◌∷◌, ◌++◌, length, drop, refl, sym, ap, subst, ◌∙◌, arith, append_assoc}
 use Rattle.std.specs.Prelude.{codes, ◌&&◌}
 use Rattle.std.specs.Str.{IsUtf8, chars, IsCharBoundary}
@@ -7,12 +7,12 @@ use Rattle.std.proofs.lemmas.Bool.{cases_Bool, and_parts}
 use Rattle.std.proofs.lemmas.List.{append-nil}
 use Rattle.std.proofs.lemmas.Str.{IsUtf8-drop, IsCharBoundary-start}
 use Rattle.xml_model.specs.Chars.{begins, size}
-use Rattle.xml_model.specs.Items.{Tag, Declaration, Item, leaf, Leaf, start_tag, empty_tag, end_tag, written, written_pieces, written_attributes, written_units, spelling, meets, ends_well, may_stand, begins_at, first_place, byte_order_mark, walk_from, walk, end_of_items}
+use Rattle.xml_model.specs.Items.{Tag, Declaration, Item, leaf, Leaf, start_tag, empty_tag, end_tag, written, written_pieces, written_attributes, written_units, spelling, meets, ends_well, may_begin_at, begins_at, first_place, byte_order_mark, walk_from, walk, end_of_items}
 use Rattle.xml_model.specs.Records.{declaration_attributes}
 use Rattle.xml_model.specs.Laws.{OneItem}
 use Rattle.xml_chars.specs.Places.{span_from, IsTextSpan}
-use Rattle.xml_chars.proofs.StandLemmas.{front_stands, size-append}
-use Rattle.xml_chars.proofs.SpanPlaces.{front_ends, part_stands}
+use Rattle.xml_chars.proofs.HoldLemmas.{prefix_holds, size-append}
+use Rattle.xml_chars.proofs.SpanPlaces.{prefix_ends, part_holds}
 use Rattle.xml_items.specs.Shown.{item_name, item_content, IsItemAt, HasTextSpans}
 use Rattle.xml_items.specs.Counted.{IsCountedAt}
 use Rattle.xml_items.specs.declared.Item.{Item as ItemShown}
@@ -25,14 +25,14 @@ use Rattle.xml_items.proofs.WalkLemmas.{one_item}
 pub written_at : (bytes : List ℕ) (at : ℕ) (i : Item) → IsUtf8 bytes → IsCharBoundary bytes at → begins_at bytes at i ≡ true → (v : List ℕ) × (chars (drop at bytes) ≡ written i ++ v)
 unfolding begins_at spelling
 written_at bytes at i u b h =
-    let x = and_parts (meets i && begins (encodes (written i)) (drop at bytes) && ends_well i (drop (at + length (encodes (written i))) bytes)) (may_stand i (first_place bytes) at) h in
+    let x = and_parts (meets i && begins (encodes (written i)) (drop at bytes) && ends_well i (drop (at + length (encodes (written i))) bytes)) (may_begin_at i (first_place bytes) at) h in
     let y = and_parts (meets i && begins (encodes (written i)) (drop at bytes)) (ends_well i (drop (at + length (encodes (written i))) bytes)) x.0 in
     let z = and_parts (meets i) (begins (encodes (written i)) (drop at bytes)) y.0 in
-    let f = front_stands (drop at bytes) (written i) (IsUtf8-drop bytes at u b) z.1 in
+    let f = prefix_holds (drop at bytes) (written i) (IsUtf8-drop bytes at u b) z.1 in
     (f.0, f.1)
 
 pub item_ends : (bytes : List ℕ) (at : ℕ) (i : Item) → IsUtf8 bytes → IsCharBoundary bytes at → begins_at bytes at i ≡ true → IsCharBoundary bytes (at + length (spelling i))
-item_ends bytes at i u b h = let w = written_at bytes at i u b h in subst (λ (n : ℕ). IsCharBoundary bytes (at + n)) (sym (spelled i)) (front_ends bytes at (written i) w.0 u b w.1)
+item_ends bytes at i u b h = let w = written_at bytes at i u b h in subst (λ (n : ℕ). IsCharBoundary bytes (at + n)) (sym (spelled i)) (prefix_ends bytes at (written i) w.0 u b w.1)
 
 -- ---- the places of a walk
 
@@ -44,15 +44,15 @@ mark_is : encodes (0xFEFF ∷ []) ≡ byte_order_mark
 unfolding lib.Utf8.encode
 mark_is = refl
 
-behind_mark : (bytes : List ℕ) → IsUtf8 bytes → begins byte_order_mark bytes ≡ true → IsCharBoundary bytes 3
-behind_mark bytes u h =
-    let f = front_stands bytes (0xFEFF ∷ []) u (ap (λ (m : List ℕ). begins m bytes) mark_is ∙ h) in
-    subst (λ (n : ℕ). IsCharBoundary bytes n) mark_size (front_ends bytes 0 (0xFEFF ∷ []) f.0 u (IsCharBoundary-start bytes u) f.1)
+after_mark : (bytes : List ℕ) → IsUtf8 bytes → begins byte_order_mark bytes ≡ true → IsCharBoundary bytes 3
+after_mark bytes u h =
+    let f = prefix_holds bytes (0xFEFF ∷ []) u (ap (λ (m : List ℕ). begins m bytes) mark_is ∙ h) in
+    subst (λ (n : ℕ). IsCharBoundary bytes n) mark_size (prefix_ends bytes 0 (0xFEFF ∷ []) f.0 u (IsCharBoundary-start bytes u) f.1)
 
 pub first_boundary : (bytes : List ℕ) → IsUtf8 bytes → IsCharBoundary bytes (first_place bytes)
 unfolding first_place
 first_boundary bytes u = elim (cases_Bool (begins byte_order_mark bytes)) [
-  | inl t ↦ rw t (behind_mark bytes u t)
+  | inl t ↦ rw t (after_mark bytes u t)
   | inr f ↦ rw f (IsCharBoundary-start bytes u)
 ]
 
@@ -78,11 +78,11 @@ record Parts (bytes : List ℕ) (at : ℕ) (i : Item) : Type 0 where
 none_there : (bytes : List ℕ) (at : ℕ) → IsCharBoundary bytes at → IsTextSpan bytes record { start = at; end = at }
 none_there bytes at b = record { start = b; end = b; order = omega arith }
 
-abbrev Stands : List ℕ → ℕ → List ℕ → Type 0
-Stands bytes at cs = (v : List ℕ) × (chars (drop at bytes) ≡ cs ++ v)
+abbrev MayBegin : List ℕ → ℕ → List ℕ → Type 0
+MayBegin bytes at cs = (v : List ℕ) × (chars (drop at bytes) ≡ cs ++ v)
 
-part_of : (bytes : List ℕ) (at p : ℕ) (cs w n v : List ℕ) → IsUtf8 bytes → IsCharBoundary bytes at → (s : Stands bytes at cs) → cs ≡ w ++ (n ++ v) → p ≡ at + size w → IsTextSpan bytes (span_from p n)
-part_of bytes at p cs w n v u b s e is = part_stands bytes at p w n (v ++ s.0) u b (s.1 ∙ ap (λ (l : List ℕ). l ++ s.0) e ∙ by_three w n v s.0) is
+part_of : (bytes : List ℕ) (at p : ℕ) (cs w n v : List ℕ) → IsUtf8 bytes → IsCharBoundary bytes at → (s : MayBegin bytes at cs) → cs ≡ w ++ (n ++ v) → p ≡ at + size w → IsTextSpan bytes (span_from p n)
+part_of bytes at p cs w n v u b s e is = part_holds bytes at p w n (v ++ s.0) u b (s.1 ∙ ap (λ (l : List ℕ). l ++ s.0) e ∙ by_three w n v s.0) is
   where
     by_three : (w n v r : List ℕ) → (w ++ (n ++ v)) ++ r ≡ w ++ (n ++ (v ++ r))
     by_three w n v r = simp append_assoc
@@ -93,7 +93,7 @@ tag_name n w sp c = simp append_assoc
 tag_content_is : (n w sp c : List ℕ) → (codes "<" ++ n ++ w ++ sp) ++ c ≡ (codes "<" ++ n) ++ ((w ++ sp) ++ c)
 tag_content_is n w sp c = simp append_assoc
 
-tag_parts : (bytes : List ℕ) (at : ℕ) (t : Tag) (c : List ℕ) → IsUtf8 bytes → IsCharBoundary bytes at → Stands bytes at ((codes "<" ++ t.name ++ written_attributes t.attributes ++ t.space) ++ c) → IsTextSpan bytes (span_from (at + 1) t.name) × IsTextSpan bytes (span_from (at + 1 + size t.name) (written_attributes t.attributes ++ t.space))
+tag_parts : (bytes : List ℕ) (at : ℕ) (t : Tag) (c : List ℕ) → IsUtf8 bytes → IsCharBoundary bytes at → MayBegin bytes at ((codes "<" ++ t.name ++ written_attributes t.attributes ++ t.space) ++ c) → IsTextSpan bytes (span_from (at + 1) t.name) × IsTextSpan bytes (span_from (at + 1 + size t.name) (written_attributes t.attributes ++ t.space))
 tag_parts bytes at t c u b s = (
   part_of bytes at (at + 1) _ (codes "<") t.name (written_attributes t.attributes ++ (t.space ++ c)) u b s (tag_name t.name (written_attributes t.attributes) t.space c) (omega (arith, size_1)),
   part_of bytes at (at + 1 + size t.name) _ (codes "<" ++ t.name) (written_attributes t.attributes ++ t.space) c u b s (tag_content_is t.name (written_attributes t.attributes) t.space c) (omega (arith, size_1, size-append (codes "<") t.name)),
@@ -108,7 +108,7 @@ parts_whole d =
     sym (append-nil (written (leaf (Leaf.declaration d)))) ∙ parts_split d.version d.encoding d.standalone d.space []
     ∙ ap (λ (l : List ℕ). codes "<?xml" ++ l) (sym (append_assoc (written_attributes (declaration_attributes d)) d.space (codes "?>")))
 
-parts : (bytes : List ℕ) (at : ℕ) (i : Item) → IsUtf8 bytes → IsCharBoundary bytes at → Stands bytes at (written i) → Parts bytes at i
+parts : (bytes : List ℕ) (at : ℕ) (i : Item) → IsUtf8 bytes → IsCharBoundary bytes at → MayBegin bytes at (written i) → Parts bytes at i
 parts bytes at (leaf (Leaf.text ps)) u b s = record {
   name = none_there bytes at b;
   content = part_of bytes at at _ [] (written_pieces ps) [] u b s (sym (append-nil (written_pieces ps))) (omega (arith, size_0));

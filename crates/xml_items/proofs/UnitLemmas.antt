@@ -12,7 +12,7 @@ use Rattle.xml_chars.specs.Readers.{Reader, skip, after_run, word, many, many_by
 use Rattle.xml_chars.specs.Reading.{ascii_head, read_name, read_space}
 use Rattle.xml_chars.proofs.Readers.{IsReader, skip_some, skip_none, word_reads, many_more, many_stuck, many_done, more_fuel}
 use Rattle.xml_chars.proofs.NameLaws.{name_reads, space_reads}
-use Rattle.xml_chars.proofs.StandLemmas.{size-append}
+use Rattle.xml_chars.proofs.HoldLemmas.{size-append}
 use denote.Bor.{Bor}
 use Rattle.std.specs.Option.{option_copied}
 use Rattle.xml_chars.specs.Readers.{Gives}
@@ -85,7 +85,7 @@ instruction_3 s a b e1 e2 e3 = let x = (skip_some (read_until (codes "?>")) a b 
 pub instruction_4 : (s a b c : List ℕ) → word (codes "<?") s ≡ Some (tt, a) → Some b ≡ skip (read_until (codes "?>")) a → word (codes "?>") b ≡ Some (tt, c) → skip (read_inner_by in_instruction) s ≡ Some c
 instruction_4 s a b c e1 e2 e3 = let x = (skip_some (read_until (codes "?>")) a b (sym e2)).1 in rw (e1, x, e3) refl
 
--- the form of what stands at the front
+-- the form of what is at the start
 
 inner_is_comment : (s : List ℕ) → begins (codes "<!--") s ≡ true → inner_form s ≡ in_comment
 unfolding inner_form

@@ -1,4 +1,4 @@
--- The item at a place, by the reader of what stands there.
+-- The item at a place, by the reader of what is there.
 use Rattle.std.proofs.Common.{◌≡◌, ℕ, ◌+◌, ◌<◌, ◌≤◌, Bool, true, false, inl, inr, cond, List, [], ◌∷◌, ◌++◌, length, drop, Option, Some, None, refl, sym, ap, subst, ◌∙◌, arith, lit<}
 use Rattle.std.specs.Prelude.{codes, ◌==◌, ◌&&◌}
 use Rattle.std.specs.Str.{IsUtf8, chars, IsCharBoundary}
@@ -10,15 +10,15 @@ use Rattle.std.proofs.lemmas.Str.{chars-encodes, chars-nil, scalars-chars}
 use Rattle.std.proofs.lemmas.Bool.{cases_Bool, cases_lt, false≢true, and_parts, and_from, ne_eqb, eq-eqb, eqb-true, lt-ltb, le-ltb, false_from_ne_true}
 use Rattle.std.proofs.lemmas.Option.{same_Some}
 use Rattle.xml_model.specs.Chars.{begins, size}
-use Rattle.xml_model.specs.Items.{Item, leaf, Leaf, start_tag, empty_tag, end_tag, written, spelling, meets, ends_well, may_stand, begins_at, first_place, byte_order_mark}
+use Rattle.xml_model.specs.Items.{Item, leaf, Leaf, start_tag, empty_tag, end_tag, written, spelling, meets, ends_well, may_begin_at, begins_at, first_place, byte_order_mark}
 use Rattle.xml_chars.specs.Readers.{word}
 use Rattle.xml_chars.specs.Reading.{ascii_head, read_name}
 use Rattle.xml_chars.proofs.Readers.{word_reads, map_some}
 use Rattle.xml_chars.proofs.Points.{first_of, wide_first, ascii_char}
 use Rattle.xml_chars.proofs.TextLemmas.{pointwise-begins}
-use Rattle.xml_chars.proofs.StandLemmas.{front_stands, read_to, To}
+use Rattle.xml_chars.proofs.HoldLemmas.{prefix_holds, read_to, To}
 use Rattle.xml_items.specs.Reading.{is_name_read, ItemForm, as_text, as_tag, as_end_tag, as_comment, as_cdata, as_doctype, as_instruction, as_declaration, item_form, read_by, read_item}
-use Rattle.xml_items.specs.Stands.{stands_first}
+use Rattle.xml_items.specs.MayBegin.{may_begin}
 use Rattle.xml_items.specs.Shown.{HasNoItem}
 use Rattle.xml_items.specs.Counted.{counted_shown, IsCountedAt}
 use Rattle.xml_items.specs.declared.Counted.{Counted}
@@ -138,31 +138,31 @@ ends_same (start_tag t) bs u = refl
 ends_same (empty_tag t) bs u = refl
 ends_same (end_tag n s) bs u = refl
 
-stand_to : (i : Item) (first p : ℕ) → stands_first (p == first) i ≡ true → may_stand i first p ≡ true
-stand_to (leaf (Leaf.text x)) first p h = refl
-stand_to (leaf (Leaf.cdata x)) first p h = refl
-stand_to (leaf (Leaf.comment x)) first p h = refl
-stand_to (leaf (Leaf.instruction x)) first p h = refl
-stand_to (leaf (Leaf.declaration x)) first p h = elim (cases_Bool (p == first)) [
+hold_to : (i : Item) (first p : ℕ) → may_begin (p == first) i ≡ true → may_begin_at i first p ≡ true
+hold_to (leaf (Leaf.text x)) first p h = refl
+hold_to (leaf (Leaf.cdata x)) first p h = refl
+hold_to (leaf (Leaf.comment x)) first p h = refl
+hold_to (leaf (Leaf.instruction x)) first p h = refl
+hold_to (leaf (Leaf.declaration x)) first p h = elim (cases_Bool (p == first)) [
   | inl t ↦ t
   | inr f ↦ absurd (let n : false ≡ true = rw f at h in false≢true n)
 ]
-stand_to (leaf (Leaf.doctype x)) first p h = refl
-stand_to (start_tag t) first p h = refl
-stand_to (empty_tag t) first p h = refl
-stand_to (end_tag n s) first p h = refl
+hold_to (leaf (Leaf.doctype x)) first p h = refl
+hold_to (start_tag t) first p h = refl
+hold_to (empty_tag t) first p h = refl
+hold_to (end_tag n s) first p h = refl
 
-stand_from : (b : Bool) (i : Item) (first p : ℕ) → (p == first) ≡ b → may_stand i first p ≡ true → stands_first b i ≡ true
-stand_from true i first p e h = refl
-stand_from false (leaf (Leaf.text x)) first p e h = refl
-stand_from false (leaf (Leaf.cdata x)) first p e h = refl
-stand_from false (leaf (Leaf.comment x)) first p e h = refl
-stand_from false (leaf (Leaf.instruction x)) first p e h = refl
-stand_from false (leaf (Leaf.declaration x)) first p e h = absurd (false≢true (sym e ∙ h))
-stand_from false (leaf (Leaf.doctype x)) first p e h = refl
-stand_from false (start_tag t) first p e h = refl
-stand_from false (empty_tag t) first p e h = refl
-stand_from false (end_tag n s) first p e h = refl
+hold_from : (b : Bool) (i : Item) (first p : ℕ) → (p == first) ≡ b → may_begin_at i first p ≡ true → may_begin b i ≡ true
+hold_from true i first p e h = refl
+hold_from false (leaf (Leaf.text x)) first p e h = refl
+hold_from false (leaf (Leaf.cdata x)) first p e h = refl
+hold_from false (leaf (Leaf.comment x)) first p e h = refl
+hold_from false (leaf (Leaf.instruction x)) first p e h = refl
+hold_from false (leaf (Leaf.declaration x)) first p e h = absurd (false≢true (sym e ∙ h))
+hold_from false (leaf (Leaf.doctype x)) first p e h = refl
+hold_from false (start_tag t) first p e h = refl
+hold_from false (empty_tag t) first p e h = refl
+hold_from false (end_tag n s) first p e h = refl
 
 pub record ItemAt (bytes : List ℕ) (at : ℕ) (found : Counted) : Type 0 where
   pub is : IsCountedAt bytes at found
@@ -180,7 +180,7 @@ item_sound_by bytes at found i rest v back k fit shown =
     record {
       is = record {
         item = i;
-        begins = and_from _ _ (and_from _ _ (and_from _ _ fit.0 k.stands) ends) (stand_to i (first_place bytes) at fit.2);
+        begins = and_from _ _ (and_from _ _ (and_from _ _ fit.0 k.holds) ends) (hold_to i (first_place bytes) at fit.2);
         shown = ap (λ (f : Counted). f.item) (sym shown);
         counted = ap (λ (f : Counted). f.attributes) (sym shown);
       };
@@ -209,16 +209,16 @@ size_of_drop w text = size_drop w text
 pub item_read : (bytes text : List ℕ) (at : ℕ) (i : Item) → text ≡ drop at bytes → IsUtf8 text → begins_at bytes at i ≡ true → (rest : List ℕ) × (read_item (at == first_place bytes) (chars text) ≡ Some (i, rest))
 unfolding begins_at spelling
 item_read bytes text at i is u b =
-    let q = and_parts _ (may_stand i (first_place bytes) at) b in
+    let q = and_parts _ (may_begin_at i (first_place bytes) at) b in
     let x = and_parts _ (ends_well i (drop (at + length (encodes (written i))) bytes)) q.0 in
     let y = and_parts (meets i) (begins (encodes (written i)) (drop at bytes)) x.0 in
-    let f = front_stands text (written i) u (ap (begins (encodes (written i))) is ∙ y.1) in
+    let f = prefix_holds text (written i) u (ap (begins (encodes (written i))) is ∙ y.1) in
     let s = scalar_back (written i) f.0 (ap lib.Utf8.scalars (sym f.1) ∙ scalars-chars text u) in
     let v : IsUtf8 (encodes f.0) = (f.0, (s, refl)) in
     let same : drop (at + length (encodes (written i))) bytes ≡ encodes f.0 = sym (drop-drop (length (encodes (written i))) at bytes) ∙ ap (drop (length (encodes (written i)))) (sym is) ∙ size_of_drop (written i) text ∙ sym f.2 in
     let back : chars (encodes f.0) ≡ f.0 = chars-encodes f.0 s in
     let ends : ends_well i f.0 ≡ true = ap (ends_well i) (sym back) ∙ sym (ends_same i (encodes f.0) v) ∙ ap (ends_well i) (sym same) ∙ x.1 in
-    let fit : FitItem (at == first_place bytes) i f.0 = (y.0, ends, stand_from (at == first_place bytes) i (first_place bytes) at refl q.1) in
+    let fit : FitItem (at == first_place bytes) i f.0 = (y.0, ends, hold_from (at == first_place bytes) i (first_place bytes) at refl q.1) in
     (f.0, ap (read_item (at == first_place bytes)) f.1 ∙ (item_reads (at == first_place bytes)).again i f.0 fit)
 
 none_some : (x : Counted) → ◌≡◌ {A = Option Counted} None (Some x) → ⊥

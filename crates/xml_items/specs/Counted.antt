@@ -8,7 +8,7 @@ use Rattle.xml_items.specs.AttributeList.{item_attributes}
 use Rattle.xml_items.specs.declared.Item.{Item as ItemShown}
 use Rattle.xml_items.specs.declared.Counted.{Counted}
 
--- attributes that were read, behind some others, and what is left behind the white space that follows
+-- attributes that were read, after some others, and what is left after the white space that follows
 abbrev pub counted_from : ℕ → List Attribute × List ℕ → ℕ × List ℕ
 counted_from n p = (n + length p.0, after_run is_space p.1)
 

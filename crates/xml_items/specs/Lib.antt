@@ -1,6 +1,6 @@
 pub mod Reading
 pub mod Shown
-pub mod Stands
+pub mod MayBegin
 pub mod Plain
 pub mod Quotes
 pub mod Suffixes

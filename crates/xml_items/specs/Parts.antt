@@ -12,6 +12,6 @@ read_named name = kept (λ a. bytes_eq a.name name) read_attribute
 abbrev pub value_text : Attribute → List ℕ
 value_text a = written_pieces a.value
 
--- what may stand in the name of an encoding, past its first letter (XML 1.0, production 81)
+-- what may be in the name of an encoding, past its first letter (XML 1.0, production 81)
 abbrev pub is_encoding_char : ℕ → Bool
 is_encoding_char d = is_letter d || in_ranges ((48, 57) ∷ (45, 46) ∷ (95, 95) ∷ []) d

@@ -1,4 +1,4 @@
--- Characters that mean nothing but themselves where they stand, and the bytes that only such characters have in UTF-8.
+-- Characters that mean nothing but themselves where they are, and the bytes that only such characters have in UTF-8.
 use Rattle.std.specs.Prelude.{ℕ, Bool, ◌&&◌, ◌==◌, cond, not, nat_lt, nat_le}
 use Rattle.xml_model.specs.Chars.{is_char}
 

@@ -1,4 +1,4 @@
--- What stands at the front of a text: pieces, attributes and items, as readers.
+-- What is at the start of a text: pieces, attributes and items, as readers.
 use Rattle.std.specs.Prelude.{ℕ, Bool, true, false, cond, not, ◌&&◌, ◌||◌, ◌==◌, map, List, [], ◌∷◌, codes, drop, bytes_eq, Option, Some, None}
 use Rattle.std.specs.List.{list_all}
 use Rattle.std.specs.Char.{to_ascii_lowercase}
@@ -101,7 +101,7 @@ read_end_tag = mapped (λ p. end_tag p.1.0 p.1.1.0) (both (word (codes "</")) (�
 
 -- ---- what runs up to a mark
 
--- the characters before the first place where the mark stands
+-- the characters before the first place where the mark is
 abbrev pub push : ℕ → Option (List ℕ × List ℕ) → Option (List ℕ × List ℕ)
 push c None = None
 push c (Some p) = Some (c ∷ p.0, p.1)
@@ -247,7 +247,7 @@ read_text = mapped (λ p. leaf (Leaf.text p.0)) (both (kept (λ ps. not (is_nil 
 pub data ItemForm : Type 0 where
   as_text as_tag as_end_tag as_comment as_cdata as_doctype as_instruction as_declaration : ItemForm
 
--- what begins with <? is told apart by its target
+-- what begins with <? is known apart by its target
 unfoldable pub item_form : List ℕ → ItemForm
 item_form text =
     cond (begins (codes "<") text)
@@ -267,6 +267,6 @@ read_by first as_instruction = read_instruction
 read_by true as_declaration = read_declaration
 read_by false as_declaration = λ _. None
 
--- the item at the front; a declaration at the first place alone
+-- the item at the start; a declaration at the first place alone
 unfoldable pub read_item : Bool → Reader Item
 read_item first = choose_by item_form (read_by first)

@@ -36,7 +36,7 @@ item_name at (start_tag t) = span_from (at + 1) t.name
 item_name at (empty_tag t) = span_from (at + 1) t.name
 item_name at (end_tag name space) = span_from (at + 2) name
 
--- what stands between the Name of a tag and its > or />
+-- what is between the Name of a tag and its > or />
 abbrev pub tag_content : ℕ → Tag → Span
 tag_content at t = span_from (at + 1 + size t.name) (written_attributes t.attributes ++ t.space)
 

@@ -23,7 +23,7 @@ static CLASSES: [u8; 256] = *b"\
     77777777777777777777777777777777\
     77777777777777707777777777777777";
 
-/// Whether only Chars that may stand anywhere in a text have the byte.
+/// Whether only Chars that may be anywhere in a text have the byte.
 #[inline(always)]
 fn is_text_byte(byte: u8) -> bool
     ensures { result ≡ is_text_byte byte }
@@ -31,7 +31,7 @@ fn is_text_byte(byte: u8) -> bool
     CLASSES[byte as usize] & TEXT != 0
 }
 
-/// Whether only Chars that may stand anywhere in a value have the byte.
+/// Whether only Chars that may be anywhere in a value have the byte.
 #[inline(always)]
 fn is_value_byte(byte: u8) -> bool
     ensures { result ≡ is_value_byte byte }
@@ -91,7 +91,7 @@ fn is_run(block: &[u8], stops: Stops) -> bool
 /// How many bytes are tested at once.
 const BLOCK: usize = 32;
 
-/// What follows the whole blocks at the front over which a run goes on.
+/// What follows the whole blocks at the start over which a run goes on.
 #[inline(always)]
 fn after_blocks(bytes: &[u8], stops: Stops) -> &[u8]
     ensures run { prefix_len (goes_on stops) bytes.now ≡ length bytes.now - length result.now + prefix_len (goes_on stops) result.now }
@@ -108,7 +108,7 @@ fn after_blocks(bytes: &[u8], stops: Stops) -> &[u8]
     rest
 }
 
-/// The length of the longest run at the front, byte by byte.
+/// The length of the longest run at the start, byte by byte.
 #[inline(always)]
 fn short_run_len(bytes: &[u8], stops: Stops) -> usize
     ensures value { result ≡ prefix_len (goes_on stops) bytes.now }
@@ -122,7 +122,7 @@ fn short_run_len(bytes: &[u8], stops: Stops) -> usize
     bytes.len()
 }
 
-/// The length of the longest run at the front.
+/// The length of the longest run at the start.
 #[inline(never)]
 fn run_len(bytes: &[u8], stops: Stops) -> usize
     ensures value { result ≡ prefix_len (goes_on stops) bytes.now }
@@ -135,7 +135,7 @@ fn run_len(bytes: &[u8], stops: Stops) -> usize
 /// How many bytes are tested one by one before blocks are.
 const SHORT: usize = 16;
 
-/// The length of the longest front of bytes that only Chars have that may stand anywhere in a text, byte by byte.
+/// The length of the longest prefix of bytes that only Chars have that may be anywhere in a text, byte by byte.
 #[inline(always)]
 fn short_text_len(bytes: &[u8]) -> usize
     ensures value { result ≡ prefix_len is_text_byte bytes.now }
@@ -149,14 +149,14 @@ fn short_text_len(bytes: &[u8]) -> usize
     bytes.len()
 }
 
-/// The length of the longest front of bytes that only Chars have that may stand anywhere in a text.
+/// The length of the longest prefix of bytes that only Chars have that may be anywhere in a text.
 #[inline(always)]
 pub fn plain_text_len(bytes: &[u8]) -> usize
     ensures value { result ≡ prefix_len is_text_byte bytes.now }
     ensures within { result ≤ length bytes.now }
 {
-    let (front, back) = bytes.split_at(bytes.len().min(SHORT));
-    let len = short_text_len(front);
+    let (prefix, back) = bytes.split_at(bytes.len().min(SHORT));
+    let len = short_text_len(prefix);
     if len < SHORT {
         return len;
     }
@@ -169,7 +169,7 @@ pub fn plain_text_len(bytes: &[u8]) -> usize
     len + run_len(back, stops)
 }
 
-/// The length of the longest front of bytes that only Chars have that may stand anywhere in a value.
+/// The length of the longest prefix of bytes that only Chars have that may be anywhere in a value.
 #[inline(always)]
 pub fn plain_value_len(bytes: &[u8]) -> usize
     ensures value { result ≡ prefix_len is_value_byte bytes.now }
@@ -183,7 +183,7 @@ pub fn plain_value_len(bytes: &[u8]) -> usize
     bytes.len()
 }
 
-/// The length of the longest front of bytes that only Chars have.
+/// The length of the longest prefix of bytes that only Chars have.
 pub fn plain_char_len(bytes: &[u8]) -> usize
     ensures value { result ≡ prefix_len is_char_byte bytes.now }
     ensures within { result ≤ length bytes.now }

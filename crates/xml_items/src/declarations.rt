@@ -77,7 +77,7 @@ fn is_encoding_char(b: u8) -> bool
     CLASSES[b as usize] & NAME != 0
 }
 
-/// Whether each byte may stand in the name of an encoding.
+/// Whether each byte may be in the name of an encoding.
 fn all_encoding_chars(bytes: &[u8]) -> bool
     ensures { result ≡ list_all is_encoding_char bytes.now }
 {
@@ -108,7 +108,7 @@ fn is_yes_or_no(text: &str) -> bool
     is_same(text, "yes") || is_same(text, "no")
 }
 
-/// The value of the part of that name at the front, and what follows the part.
+/// The value of the part of that name at the start, and what follows the part.
 fn part_of<'a>(text: &'a str, name: &str) -> Option<(&'a str, &'a str)>
     requires { list_all (λ b. nat_lt b 128) name.now ≡ true }
     ensures read { Gives (λ x. (chars x.0.now, chars x.1.now)) result (mapped value_text (read_named name.now) (chars text.now)) }
@@ -127,7 +127,7 @@ fn part_of<'a>(text: &'a str, name: &str) -> Option<(&'a str, &'a str)>
     Some((value, part.rest))
 }
 
-/// Whether white space, if any, and then that name stand at the front.
+/// Whether white space, if any, and then that name are at the start.
 fn begins_part(text: &str, name: &str) -> bool
     requires { list_all (λ b. nat_lt b 128) name.now ≡ true }
     ensures { result ≡ begins_part name.now (chars text.now) }
@@ -139,7 +139,7 @@ fn begins_part(text: &str, name: &str) -> bool
     }
 }
 
-/// What follows the version at the front.
+/// What follows the version at the start.
 fn after_version(text: &str) -> Option<&str>
     ensures read { option_map chars (option_copied result) ≡ skip (read_part (codes "version") is_version) (chars text.now) }
     ensures shorter { IfSome result (λ r. length r.now ≤ length text.now) }
@@ -148,7 +148,7 @@ fn after_version(text: &str) -> Option<&str>
     if is_version(value) { Some(rest) } else { None }
 }
 
-/// What follows the encoding at the front, which may be left out.
+/// What follows the encoding at the start, which may be left out.
 fn after_encoding(text: &str) -> Option<&str>
     ensures read { option_map chars (option_copied result) ≡ skip (read_option (codes "encoding") is_encoding_name) (chars text.now) }
     ensures shorter { IfSome result (λ r. length r.now ≤ length text.now) }
@@ -164,7 +164,7 @@ fn after_encoding(text: &str) -> Option<&str>
     }
 }
 
-/// What follows the standalone part at the front, which may be left out.
+/// What follows the standalone part at the start, which may be left out.
 fn after_standalone(text: &str) -> Option<&str>
     ensures read { option_map chars (option_copied result) ≡ skip (read_option (codes "standalone") is_yes_or_no) (chars text.now) }
     ensures shorter { IfSome result (λ r. length r.now ≤ length text.now) }
@@ -180,14 +180,14 @@ fn after_standalone(text: &str) -> Option<&str>
     }
 }
 
-/// How many parts stand between two rests of a text, the second of which follows one part of the first, or none.
+/// How many parts are between two rests of a text, the second of which follows one part of the first, or none.
 fn parts_between(from: &str, to: &str) -> u32
     ensures { result ≡ cond (nat_lt (length to.now) (length from.now)) 1 0 }
 {
     if to.len() < from.len() { 1 } else { 0 }
 }
 
-/// The XML declaration at the front of a text that begins at the place.
+/// The XML declaration at the start of a text that begins at the place.
 pub fn declaration_at(text: &str, at: u32) -> Option<Counted>
     requires { at + length text.now < 2 ^ 32 }
     ensures { result ≡ option_map (λ p. counted_shown at p.0) (read_declaration (chars text.now)) }

@@ -11,7 +11,7 @@ ghost use Rattle.xml_items.specs.Quotes.{quote_of};
 ghost use Rattle.xml_items.specs.Reading.{read_quoted, in_comment, in_instruction, in_character, with_subset, with_character, read_inner_by, read_unit_by, is_inner_char, is_unit_char, read_inner, read_subset, read_unit, read_units, read_doctype};
 ghost use Rattle.xml_items.specs.Shown.{item_shown};
 
-use crate::marks::{find_past_chars, stands};
+use crate::marks::{find_past_chars, holds};
 use crate::pieces::after_plain_value;
 use crate::spans::span_between;
 use crate::tags::after_quote;
@@ -38,7 +38,7 @@ fn is_quoted_char(c: char, quote: u8) -> bool
     xml_chars::is_char(c) && c != quote as char
 }
 
-/// What follows the longest front of Chars other than the quote.
+/// What follows the longest prefix of Chars other than the quote.
 fn after_quoted_chars(text: &str, quote: u8) -> &str
     requires { quote_char (quote_of quote) ≡ quote }
     ensures rest { chars result.now ≡ after_run (λ c. is_char c && not (c == quote)) (chars text.now) }
@@ -51,7 +51,7 @@ fn after_quoted_chars(text: &str, quote: u8) -> &str
     rest
 }
 
-/// What follows the literal in these quotes at the front.
+/// What follows the literal in these quotes at the start.
 fn after_quoted(text: &str, quote: u8) -> Option<&str>
     requires { quote_char (quote_of quote) ≡ quote }
     ensures read { option_map chars (option_copied result) ≡ skip (read_quoted (quote_of quote)) (chars text.now) }
@@ -102,15 +102,15 @@ fn after_inner_char(text: &str) -> Option<&str>
     if is_inner_char(c) { Some(rest) } else { None }
 }
 
-/// What follows the unit of a subset at the front.
+/// What follows the unit of a subset at the start.
 fn after_inner(text: &str) -> Option<&str>
     ensures read { option_map chars (option_copied result) ≡ skip read_inner (chars text.now) }
     ensures shorter { IfSome result (λ r. length r.now < length text.now) }
 {
-    if stands(text, "<!--") {
+    if holds(text, "<!--") {
         return after_comment(text);
     }
-    if stands(text, "<?") {
+    if holds(text, "<?") {
         return after_instruction(text);
     }
     if head(text) == b'"' {
@@ -134,7 +134,7 @@ fn after_subset(text: &str) -> Option<&str>
     Some(rest)
 }
 
-/// What follows the subset at the front.
+/// What follows the subset at the start.
 fn after_whole_subset(text: &str) -> Option<&str>
     ensures read { option_map chars (option_copied result) ≡ skip (read_unit_by with_subset) (chars text.now) }
     ensures shorter { IfSome result (λ r. length r.now < length text.now) }
@@ -153,7 +153,7 @@ fn after_unit_char(text: &str) -> Option<&str>
     if is_unit_char(c) { Some(rest) } else { None }
 }
 
-/// What follows the unit of a declaration at the front.
+/// What follows the unit of a declaration at the start.
 fn after_unit(text: &str) -> Option<&str>
     ensures read { option_map chars (option_copied result) ≡ skip read_unit (chars text.now) }
     ensures shorter { IfSome result (λ r. length r.now < length text.now) }
@@ -188,7 +188,7 @@ fn after_units(text: &str) -> Option<&str>
     Some(rest)
 }
 
-/// The document type declaration at the front of a text that begins at the place.
+/// The document type declaration at the start of a text that begins at the place.
 pub fn doctype_at(text: &str, at: u32) -> Option<Item>
     requires { at + length text.now < 2 ^ 32 }
     ensures { result ≡ option_map (λ p. item_shown at p.0) (read_doctype (chars text.now)) }

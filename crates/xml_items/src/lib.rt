@@ -53,8 +53,8 @@ pub struct Item {
     pub span: Span,
     /// The Name of a tag, an Instruction or a Doctype; empty at the item's start for the others.
     pub name: Span,
-    /// The whole of a Text; what stands between the markers of a Cdata and a Comment; the data of an Instruction,
-    /// empty at its `?>` where it has none; what stands between the Name of a tag and its `>` or `/>`, between `<?xml` and
+    /// The whole of a Text; what is between the markers of a Cdata and a Comment; the data of an Instruction,
+    /// empty at its `?>` where it has none; what is between the Name of a tag and its `>` or `/>`, between `<?xml` and
     /// `?>`, and between `<!DOCTYPE` and its `>`.
     pub content: Span,
 }
@@ -75,7 +75,7 @@ pub struct ItemFault;
 #[derive(Clone, Copy, Debug, PartialEq, Eq)]
 pub struct AttributeItem {
     pub name: Span,
-    /// What stands between the quotes.
+    /// What is between the quotes.
     pub value: Span,
 }
 
@@ -109,7 +109,7 @@ fn after_first(text: &str) -> &str
     }
 }
 
-/// Whether the name at the front is `xml`.
+/// Whether the name at the start is `xml`.
 fn begins_xml(text: &str) -> bool
     ensures { result ≡ is_name_read (codes "xml") (read_name (chars text.now)) }
 {
@@ -129,7 +129,7 @@ fn without_attributes(item: Option<Item>) -> Option<Counted>
     })
 }
 
-/// The item at the front of a text that begins at the place with `<?`, which is the document's first place or is not. What
+/// The item at the start of a text that begins at the place with `<?`, which is the document's first place or is not. What
 /// follows the `<` is `rest`.
 fn question_item_of(text: &str, rest: &str, at: u32, first: bool) -> Option<Counted>
     requires room { at + length text.now < 2 ^ 32 }
@@ -147,7 +147,7 @@ fn question_item_of(text: &str, rest: &str, at: u32, first: bool) -> Option<Coun
     }
 }
 
-/// The item at the front of a text that begins at the place with `<!`. What follows the `<` is `rest`.
+/// The item at the start of a text that begins at the place with `<!`. What follows the `<` is `rest`.
 fn bang_item_of(text: &str, rest: &str, at: u32, first: bool) -> Option<Counted>
     requires room { at + length text.now < 2 ^ 32 }
     requires rest { word (codes "<") (chars text.now) ≡ Some (tt, chars rest.now) }
@@ -164,7 +164,7 @@ fn bang_item_of(text: &str, rest: &str, at: u32, first: bool) -> Option<Counted>
     without_attributes(doctype_at(text, at))
 }
 
-/// The item at the front of a text that begins at the place with `<` and is no end tag. What follows the `<` is `rest`.
+/// The item at the start of a text that begins at the place with `<` and is no end tag. What follows the `<` is `rest`.
 #[inline(never)]
 fn marked_item_of(text: &str, rest: &str, at: u32, first: bool) -> Option<Counted>
     requires room { at + length text.now < 2 ^ 32 }
@@ -182,7 +182,7 @@ fn marked_item_of(text: &str, rest: &str, at: u32, first: bool) -> Option<Counte
     tag_at(text, at)
 }
 
-/// The item at the front of a text that begins at the place, which is the document's first place or is not. A rarer item is
+/// The item at the start of a text that begins at the place, which is the document's first place or is not. A rarer item is
 /// copied from where it is read into, so that texts and tags need not be stored.
 #[inline(always)]
 fn item_of(text: &str, at: u32, first: bool) -> Option<Counted>

@@ -1,4 +1,4 @@
-//! Comments, CDATA sections and instructions at the front of a text (XML 1.0, productions 15 to 21).
+//! Comments, CDATA sections and instructions at the start of a text (XML 1.0, productions 15 to 21).
 #![tactic(auto)]
 
 ghost use Rattle.std.specs.Prelude.{◌≡◌, ◌≤◌, ◌<◌, ◌+◌, ◌^◌, ◌==◌, ◌||◌, not, true, length, nat_lt, slice_index, option_map, IfSome};
@@ -17,7 +17,7 @@ use memchr::memchr;
 use xml_chars::names::name_of;
 use xml_chars::text::{space_of, step, word_of};
 
-/// What follows the longest front without the byte, which is ASCII.
+/// What follows the longest prefix without the byte, which is ASCII.
 fn after_other(text: &str, byte: u8) -> &str
     requires { byte < 128 }
     ensures rest { chars result.now ≡ after_run (λ c. not (c == byte)) (chars text.now) }
@@ -27,15 +27,15 @@ fn after_other(text: &str, byte: u8) -> &str
     text.split_at(n).1
 }
 
-/// Whether the mark, which is ASCII, stands at the front.
-pub fn stands(text: &str, mark: &str) -> bool
+/// Whether the mark, which is ASCII, is at the start.
+pub fn holds(text: &str, mark: &str) -> bool
     requires { list_all (λ b. nat_lt b 128) mark.now ≡ true }
     ensures { result ≡ begins mark.now (chars text.now) }
 {
     word_of(text, mark).is_some()
 }
 
-/// The text from the first place on where the mark stands. The mark is ASCII and begins with the byte.
+/// The text from the first place on where the mark is. The mark is ASCII and begins with the byte.
 fn find<'a>(text: &'a str, mark: &str, first: u8) -> Option<&'a str>
     requires ascii { list_all (λ b. nat_lt b 128) mark.now ≡ true }
     requires first { (first < 128) × (0 < length mark.now) × (slice_index mark.now 0 ≡ first) }
@@ -43,14 +43,14 @@ fn find<'a>(text: &'a str, mark: &str, first: u8) -> Option<&'a str>
     ensures shorter { IfSome result (λ r. length r.now ≤ length text.now) }
 {
     let mut rest = after_other(text, first);
-    while !stands(rest, mark) {
+    while !holds(rest, mark) {
         let (_, after) = step(rest)?;
         rest = after_other(after, first);
     }
     Some(rest)
 }
 
-/// The same, where all characters before the mark may stand in a document.
+/// The same, where all characters before the mark may be in a document.
 pub fn find_past_chars<'a>(text: &'a str, mark: &str, first: u8) -> Option<&'a str>
     requires ascii { list_all (λ b. nat_lt b 128) mark.now ≡ true }
     requires first { (first < 128) × (0 < length mark.now) × (slice_index mark.now 0 ≡ first) }
@@ -58,8 +58,8 @@ pub fn find_past_chars<'a>(text: &'a str, mark: &str, first: u8) -> Option<&'a s
     ensures shorter { IfSome result (λ r. length r.now ≤ length text.now) }
 {
     let rest = find(text, mark, first)?;
-    let (front, _) = text.split_at(text.len() - rest.len());
-    if are_chars(front) { Some(rest) } else { None }
+    let (prefix, _) = text.split_at(text.len() - rest.len());
+    if are_chars(prefix) { Some(rest) } else { None }
 }
 
 /// Whether the name is `xml`, ASCII letter case aside.
@@ -69,7 +69,7 @@ fn is_xml(name: &str) -> bool
     name.as_bytes().eq_ignore_ascii_case(b"xml")
 }
 
-/// The comment at the front of a text that begins at the place (XML 1.0, production 15).
+/// The comment at the start of a text that begins at the place (XML 1.0, production 15).
 pub fn comment_at(text: &str, at: u32) -> Option<Item>
     requires { at + length text.now < 2 ^ 32 }
     ensures { result ≡ option_map (λ p. item_shown at p.0) (read_comment (chars text.now)) }
@@ -85,7 +85,7 @@ pub fn comment_at(text: &str, at: u32) -> Option<Item>
     })
 }
 
-/// The CDATA section at the front of a text that begins at the place (XML 1.0, productions 18 to 21).
+/// The CDATA section at the start of a text that begins at the place (XML 1.0, productions 18 to 21).
 pub fn cdata_at(text: &str, at: u32) -> Option<Item>
     requires { at + length text.now < 2 ^ 32 }
     ensures { result ≡ option_map (λ p. item_shown at p.0) (read_cdata (chars text.now)) }
@@ -101,14 +101,14 @@ pub fn cdata_at(text: &str, at: u32) -> Option<Item>
     })
 }
 
-/// Whether white space stands before the data of an instruction, or there are none. The data end where `end` begins.
+/// Whether white space is before the data of an instruction, or there are none. The data end where `end` begins.
 fn is_parted(space: &str, content: &str, end: &str) -> bool
     ensures { result ≡ (not (length space.now == 0) || length content.now == length end.now) }
 {
     !space.is_empty() || content.len() == end.len()
 }
 
-/// The instruction at the front of a text that begins at the place (XML 1.0, productions 16 and 17).
+/// The instruction at the start of a text that begins at the place (XML 1.0, productions 16 and 17).
 pub fn instruction_at(text: &str, at: u32) -> Option<Item>
     requires { at + length text.now < 2 ^ 32 }
     ensures { result ≡ option_map (λ p. item_shown at p.0) (read_instruction (chars text.now)) }

@@ -17,7 +17,7 @@ use crate::classes::{plain_char_len, plain_text_len, plain_value_len};
 use xml_chars::references::reference_of;
 use xml_chars::text::{head, step, word_of};
 
-/// What follows the longest front of plain characters of a text.
+/// What follows the longest prefix of plain characters of a text.
 #[inline(always)]
 fn after_plain_text(text: &str) -> &str
     ensures rest { chars result.now ≡ after_run is_plain_text (chars text.now) }
@@ -26,7 +26,7 @@ fn after_plain_text(text: &str) -> &str
     text.split_at(plain_text_len(text.as_bytes())).1
 }
 
-/// What follows the longest front of plain characters of a value.
+/// What follows the longest prefix of plain characters of a value.
 #[inline(always)]
 pub fn after_plain_value(text: &str) -> &str
     ensures rest { chars result.now ≡ after_run is_plain_value (chars text.now) }
@@ -35,7 +35,7 @@ pub fn after_plain_value(text: &str) -> &str
     text.split_at(plain_value_len(text.as_bytes())).1
 }
 
-/// What follows the longest front of plain Chars.
+/// What follows the longest prefix of plain Chars.
 fn after_plain_char(text: &str) -> &str
     ensures rest { chars result.now ≡ after_run is_plain_char (chars text.now) }
     ensures shorter { length result.now ≤ length text.now }
@@ -43,7 +43,7 @@ fn after_plain_char(text: &str) -> &str
     text.split_at(plain_char_len(text.as_bytes())).1
 }
 
-/// What follows the reference at the front.
+/// What follows the reference at the start.
 fn after_reference(text: &str) -> Option<&str>
     ensures read { option_map chars (option_copied result) ≡ skip read_reference (chars text.now) }
     ensures shorter { IfSome result (λ r. length r.now < length text.now) }
@@ -52,14 +52,14 @@ fn after_reference(text: &str) -> Option<&str>
     Some(rest)
 }
 
-/// Whether the character may stand by itself in a text.
+/// Whether the character may be by itself in a text.
 fn is_text_literal(c: char) -> bool
     ensures { result ≡ is_literal (λ c. false) c }
 {
     xml_chars::is_char(c) && c != '<' && c != '&'
 }
 
-/// Whether the character may stand by itself in a value that the quote ends.
+/// Whether the character may be by itself in a value that the quote ends.
 fn is_value_literal(c: char, quote: u8) -> bool
     requires { quote_char (quote_of quote) ≡ quote }
     ensures { result ≡ is_literal (ends_value (quote_of quote)) c }
@@ -67,7 +67,7 @@ fn is_value_literal(c: char, quote: u8) -> bool
     xml_chars::is_char(c) && c != '<' && c != '&' && c != quote as char
 }
 
-/// What follows the piece of a text at the front.
+/// What follows the piece of a text at the start.
 fn after_text_piece(text: &str) -> Option<&str>
     ensures read { option_map chars (option_copied result) ≡ skip (read_piece (λ c. false)) (chars text.now) }
     ensures shorter { IfSome result (λ r. length r.now < length text.now) }
@@ -79,7 +79,7 @@ fn after_text_piece(text: &str) -> Option<&str>
     if is_text_literal(c) { Some(rest) } else { None }
 }
 
-/// What follows the piece at the front of a value that the quote ends.
+/// What follows the piece at the start of a value that the quote ends.
 fn after_value_piece(text: &str, quote: u8) -> Option<&str>
     requires { quote_char (quote_of quote) ≡ quote }
     ensures read { option_map chars (option_copied result) ≡ skip (read_piece (ends_value (quote_of quote))) (chars text.now) }
@@ -107,7 +107,7 @@ pub fn ends_text(text: &str) -> bool
     }
 }
 
-/// Whether a text goes on: neither its end nor `]]>` stands at the front.
+/// Whether a text goes on: neither its end nor `]]>` is at the start.
 #[tactic(auto, unfolding(crate::specs::Reading::in_text))]
 fn in_text(text: &str) -> bool
     ensures { result ≡ in_text (chars text.now) }
@@ -115,7 +115,7 @@ fn in_text(text: &str) -> bool
     !ends_text(text) && !begins_end(text)
 }
 
-/// Whether `]]>` stands at the front.
+/// Whether `]]>` is at the start.
 fn begins_end(text: &str) -> bool
     ensures { result ≡ begins (codes "]]>") (chars text.now) }
 {
@@ -179,7 +179,7 @@ pub fn after_value(text: &str, quote: u8) -> Option<&str>
     }
 }
 
-/// Whether all characters may stand in a document.
+/// Whether all characters may be in a document.
 pub fn are_chars(text: &str) -> bool
     ensures { result ≡ list_all is_char (chars text.now) }
 {

@@ -1,4 +1,4 @@
-//! Attributes and tags at the front of a text (XML 1.0, productions 40 to 44).
+//! Attributes and tags at the start of a text (XML 1.0, productions 40 to 44).
 #![tactic(auto)]
 
 ghost use Rattle.std.specs.Prelude.{◌≡◌, ◌≤◌, ◌<◌, ◌+◌, ◌-◌, ◌^◌, length, option_map, IfSome, Some, [], ◌∷◌};
@@ -18,7 +18,7 @@ use crate::{Counted, Item, ItemKind};
 use xml_chars::names::{begins_name, name_of};
 use xml_chars::text::{space_of, word_of};
 
-/// The quote at the front, and what follows it.
+/// The quote at the start, and what follows it.
 #[inline(always)]
 fn quote_at(text: &str) -> Option<(u8, &str)>
     ensures read { Gives (λ x. (quote_of x.0, chars x.1.now)) result (read_quote (chars text.now)) }
@@ -32,7 +32,7 @@ fn quote_at(text: &str) -> Option<(u8, &str)>
     Some((b'"', rest))
 }
 
-/// What follows the quote, where it stands at the front.
+/// What follows the quote, where it is at the start.
 #[inline(always)]
 pub fn after_quote(text: &str, quote: u8) -> Option<&str>
     ensures read { Gives (λ r. (tt, chars r.now)) result (word (quote_char (quote_of quote) ∷ []) (chars text.now)) }
@@ -55,7 +55,7 @@ pub struct AttributeText<'a> {
     pub rest: &'a str,
 }
 
-/// The attribute at the front, without white space before it; None where none begins the text.
+/// The attribute at the start, without white space before it; None where none begins the text.
 #[inline(always)]
 pub fn bare_attribute_of(text: &str) -> Option<AttributeText<'_>>
     ensures read { Gives suffixes_seen result (option_map suffixes (read_bare (chars text.now))) }
@@ -78,7 +78,7 @@ pub fn bare_attribute_of(text: &str) -> Option<AttributeText<'_>>
     })
 }
 
-/// The attribute at the front, with the white space before it; None where none begins the text.
+/// The attribute at the start, with the white space before it; None where none begins the text.
 pub fn attribute_of(text: &str) -> Option<AttributeText<'_>>
     ensures read { Gives suffixes_seen result (option_map suffixes (read_attribute (chars text.now))) }
     ensures first { IfSome result (λ f. (length f.after_space.now ≤ length text.now) × (length f.after_name.now ≤ length f.after_space.now)) }
@@ -91,7 +91,7 @@ pub fn attribute_of(text: &str) -> Option<AttributeText<'_>>
     bare_attribute_of(after_space)
 }
 
-/// How many attributes stand at the front, and what follows them and the white space behind them; None where one of
+/// How many attributes are at the start, and what follows them and the white space after them; None where one of
 /// them is wrong.
 #[inline(always)]
 fn after_attributes(text: &str) -> Option<(u32, &str)>
@@ -138,7 +138,7 @@ fn tag_kind(empty: bool) -> ItemKind
     }
 }
 
-/// The start tag or empty tag at the front of a text that begins at the place (XML 1.0, productions 40 and 44).
+/// The start tag or empty tag at the start of a text that begins at the place (XML 1.0, productions 40 and 44).
 #[inline(always)]
 pub fn tag_at(text: &str, at: u32) -> Option<Counted>
     requires { at + length text.now < 2 ^ 32 }
@@ -157,7 +157,7 @@ pub fn tag_at(text: &str, at: u32) -> Option<Counted>
     Some(Counted { item, attributes })
 }
 
-/// The end tag at the front of a text that begins at the place (XML 1.0, production 42).
+/// The end tag at the start of a text that begins at the place (XML 1.0, production 42).
 #[inline(always)]
 pub fn end_tag_at(text: &str, at: u32) -> Option<Item>
     requires { at + length text.now < 2 ^ 32 }

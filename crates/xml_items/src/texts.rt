@@ -10,7 +10,7 @@ use crate::pieces::{after_pieces, ends_text};
 use crate::spans::span_between;
 use crate::{Item, ItemKind};
 
-/// The text at the front of a text that begins at the place: to the next `<` or the end.
+/// The text at the start of a text that begins at the place: to the next `<` or the end.
 #[inline(always)]
 pub fn text_item_at(text: &str, at: u32) -> Option<Item>
     requires { at + length text.now < 2 ^ 32 }

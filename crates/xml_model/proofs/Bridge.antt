@@ -63,16 +63,16 @@ pub spelling_some : (bytes : List ℕ) (p : ℕ) (i : Item) → begins_at bytes 
 unfolding spelling
 spelling_some bytes p i h = omega (arith, length-le-encodes (written i), written_some i (begins_meets bytes p i h))
 
-ends_behind : (p : ℕ) (is : List Item) → p ≤ end_of_items p is
-ends_behind p [] = le_refl p
-ends_behind p (i ∷ is) = omega (arith, ends_behind (p + length (spelling i)) is)
+ends_after : (p : ℕ) (is : List Item) → p ≤ end_of_items p is
+ends_after p [] = le_refl p
+ends_after p (i ∷ is) = omega (arith, ends_after (p + length (spelling i)) is)
 
 -- at most one item begins at each place that a walk from p reaches
 abbrev pub OneFrom : List ℕ → ℕ → Type 0
 OneFrom bytes p = (items : List Item) → walk_from bytes p items ≡ true → (i j : Item) → begins_at bytes (end_of_items p items) i ≡ true → begins_at bytes (end_of_items p items) j ≡ true → i ≡ j
 
-one_behind : (bytes : List ℕ) (p : ℕ) (i : Item) → OneFrom bytes p → begins_at bytes p i ≡ true → OneFrom bytes (p + length (spelling i))
-one_behind bytes p i one h items w = one (i ∷ items) (ap₂ (λ a b. a && b) h w)
+one_after : (bytes : List ℕ) (p : ℕ) (i : Item) → OneFrom bytes p → begins_at bytes p i ≡ true → OneFrom bytes (p + length (spelling i))
+one_after bytes p i one h items w = one (i ∷ items) (ap₂ (λ a b. a && b) h w)
 
 pub one_from : (bytes : List ℕ) → OneItem bytes → OneFrom bytes (first_place bytes)
 unfolding walk
@@ -81,16 +81,16 @@ one_from bytes one = one
 one_walk_from : (bytes : List ℕ) (p e : ℕ) (is js : List Item) → OneFrom bytes p → walk_from bytes p is ≡ true → walk_from bytes p js ≡ true → end_of_items p is ≡ e → end_of_items p js ≡ e → is ≡ js
 one_walk_from bytes p e [] [] one w v a b = refl
 one_walk_from bytes p e [] (j ∷ js) one w v a b =
-    let h = and_parts (begins_at bytes p j) _ v in absurd (omega (arith, a, b, spelling_some bytes p j h.0, ends_behind (p + length (spelling j)) js))
+    let h = and_parts (begins_at bytes p j) _ v in absurd (omega (arith, a, b, spelling_some bytes p j h.0, ends_after (p + length (spelling j)) js))
 one_walk_from bytes p e (i ∷ is) [] one w v a b =
-    let h = and_parts (begins_at bytes p i) _ w in absurd (omega (arith, a, b, spelling_some bytes p i h.0, ends_behind (p + length (spelling i)) is))
+    let h = and_parts (begins_at bytes p i) _ w in absurd (omega (arith, a, b, spelling_some bytes p i h.0, ends_after (p + length (spelling i)) is))
 one_walk_from bytes p e (i ∷ is) (j ∷ js) one w v a b =
     let h = and_parts (begins_at bytes p i) _ w in
     let k = and_parts (begins_at bytes p j) _ v in
     let same : j ≡ i = one [] refl j i k.0 h.0 in
     let next : ℕ → Type 0 = λ n. (walk_from bytes (p + n) js ≡ true) × (end_of_items (p + n) js ≡ e) in
     let moved = subst next (ap (λ x. length (spelling x)) same) (k.1, b) in
-    ap₂ (λ x xs. x ∷ xs) (sym same) (one_walk_from bytes (p + length (spelling i)) e is js (one_behind bytes p i one h.0) h.1 moved.0 a moved.1)
+    ap₂ (λ x xs. x ∷ xs) (sym same) (one_walk_from bytes (p + length (spelling i)) e is js (one_after bytes p i one h.0) h.1 moved.0 a moved.1)
 
 -- two walks to the end are the same
 pub one_walk : (bytes : List ℕ) → OneItem bytes → (is js : List Item) → walk_to_end bytes is ≡ true → walk_to_end bytes js ≡ true → is ≡ js
@@ -102,7 +102,7 @@ one_walk bytes one is js w v =
 
 -- a walk that stops before the end of a walk to the end stops where an item begins
 pub item_there : (bytes : List ℕ) (p e at : ℕ) (is js : List Item) → OneFrom bytes p → walk_from bytes p is ≡ true → end_of_items p is ≡ e → walk_from bytes p js ≡ true → end_of_items p js ≡ at → at < e → ((i : Item) → begins_at bytes at i ≡ false) → ⊥
-item_there bytes p e at [] js one w a v b l none = omega (arith, a, b, l, ends_behind p js)
+item_there bytes p e at [] js one w a v b l none = omega (arith, a, b, l, ends_after p js)
 item_there bytes p e at (i ∷ is) [] one w a v b l none =
     let h = and_parts (begins_at bytes p i) _ w in false≢true (sym (none i) ∙ ap (λ n. begins_at bytes n i) (sym b) ∙ h.0)
 item_there bytes p e at (i ∷ is) (j ∷ js) one w a v b l none =
@@ -111,7 +111,7 @@ item_there bytes p e at (i ∷ is) (j ∷ js) one w a v b l none =
     let same : j ≡ i = one [] refl j i k.0 h.0 in
     let next : ℕ → Type 0 = λ n. (walk_from bytes (p + n) js ≡ true) × (end_of_items (p + n) js ≡ at) in
     let moved = subst next (ap (λ x. length (spelling x)) same) (k.1, b) in
-    item_there bytes (p + length (spelling i)) e at is js (one_behind bytes p i one h.0) h.1 a moved.0 moved.1 l none
+    item_there bytes (p + length (spelling i)) e at is js (one_after bytes p i one h.0) h.1 a moved.0 moved.1 l none
 
 pub same_nest : (bytes : List ℕ) → OneItem bytes → (f g : Forest) → IsDocument bytes f → IsDocument bytes g → g ≡ f
 same_nest bytes one f g d e = one_nest g f (one_walk bytes one (flat g) (flat f) e.walked d.walked)
@@ -126,12 +126,12 @@ no_faulty_name : (w : Faults) (bytes : List ℕ) (nest : Forest) (at : ℕ) → 
 no_faulty_name w bytes nest at one d e r =
     let h : at ∷ r.others ≡ [] = sym r.first ∙ ap (over_names w [] (first_place bytes)) (same_nest bytes one nest r.nest d r.document) ∙ e in cc
 
-no_longest : (front rest : List Item) (nest : Forest) → is_nest nest ≡ true → flat nest ≡ front ++ rest → DoesNotBegin front rest → ⊥
-no_longest front [] nest n e h = h nest n (e ∙ append-nil front)
-no_longest front (i ∷ is) nest n e h = h (record { nest = nest; rest = is; nests = n; split = e ∙ sym (append_assoc front (i ∷ []) is) })
+no_longest : (prefix rest : List Item) (nest : Forest) → is_nest nest ≡ true → flat nest ≡ prefix ++ rest → DoesNotBegin prefix rest → ⊥
+no_longest prefix [] nest n e h = h nest n (e ∙ append-nil prefix)
+no_longest prefix (i ∷ is) nest n e h = h (record { nest = nest; rest = is; nests = n; split = e ∙ sym (append_assoc prefix (i ∷ []) is) })
 
 no_nesting : (bytes : List ℕ) (nest : Forest) (at : ℕ) (deep : Bool) → OneItem bytes → IsDocument bytes nest → RefusesNesting bytes at deep → ⊥
-no_nesting bytes nest at deep one d r = no_longest r.front r.rest nest d.nests (one_walk bytes one (flat nest) (r.front ++ r.rest) d.walked r.walked) r.longest
+no_nesting bytes nest at deep one d r = no_longest r.prefix r.rest nest d.nests (one_walk bytes one (flat nest) (r.prefix ++ r.rest) d.walked r.walked) r.longest
 
 pub no_syntax : (bytes : List ℕ) (items : List Item) (at : ℕ) → OneItem bytes → walk_to_end bytes items ≡ true → RefusesSyntax bytes at → ⊥
 unfolding walk_to_end walk

@@ -1,4 +1,4 @@
--- Of the layers that refuse a document the first decides: documents with their one refusal. Where a later layer refuses too, that stands
+-- Of the layers that refuse a document the first decides: documents with their one refusal. Where a later layer refuses too, that is
 -- beside it.
 use Rattle.std.proofs.Common.{◌≡◌, ℕ, ◌<◌, List, [], ◌∷◌, ◌++◌, refl, ap, sym, ◌∙◌, arith, codes, bytes_eq, true}
 use Rattle.std.specs.Prelude.{IsUtf8}
@@ -60,7 +60,7 @@ entity_first : IsRefusal (codes "<a>&x;</b>") (faults.Entity 3)
 unfolding encode_utf8
 entity_first = record { refuses = unknown_in_text; first = not_before_references (codes "<a>&x;</b>") x_and_b one_at_each (codes "<a>&x;</b>", (refl, refl)) x_walks }
 
--- behind <a>&x; no end tag of another name
+-- after <a>&x; no end tag of another name
 abbrev x_leaf : Leaf
 x_leaf = Leaf.text (entity (codes "x") ∷ [])
 
@@ -95,7 +95,7 @@ begins_open = record { nest = elem (codes "a") (single x_leaf done) done; rest =
 other_end_at_six : Refuses (codes "<a>&x;</b>") (faults.Nesting 6)
 unfolding opened
 other_end_at_six = record {
-  front = a_opened ∷ leaf x_leaf ∷ [];
+  prefix = a_opened ∷ leaf x_leaf ∷ [];
   rest = end_tag (codes "b") [] ∷ [];
   walked = refl;
   begins = begins_open;

@@ -23,7 +23,7 @@ text_too_short : begins_at (codes "xy<") 0 (leaf (text_of (codes "x"))) ≡ fals
 unfolding opened
 text_too_short = refl
 
--- é is two bytes, so the < behind it stands at 2
+-- é is two bytes, so the < after it is at 2
 text_of_two_bytes : begins_at (0xC3 ∷ 0xA9 ∷ codes "<a/>") 2 (empty_tag (tag (codes "a"))) ≡ true
 unfolding opened
 text_of_two_bytes = refl
@@ -41,7 +41,7 @@ long_digits : meets (leaf (Leaf.text (decimal (codes "99999999999999999999999999
 unfolding opened
 long_digits = refl
 
--- ]]> stands in no text; in a value it may
+-- ]]> is in no text; in a value it may
 end_mark : meets (leaf (text_of (codes "]]>"))) ≡ false
 unfolding opened
 end_mark = refl
@@ -115,7 +115,7 @@ cdata_ends_first : meets (leaf (Leaf.cdata (codes "a]]>b"))) ≡ false
 unfolding opened
 cdata_ends_first = refl
 
--- Instructions: the white space behind the target is as long as it can be; xml in any letters is no target.
+-- Instructions: the white space after the target is as long as it can be; xml in any letters is no target.
 
 abbrev instruction : List ℕ → List ℕ → List ℕ → Item
 instruction target space content = leaf (Leaf.instruction (record { target = target; space = space; content = content }))
@@ -140,7 +140,7 @@ longer_target : begins_at (codes "<?xmlx?>") 0 (instruction (codes "xmlx") [] []
 unfolding opened
 longer_target = refl
 
--- The declaration: its three parts in this order, at the first place alone, which is 3 behind a byte order mark.
+-- The declaration: its three parts in this order, at the first place alone, which is 3 after a byte order mark.
 
 abbrev declaration : List ℕ → Option Attribute → Option Attribute → Item
 declaration version encoding standalone = leaf (Leaf.declaration (record { version = attr (codes "version") version; encoding = encoding; standalone = standalone; space = [] }))
@@ -152,9 +152,9 @@ declaration_begins : begins_at (codes "<?xml version=\"1.0\" encoding=\"UTF-8\" 
 unfolding opened
 declaration_begins = refl
 
-declaration_behind_mark : begins_at (0xEF ∷ 0xBB ∷ 0xBF ∷ codes "<?xml version=\"1.1\"?><a/>") 3 (declaration (codes "1.1") None None) ≡ true
+declaration_after_mark : begins_at (0xEF ∷ 0xBB ∷ 0xBF ∷ codes "<?xml version=\"1.1\"?><a/>") 3 (declaration (codes "1.1") None None) ≡ true
 unfolding opened
-declaration_behind_mark = refl
+declaration_after_mark = refl
 
 declaration_inside : begins_at (codes "<a><?xml version=\"1.0\"?></a>") 3 (declaration (codes "1.0") None None) ≡ false
 unfolding opened
@@ -239,10 +239,10 @@ subset_nodes : map line_of (all with_subset 0) ≡ line kinds.Root 0 29 ∷ line
 unfolding opened
 subset_nodes = refl
 
--- no nests: a text behind the root element, two root elements, a Doctype behind the root element, a text before it by a reference
-text_behind : is_nest (hollow (codes "a") (words (codes "x") done)) ≡ false
+-- no nests: a text after the root element, two root elements, a Doctype after the root element, a text before it by a reference
+text_after : is_nest (hollow (codes "a") (words (codes "x") done)) ≡ false
 unfolding opened
-text_behind = refl
+text_after = refl
 
 two_roots : is_nest (hollow (codes "a") (hollow (codes "b") done)) ≡ false
 unfolding opened

@@ -39,7 +39,7 @@ many_levels : length (map level_word (level 1 (all many 0))) ≡ 199
 unfolding opened
 many_levels = refl
 
--- behind the eleventh b, and behind the last but two
+-- after the eleventh b, and after the last but two
 many_following : length (axis_list axes.Following (c 0 ∷ c 10 ∷ []) (all many 0)) ≡ 376
 unfolding opened
 many_following = refl

@@ -3,11 +3,11 @@ use Rattle.std.proofs.Common.{◌≡◌, ℕ, ◌+◌, List, [], ◌∷◌, ◌+
 use Rattle.std.specs.List.{list_all}
 use Rattle.std.proofs.lemmas.Bool.{false≢true, and_parts}
 use Rattle.xml_model.specs.Chars.{begins, is_char, is_space, is_blank, is_white, is_name, is_name_start, is_name_char}
-use Rattle.xml_model.specs.Items.{Piece, literal, entity, decimal, hexadecimal, Attribute, Tag, Leaf, Item, leaf, start_tag, empty_tag, end_tag, written, before_value, quote_char, written_pieces, written_attributes, meets, meets_piece, meets_attribute, meets_tag, ends_well, may_stand, first_place, begins_at, spelling}
+use Rattle.xml_model.specs.Items.{Piece, literal, entity, decimal, hexadecimal, Attribute, Tag, Leaf, Item, leaf, start_tag, empty_tag, end_tag, written, before_value, quote_char, written_pieces, written_attributes, meets, meets_piece, meets_attribute, meets_tag, ends_well, may_begin_at, first_place, begins_at, spelling}
 use Rattle.xml_model.specs.Laws.{OneItem}
 use Rattle.xml_model.proofs.Bridge.{OneFrom, spelling_some}
 use Rattle.xml_model.proofs.ExampleParts.{opened, tag}
-use Rattle.xml_model.proofs.ExamplesStops.{is_ascii, ascii_front, no_front, row_of, literal_row, both, Row}
+use Rattle.xml_model.proofs.ExamplesStops.{is_ascii, ascii_prefix, no_prefix, row_of, literal_row, both, Row}
 
 abbrev pub doc : List ℕ
 doc = codes "<a>&x;</b>"
@@ -18,10 +18,10 @@ Shown text i = (meets i ≡ true) × (begins (written i) text ≡ true)
 shown : (p : ℕ) (i : Item) → is_ascii (drop p doc) ≡ true → begins_at doc p i ≡ true → Shown (drop p doc) i
 unfolding begins_at spelling
 shown p i a h =
-    let x = and_parts (meets i && begins (spelling i) (drop p doc) && ends_well i (drop (p + length (spelling i)) doc)) (may_stand i (first_place doc) p) h in
+    let x = and_parts (meets i && begins (spelling i) (drop p doc) && ends_well i (drop (p + length (spelling i)) doc)) (may_begin_at i (first_place doc) p) h in
     let y = and_parts (meets i && begins (spelling i) (drop p doc)) (ends_well i (drop (p + length (spelling i)) doc)) x.0 in
     let z = and_parts (meets i) (begins (spelling i) (drop p doc)) y.0 in
-    (z.0, (ascii_front (written i) (drop p doc) a z.1).1)
+    (z.0, (ascii_prefix (written i) (drop p doc) a z.1).1)
 
 no_char : (test : ℕ → Bool) (c d : ℕ) → test d ≡ false → (c == d) ≡ true → test c ≡ true → ⊥
 no_char test c d f e h = false≢true (sym f ∙ ap test (sym (eqb-true c d e)) ∙ h)
@@ -40,7 +40,7 @@ unfolding opened
 no_slash [] others space last text n h = false≢true n
 no_slash (c ∷ name) others space last text n h = no_char is_name_start c 47 refl (and_parts (c == 47) _ h).0 (and_parts (is_name_start c) _ n).0
 
--- behind a name stands > alone: no attributes and no white space
+-- after a name is > alone: no attributes and no white space
 abbrev Alone : List Attribute → List ℕ → Type 0
 Alone others space = (others ≡ []) × (space ≡ [])
 
@@ -185,9 +185,9 @@ at_6 (end_tag name space) t = let x = and_parts (is_name name) (is_blank space) 
 none_at_10 : (i : Item) → begins_at doc 10 i ≡ true → ⊥
 unfolding begins_at
 none_at_10 i h =
-    let x = and_parts (meets i && begins (spelling i) [] && ends_well i (drop (10 + length (spelling i)) doc)) (may_stand i (first_place doc) 10) h in
+    let x = and_parts (meets i && begins (spelling i) [] && ends_well i (drop (10 + length (spelling i)) doc)) (may_begin_at i (first_place doc) 10) h in
     let y = and_parts (meets i && begins (spelling i) []) _ x.0 in
-    no_front (spelling i) (spelling_some doc 10 i h) (and_parts (meets i) (begins (spelling i) []) y.0).1
+    no_prefix (spelling i) (spelling_some doc 10 i h) (and_parts (meets i) (begins (spelling i) []) y.0).1
 
 one_from_10 : OneFrom doc 10
 one_from_10 [] w i j h k = absurd (none_at_10 i h)

@@ -3,7 +3,7 @@ use Rattle.std.proofs.Common.{◌≡◌, ℕ, [], ◌∷◌, map, refl, codes, t
 use Rattle.xml_model.specs.declared.Field.TheVariants as fields
 use Rattle.xml_model.specs.Items.{Leaf, walk_to_end}
 use Rattle.xml_model.specs.Nest.{Forest, done, single, empty, flat, is_nest}
-use Rattle.xml_model.specs.Records.{Token, records, word}
+use Rattle.xml_model.specs.Records.{Record, records, word}
 use Rattle.xml_model.specs.Accepted.{first_wide, too_wide}
 use Rattle.xml_model.proofs.ExampleParts.{opened, elem, hollow, words, tag_with, attr}
 
@@ -77,7 +77,7 @@ unfolding opened
 prefix_too_wide = refl
 
 -- a token of 1,048,575 bytes fits, and one of a byte more does not
-abbrev text_record : ℕ → Token
+abbrev text_record : ℕ → Record
 text_record len = record { token = 5; depth = 0; prefix = 0; len = len; offset = 3 }
 
 token_fits : too_wide (text_record 1_048_575) ≡ None

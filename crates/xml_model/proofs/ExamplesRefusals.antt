@@ -31,9 +31,9 @@ utf8_at_two = record {
   longest = λ n l m u. let three : n ≡ 3 = omega (arith, l, m) in false≢true (is_utf8-from_IsUtf8 not_utf8 (subst (λ k. IsUtf8 (take k not_utf8)) three u));
 }
 
--- 2. stands in ExamplesSyntax
+-- 2. is in ExamplesSyntax
 
--- 3. the reference in <a>&x;</b> stands at 3, and that in <a b="&x;"/> at 6
+-- 3. the reference in <a>&x;</b> is at 3, and that in <a b="&x;"/> at 6
 
 pub unknown_in_text : Refuses (codes "<a>&x;</b>") (faults.Entity 3)
 unfolding opened
@@ -48,7 +48,7 @@ unknown_in_value = record {
   first = refl;
 }
 
--- 4. UTF-16 in <?xml version="1.0" encoding="UTF-16"?><a/> stands at 30
+-- 4. UTF-16 in <?xml version="1.0" encoding="UTF-16"?><a/> is at 30
 
 other_encoding : Refuses (codes "<?xml version=\"1.0\" encoding=\"UTF-16\"?><a/>") (faults.Encoding 30)
 unfolding opened
@@ -70,7 +70,7 @@ nothing_nests (element t inside space f) h e = cc
 
 empty_file : Refuses [] (faults.Nesting 0)
 unfolding opened
-empty_file = record { front = []; rest = []; walked = refl; begins = record { nest = lone; rest = flat lone; nests = refl; split = refl }; longest = nothing_nests; place = refl; deep = refl }
+empty_file = record { prefix = []; rest = []; walked = refl; begins = record { nest = lone; rest = flat lone; nests = refl; split = refl }; longest = nothing_nests; place = refl; deep = refl }
 
 some_left : (xs : List Item) (y : Item) (ys : List Item) → xs ++ y ∷ ys ≡ [] → ⊥
 some_left [] y ys e = cc
@@ -91,9 +91,9 @@ one_start (element t inside space f) h e = some_left (flat inside) (end_tag t.na
 
 not_ended : Refuses (codes "<a>") (faults.Nesting 3)
 unfolding opened
-not_ended = record { front = a_opened ∷ []; rest = []; walked = refl; begins = begins_open; longest = one_start; place = refl; deep = refl }
+not_ended = record { prefix = a_opened ∷ []; rest = []; walked = refl; begins = begins_open; longest = one_start; place = refl; deep = refl }
 
--- behind <a> no end tag of another name
+-- after <a> no end tag of another name
 other_end : (f : Forest) (rest : List Item) → flat f ≡ a_opened ∷ end_tag (codes "b") [] ∷ rest → ⊥
 unfolding flat
 other_end done rest e = cc
@@ -115,9 +115,9 @@ other_end (element t inside space f) rest e =
 
 wrong_end : Refuses (codes "<a></b>") (faults.Nesting 3)
 unfolding opened
-wrong_end = record { front = a_opened ∷ []; rest = end_tag (codes "b") [] ∷ []; walked = refl; begins = begins_open; longest = λ b. other_end b.nest b.rest b.split; place = refl; deep = refl }
+wrong_end = record { prefix = a_opened ∷ []; rest = end_tag (codes "b") [] ∷ []; walked = refl; begins = begins_open; longest = λ b. other_end b.nest b.rest b.split; place = refl; deep = refl }
 
--- behind the root element no text but S, and no other element
+-- after the root element no text but S, and no other element
 abbrev a_alone : Item
 a_alone = empty_tag (tag (codes "a"))
 
@@ -149,10 +149,10 @@ text_is_none (Leaf.instruction i) e = absurd cc
 text_is_none (Leaf.declaration d) e = refl
 text_is_none (Leaf.doctype d) e = refl
 
-text_behind : Refuses (codes "<a/>x") (faults.Nesting 4)
+text_after : Refuses (codes "<a/>x") (faults.Nesting 4)
 unfolding opened
-text_behind = record {
-  front = a_alone ∷ [];
+text_after = record {
+  prefix = a_alone ∷ [];
   rest = leaf (text_of (codes "x")) ∷ [];
   walked = refl;
   begins = begins_alone;
@@ -167,7 +167,7 @@ tag_is_none x e = absurd cc
 two_roots : Refuses (codes "<a/><b/>") (faults.Nesting 4)
 unfolding opened
 two_roots = record {
-  front = a_alone ∷ [];
+  prefix = a_alone ∷ [];
   rest = empty_tag (tag (codes "b")) ∷ [];
   walked = refl;
   begins = begins_alone;
@@ -176,7 +176,7 @@ two_roots = record {
   deep = refl;
 }
 
--- 255 elements may stand in one another; the 256th stands at 765
+-- 255 elements may be in one another; the 256th is at 765
 
 abbrev nested : ℕ → Forest
 nested zero = done
@@ -217,7 +217,7 @@ deep_bytes = flat_map (λ i. written i) (starts 256 ++ ends 256)
 depth_at_765 : Refuses deep_bytes (faults.Depth 765)
 unfolding opened deep_bytes
 depth_at_765 = record {
-  front = starts 255;
+  prefix = starts 255;
   rest = starts 1 ++ ends 256;
   walked = refl;
   begins = record { nest = nested 255; rest = ends 255; nests = refl; split = refl };
@@ -226,13 +226,13 @@ depth_at_765 = record {
   deep = refl;
 }
 
--- 6. a name of 2,048 bytes stands at 1
+-- 6. a name of 2,048 bytes is at 1
 
 name_too_wide : Refuses (codes "<" ++ replicate 2_048 97 ++ codes "/>") (faults.Width fields.Name 1)
 unfolding opened
 name_too_wide = record { nest = hollow (replicate 2_048 97) done; document = record { nests = refl; walked = refl }; first = refl }
 
--- 7. the second b in <a b="1" b="2"/> stands at 9
+-- 7. the second b in <a b="1" b="2"/> is at 9
 
 abbrev pub with_attributes : List ℕ → List Attribute → Forest
 with_attributes name others = empty (tag_with name others) done
@@ -241,7 +241,7 @@ repeated_name : Refuses (codes "<a b=\"1\" b=\"2\"/>") (faults.Twice 9)
 unfolding opened
 repeated_name = record { nest = with_attributes (codes "a") (attr (codes "b") (codes "1") ∷ attr (codes "b") (codes "2") ∷ []); document = record { nests = refl; walked = refl }; others = []; first = refl }
 
--- 8. in <p:a/> the name stands at 1; of <a xmlns:p="u" xmlns:q="u" p:x="1" q:x="2"/> the last attribute, at 35, is p:x once more
+-- 8. in <p:a/> the name is at 1; of <a xmlns:p="u" xmlns:q="u" p:x="1" q:x="2"/> the last attribute, at 35, is p:x once more
 
 unbound_prefix : Refuses (codes "<p:a/>") (faults.Namespace 1)
 unfolding opened
@@ -315,7 +315,7 @@ declared_badly : offending (with_attributes (codes "a") (attr (codes "xmlns:") (
 unfolding opened
 declared_badly = refl
 
--- a prefix that an element declares does not reach the one behind it
+-- a prefix that an element declares does not reach the one after it
 prefix_of_a_sibling : offending (elem (codes "a") (empty (tag_with (codes "p:b") (attr (codes "xmlns:p") (codes "u") ∷ [])) (hollow (codes "p:c") done)) done) ≡ 22 ∷ []
 unfolding opened
 prefix_of_a_sibling = refl

@@ -1,5 +1,5 @@
--- Three documents in which the items stop behind <a>: a reference without its ;, a text with ]]>, and an XML declaration that does not
--- stand first. Each is refused with Syntax at 3, where no item begins.
+-- Three documents in which the items stop after <a>: a reference without its ;, a text with ]]>, and an XML declaration that does not
+-- are first. Each is refused with Syntax at 3, where no item begins.
 use Rattle.std.proofs.Common.{◌≡◌, ℕ, ◌+◌, ◌<◌, ◌≤◌, List, [], ◌∷◌, ◌++◌, refl, ap, ap₂, sym, ◌∙◌, arith, subst, length, length-append, drop, map, codes, bytes_eq, get_or, Bool, true, false, not, ◌&&◌, ◌||◌, ◌==◌, ⊎_elim, nat_lt, ltb-true, eqb-true, encode_utf8_all}
 use Rattle.std.specs.Char.{encode_utf8, to_ascii_lowercase}
 use Rattle.std.specs.List.{list_all}
@@ -7,11 +7,11 @@ use Rattle.std.proofs.lemmas.Bool.{false≢true, and_parts, cases_lt}
 use Rattle.std.proofs.lemmas.Str.{length-encode, len_utf8_bounds, encode_ascii, char_from_byte}
 use Rattle.xml_model.specs.declared.DocFault.TheVariants as faults
 use Rattle.xml_model.specs.Chars.{begins, lacks, is_char, is_space, is_blank, is_name, is_name_start, is_name_char}
-use Rattle.xml_model.specs.Items.{Piece, literal, entity, decimal, hexadecimal, Tag, Instruction, Leaf, Item, leaf, start_tag, empty_tag, end_tag, written, written_pieces, written_attributes, meets, meets_piece, meets_tag, meets_instruction, is_nil, ends_well, may_stand, first_place, begins_at, spelling}
+use Rattle.xml_model.specs.Items.{Piece, literal, entity, decimal, hexadecimal, Tag, Instruction, Leaf, Item, leaf, start_tag, empty_tag, end_tag, written, written_pieces, written_attributes, meets, meets_piece, meets_tag, meets_instruction, is_nil, ends_well, may_begin_at, first_place, begins_at, spelling}
 use Rattle.xml_model.specs.Accepted.{Refuses}
 use Rattle.xml_model.proofs.ExampleParts.{opened, tag}
 
--- A text whose bytes are the front of ASCII bytes is the front of their characters.
+-- A text whose bytes are the start of ASCII bytes is the start of their characters.
 
 abbrev pub is_ascii : List ℕ → Bool
 is_ascii bs = list_all (λ b. nat_lt b 128) bs
@@ -20,16 +20,16 @@ first_byte : (xs : List ℕ) (d : ℕ) (text : List ℕ) → 0 < length xs → b
 first_byte [] d text l h = absurd (omega arith)
 first_byte (x ∷ xs) d text l h = eqb-true x d (and_parts (x == d) _ h).0
 
-pub no_front : (xs : List ℕ) → 0 < length xs → begins xs [] ≡ true → ⊥
-no_front [] l h = absurd (omega arith)
-no_front (x ∷ xs) l h = false≢true h
+pub no_prefix : (xs : List ℕ) → 0 < length xs → begins xs [] ≡ true → ⊥
+no_prefix [] l h = absurd (omega arith)
+no_prefix (x ∷ xs) l h = false≢true h
 
-abbrev pub IsFront : List ℕ → List ℕ → Type 0
-IsFront cs text = (encode_utf8_all cs ≡ cs) × (begins cs text ≡ true)
+abbrev pub IsPrefix : List ℕ → List ℕ → Type 0
+IsPrefix cs text = (encode_utf8_all cs ≡ cs) × (begins cs text ≡ true)
 
 -- one character below 128 before others
-one_more : (c : ℕ) (cs text : List ℕ) → c < 128 → is_ascii text ≡ true → ((rest : List ℕ) → is_ascii rest ≡ true → begins (encode_utf8_all cs) rest ≡ true → IsFront cs rest) →
-    begins (c ∷ encode_utf8_all cs) text ≡ true → IsFront (c ∷ cs) text
+one_more : (c : ℕ) (cs text : List ℕ) → c < 128 → is_ascii text ≡ true → ((rest : List ℕ) → is_ascii rest ≡ true → begins (encode_utf8_all cs) rest ≡ true → IsPrefix cs rest) →
+    begins (c ∷ encode_utf8_all cs) text ≡ true → IsPrefix (c ∷ cs) text
 one_more c cs [] l a more h = absurd (false≢true h)
 one_more c cs (d ∷ text) l a more h =
     let p = and_parts (c == d) (begins (encode_utf8_all cs) text) h in
@@ -44,44 +44,44 @@ none_above c cs text l a h = by text a h
     some = omega (arith, length-append (encode_utf8 c) (encode_utf8_all cs), length-encode c, (len_utf8_bounds c).0)
 
     by : (text : List ℕ) → is_ascii text ≡ true → begins (encode_utf8 c ++ encode_utf8_all cs) text ≡ true → ⊥
-    by [] a h = no_front (encode_utf8 c ++ encode_utf8_all cs) some h
+    by [] a h = no_prefix (encode_utf8 c ++ encode_utf8_all cs) some h
     by (d ∷ text) a h =
         let first = first_byte (encode_utf8 c ++ encode_utf8_all cs) d text some h in
         let less : d < 128 = ltb-true d 128 (and_parts (nat_lt d 128) _ a).0 in
         let same = char_from_byte (encode_utf8 c ++ encode_utf8_all cs) (encode_utf8_all cs) c refl (omega (arith, first, less)) some in
         absurd (omega (arith, first, less, same, l))
 
-pub ascii_front : (cs text : List ℕ) → is_ascii text ≡ true → begins (encode_utf8_all cs) text ≡ true → IsFront cs text
-ascii_front [] text a h = (refl, refl)
-ascii_front (c ∷ cs) text a h =
-    ⊎_elim (λ l. one_more c cs text l a (λ rest. ascii_front cs rest) (subst (λ x. begins (x ++ encode_utf8_all cs) text ≡ true) (encode_ascii c l) h)) (λ l. absurd (none_above c cs text l a h)) (cases_lt c 128)
+pub ascii_prefix : (cs text : List ℕ) → is_ascii text ≡ true → begins (encode_utf8_all cs) text ≡ true → IsPrefix cs text
+ascii_prefix [] text a h = (refl, refl)
+ascii_prefix (c ∷ cs) text a h =
+    ⊎_elim (λ l. one_more c cs text l a (λ rest. ascii_prefix cs rest) (subst (λ x. begins (x ++ encode_utf8_all cs) text ≡ true) (encode_ascii c l) h)) (λ l. absurd (none_above c cs text l a h)) (cases_lt c 128)
 
--- behind <a>
-abbrev behind_a : List ℕ → List ℕ
-behind_a text = 60 ∷ 97 ∷ 62 ∷ text
+-- after <a>
+abbrev after_a : List ℕ → List ℕ
+after_a text = 60 ∷ 97 ∷ 62 ∷ text
 
--- what an item that begins there tells
-record Told (text : List ℕ) (i : Item) : Type 0 where
+-- what an item that begins there says
+record Known (text : List ℕ) (i : Item) : Type 0 where
   row : meets i ≡ true
-  front : begins (written i) text ≡ true
-  ends : ends_well i (drop (3 + length (written i)) (behind_a text)) ≡ true
-  stands : may_stand i 0 3 ≡ true
+  prefix : begins (written i) text ≡ true
+  ends : ends_well i (drop (3 + length (written i)) (after_a text)) ≡ true
+  holds : may_begin_at i 0 3 ≡ true
 
-told : (text : List ℕ) (i : Item) → is_ascii text ≡ true → begins_at (behind_a text) 3 i ≡ true → Told text i
+known : (text : List ℕ) (i : Item) → is_ascii text ≡ true → begins_at (after_a text) 3 i ≡ true → Known text i
 unfolding begins_at spelling first_place
-told text i a h =
-    let p = and_parts (meets i && begins (spelling i) text && ends_well i (drop (3 + length (spelling i)) (behind_a text))) (may_stand i 0 3) h in
-    let q = and_parts (meets i && begins (spelling i) text) (ends_well i (drop (3 + length (spelling i)) (behind_a text))) p.0 in
+known text i a h =
+    let p = and_parts (meets i && begins (spelling i) text && ends_well i (drop (3 + length (spelling i)) (after_a text))) (may_begin_at i 0 3) h in
+    let q = and_parts (meets i && begins (spelling i) text) (ends_well i (drop (3 + length (spelling i)) (after_a text))) p.0 in
     let r = and_parts (meets i) (begins (spelling i) text) q.0 in
-    let f = ascii_front (written i) text a r.1 in
-    record { row = r.0; front = f.1; ends = subst (λ n. ends_well i (drop (3 + length n) (behind_a text)) ≡ true) f.0 q.1; stands = p.1 }
+    let f = ascii_prefix (written i) text a r.1 in
+    record { row = r.0; prefix = f.1; ends = subst (λ n. ends_well i (drop (3 + length n) (after_a text)) ≡ true) f.0 q.1; holds = p.1 }
 
 -- so no item begins there whose telling is refuted
-none_there : (text : List ℕ) → is_ascii text ≡ true → ((i : Item) → Told text i → ⊥) → (i : Item) → begins_at (behind_a text) 3 i ≡ false
-none_there text a none i = by (begins_at (behind_a text) 3 i) refl
+none_there : (text : List ℕ) → is_ascii text ≡ true → ((i : Item) → Known text i → ⊥) → (i : Item) → begins_at (after_a text) 3 i ≡ false
+none_there text a none i = by (begins_at (after_a text) 3 i) refl
   where
-    by : (b : Bool) → begins_at (behind_a text) 3 i ≡ b → b ≡ false
-    by true h = absurd (none i (told text i a h))
+    by : (b : Bool) → begins_at (after_a text) 3 i ≡ b → b ≡ false
+    by true h = absurd (none i (known text i a h))
     by false h = refl
 
 -- what a text's row says
@@ -125,23 +125,23 @@ no_name (c ∷ d ∷ e ∷ name) rest n h =
     let l = and_parts (is_name_char e) _ m.1 in
     false≢true (subst (λ x. is_name_char x ≡ true) k l.0)
 
-amp_text : (ps : List Piece) → Told amp (leaf (Leaf.text ps)) → Row ps → ⊥
+amp_text : (ps : List Piece) → Known amp (leaf (Leaf.text ps)) → Row ps → ⊥
 amp_text [] t r = false≢true r.some
-amp_text (literal c ∷ ps) t r = both (c == 38) (and_parts (c == 38) _ t.front).0 (literal_row c ps r).1
-amp_text (entity name ∷ ps) t r = no_name name (written_pieces ps) (and_parts (is_name name) _ r.pieces).0 t.front
-amp_text (decimal digits ∷ ps) t r = false≢true t.front
-amp_text (hexadecimal digits ∷ ps) t r = false≢true t.front
+amp_text (literal c ∷ ps) t r = both (c == 38) (and_parts (c == 38) _ t.prefix).0 (literal_row c ps r).1
+amp_text (entity name ∷ ps) t r = no_name name (written_pieces ps) (and_parts (is_name name) _ r.pieces).0 t.prefix
+amp_text (decimal digits ∷ ps) t r = false≢true t.prefix
+amp_text (hexadecimal digits ∷ ps) t r = false≢true t.prefix
 
-amp_item : (i : Item) → Told amp i → ⊥
+amp_item : (i : Item) → Known amp i → ⊥
 amp_item (leaf (Leaf.text ps)) t = amp_text ps t (row_of ps t.row)
-amp_item (leaf (Leaf.cdata cs)) t = false≢true t.front
-amp_item (leaf (Leaf.comment cs)) t = false≢true t.front
-amp_item (leaf (Leaf.instruction i)) t = false≢true t.front
-amp_item (leaf (Leaf.declaration d)) t = false≢true t.front
-amp_item (leaf (Leaf.doctype d)) t = false≢true t.front
-amp_item (start_tag u) t = false≢true t.front
-amp_item (empty_tag u) t = false≢true t.front
-amp_item (end_tag name space) t = false≢true t.front
+amp_item (leaf (Leaf.cdata cs)) t = false≢true t.prefix
+amp_item (leaf (Leaf.comment cs)) t = false≢true t.prefix
+amp_item (leaf (Leaf.instruction i)) t = false≢true t.prefix
+amp_item (leaf (Leaf.declaration d)) t = false≢true t.prefix
+amp_item (leaf (Leaf.doctype d)) t = false≢true t.prefix
+amp_item (start_tag u) t = false≢true t.prefix
+amp_item (empty_tag u) t = false≢true t.prefix
+amp_item (end_tag name space) t = false≢true t.prefix
 
 pub reference_not_ended : Refuses (codes "<a>&lt</a>") (faults.Syntax 3)
 unfolding opened
@@ -152,7 +152,7 @@ reference_not_ended = record { items = start_tag (tag (codes "a")) ∷ []; walke
 abbrev close : List ℕ
 close = codes "]]></a>"
 
-close_text : (ps : List Piece) (cs : List ℕ) → not (is_nil cs) ≡ true → lacks (codes "]]>") cs ≡ true → begins cs close ≡ true → ends_well (leaf (Leaf.text ps)) (drop (3 + length cs) (behind_a close)) ≡ true → ⊥
+close_text : (ps : List Piece) (cs : List ℕ) → not (is_nil cs) ≡ true → lacks (codes "]]>") cs ≡ true → begins cs close ≡ true → ends_well (leaf (Leaf.text ps)) (drop (3 + length cs) (after_a close)) ≡ true → ⊥
 close_text ps [] s l h e = false≢true s
 close_text ps (a ∷ []) s l h e = false≢true e
 close_text ps (a ∷ b ∷ []) s l h e = false≢true e
@@ -166,22 +166,22 @@ close_text ps (a ∷ b ∷ c ∷ cs) s l h e =
     let same : a ∷ b ∷ c ∷ cs ≡ 93 ∷ 93 ∷ 62 ∷ cs = cc in
     false≢true (subst (λ xs. lacks (codes "]]>") xs ≡ true) same l)
 
-close_item : (i : Item) → Told close i → ⊥
-close_item (leaf (Leaf.text ps)) t = let r = row_of ps t.row in close_text ps (written_pieces ps) r.some r.open_end t.front t.ends
-close_item (leaf (Leaf.cdata cs)) t = false≢true t.front
-close_item (leaf (Leaf.comment cs)) t = false≢true t.front
-close_item (leaf (Leaf.instruction i)) t = false≢true t.front
-close_item (leaf (Leaf.declaration d)) t = false≢true t.front
-close_item (leaf (Leaf.doctype d)) t = false≢true t.front
-close_item (start_tag u) t = false≢true t.front
-close_item (empty_tag u) t = false≢true t.front
-close_item (end_tag name space) t = false≢true t.front
+close_item : (i : Item) → Known close i → ⊥
+close_item (leaf (Leaf.text ps)) t = let r = row_of ps t.row in close_text ps (written_pieces ps) r.some r.open_end t.prefix t.ends
+close_item (leaf (Leaf.cdata cs)) t = false≢true t.prefix
+close_item (leaf (Leaf.comment cs)) t = false≢true t.prefix
+close_item (leaf (Leaf.instruction i)) t = false≢true t.prefix
+close_item (leaf (Leaf.declaration d)) t = false≢true t.prefix
+close_item (leaf (Leaf.doctype d)) t = false≢true t.prefix
+close_item (start_tag u) t = false≢true t.prefix
+close_item (empty_tag u) t = false≢true t.prefix
+close_item (end_tag name space) t = false≢true t.prefix
 
 closed_in_text : Refuses (codes "<a>]]></a>") (faults.Syntax 3)
 unfolding opened
 closed_in_text = record { items = start_tag (tag (codes "a")) ∷ []; walked = refl; ends = refl; within = omega arith; none = none_there close refl close_item }
 
--- an XML declaration that does not stand first, and is no instruction
+-- an XML declaration that does not be first, and is no instruction
 
 abbrev late : List ℕ
 late = codes "<?xml version=\"1.0\"?></a>"
@@ -193,7 +193,7 @@ no_tag (c ∷ name) others space last n h =
     let k : c ≡ 63 = eqb-true c 63 (and_parts (c == 63) _ h).0 in
     false≢true (subst (λ x. is_name_start x ≡ true) k (and_parts (is_name_start c) _ n).0)
 
--- behind the target stands neither white space nor ?>
+-- after the target is neither white space nor ?>
 no_gap : (space content : List ℕ) (d : ℕ) (text : List ℕ) → is_space d ≡ false → (63 == d) ≡ false → is_blank space ≡ true → (not (is_nil space) || is_nil content) ≡ true → begins (space ++ content ++ codes "?>") (d ∷ text) ≡ true → ⊥
 unfolding is_blank
 no_gap [] [] d text s q b n h = false≢true (sym q ∙ (and_parts (63 == d) _ h).0)
@@ -236,27 +236,27 @@ late_instruction i m h =
     let f = and_parts (is_name i.target) (not (bytes_eq (map to_ascii_lowercase i.target) (codes "xml"))) e.0 in
     late_target i.target i.space i.content f.0 f.1 e.1 a.1 h
 
-late_text : (ps : List Piece) → Told late (leaf (Leaf.text ps)) → Row ps → ⊥
+late_text : (ps : List Piece) → Known late (leaf (Leaf.text ps)) → Row ps → ⊥
 late_text [] t r = false≢true r.some
-late_text (literal c ∷ ps) t r = both (c == 60) (and_parts (c == 60) _ t.front).0 (literal_row c ps r).0
-late_text (entity name ∷ ps) t r = false≢true t.front
-late_text (decimal digits ∷ ps) t r = false≢true t.front
-late_text (hexadecimal digits ∷ ps) t r = false≢true t.front
+late_text (literal c ∷ ps) t r = both (c == 60) (and_parts (c == 60) _ t.prefix).0 (literal_row c ps r).0
+late_text (entity name ∷ ps) t r = false≢true t.prefix
+late_text (decimal digits ∷ ps) t r = false≢true t.prefix
+late_text (hexadecimal digits ∷ ps) t r = false≢true t.prefix
 
 named_tag : (t : Tag) → meets_tag t ≡ true → is_name t.name ≡ true
 named_tag t m = (and_parts (is_name t.name) _ (and_parts _ _ m).0).0
 
-late_item : (i : Item) → Told late i → ⊥
+late_item : (i : Item) → Known late i → ⊥
 unfolding meets
 late_item (leaf (Leaf.text ps)) t = late_text ps t (row_of ps t.row)
-late_item (leaf (Leaf.cdata cs)) t = false≢true t.front
-late_item (leaf (Leaf.comment cs)) t = false≢true t.front
-late_item (leaf (Leaf.instruction i)) t = late_instruction i t.row t.front
-late_item (leaf (Leaf.declaration d)) t = false≢true t.stands
-late_item (leaf (Leaf.doctype d)) t = false≢true t.front
-late_item (start_tag u) t = no_tag u.name (written_attributes u.attributes) u.space (codes ">") (named_tag u t.row) t.front
-late_item (empty_tag u) t = no_tag u.name (written_attributes u.attributes) u.space (codes "/>") (named_tag u t.row) t.front
-late_item (end_tag name space) t = false≢true t.front
+late_item (leaf (Leaf.cdata cs)) t = false≢true t.prefix
+late_item (leaf (Leaf.comment cs)) t = false≢true t.prefix
+late_item (leaf (Leaf.instruction i)) t = late_instruction i t.row t.prefix
+late_item (leaf (Leaf.declaration d)) t = false≢true t.holds
+late_item (leaf (Leaf.doctype d)) t = false≢true t.prefix
+late_item (start_tag u) t = no_tag u.name (written_attributes u.attributes) u.space (codes ">") (named_tag u t.row) t.prefix
+late_item (empty_tag u) t = no_tag u.name (written_attributes u.attributes) u.space (codes "/>") (named_tag u t.row) t.prefix
+late_item (end_tag name space) t = false≢true t.prefix
 
 declaration_late : Refuses (codes "<a><?xml version=\"1.0\"?></a>") (faults.Syntax 3)
 unfolding opened

@@ -1,4 +1,4 @@
--- A document in which the items stop before the end: behind <a/> in <a/>< no item begins.
+-- A document in which the items stop before the end: after <a/> in <a/>< no item begins.
 use Rattle.std.proofs.Common.{◌≡◌, ℕ, ◌+◌, ◌<◌, ◌≤◌, List, [], ◌∷◌, ◌++◌, refl, ap, sym, ◌∙◌, arith, subst, length, length-append, drop, codes, Bool, true, false, not, ◌&&◌, ◌==◌, ⊎_elim, cond, nat_lt, le-ltb, encode_utf8_all}
 use Rattle.std.specs.Char.{encode_utf8, len_utf8}
 use Rattle.std.specs.List.{list_all}
@@ -6,15 +6,15 @@ use Rattle.std.proofs.lemmas.Bool.{false≢true, and_parts, cases_lt}
 use Rattle.std.proofs.lemmas.Str.{length-le-encodes, length-encode, encode_ascii}
 use Rattle.xml_model.specs.declared.DocFault.TheVariants as faults
 use Rattle.xml_model.specs.Chars.{begins, lacks, is_char}
-use Rattle.xml_model.specs.Items.{Piece, literal, entity, decimal, hexadecimal, Leaf, Item, leaf, start_tag, empty_tag, end_tag, written, written_pieces, written_tag, meets, meets_piece, ends_well, may_stand, spelling}
+use Rattle.xml_model.specs.Items.{Piece, literal, entity, decimal, hexadecimal, Leaf, Item, leaf, start_tag, empty_tag, end_tag, written, written_pieces, written_tag, meets, meets_piece, ends_well, may_begin_at, spelling}
 use Rattle.xml_model.specs.Accepted.{Refuses}
 use Rattle.xml_model.proofs.Siblings.{and_no}
 use Rattle.xml_model.proofs.ExampleParts.{opened, tag}
 
-too_long : (front text : List ℕ) → length text < length front → begins front text ≡ false
+too_long : (prefix text : List ℕ) → length text < length prefix → begins prefix text ≡ false
 too_long [] text h = absurd (omega arith)
-too_long (c ∷ front) [] h = refl
-too_long (c ∷ front) (d ∷ text) h = ap (λ b. c == d && b) (too_long front text (omega (arith, h))) ∙ and_no (c == d)
+too_long (c ∷ prefix) [] h = refl
+too_long (c ∷ prefix) (d ∷ text) h = ap (λ b. c == d && b) (too_long prefix text (omega (arith, h))) ∙ and_no (c == d)
 
 abbrev alone : Item → Bool
 alone i = meets i && begins (spelling i) (60 ∷ [])
@@ -88,5 +88,5 @@ syntax_at_four = record {
   walked = refl;
   ends = refl;
   within = omega arith;
-  none = λ i. ap (λ b. b && ends_well i (drop (4 + length (spelling i)) (codes "<a/><")) && may_stand i 0 4) (no_item_alone i);
+  none = λ i. ap (λ b. b && ends_well i (drop (4 + length (spelling i)) (codes "<a/><")) && may_begin_at i 0 4) (no_item_alone i);
 }

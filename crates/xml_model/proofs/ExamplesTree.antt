@@ -6,7 +6,7 @@ use Rattle.xml_model.specs.declared.Axis.{Axis}
 use Rattle.xml_model.specs.declared.Axis.TheVariants as axes
 use Rattle.xml_model.specs.Items.{Leaf, walk_to_end}
 use Rattle.xml_model.specs.Nest.{Forest, done, single, element, flat, is_nest}
-use Rattle.xml_model.specs.Tree.{Path, Entry, kind_of, all, axis_list, at_place, at_path, before}
+use Rattle.xml_model.specs.Tree.{Path, Entry, kind_of, all, axis_list, at_index, at_path, before}
 use Rattle.xml_model.specs.Names.{Test, NameTest, passes}
 use Rattle.xml_model.proofs.ExampleParts.{opened, elem, hollow, words, tag_with, attr, c, a, Line, line, line_of}
 use Rattle.xml_model.proofs.ExamplesRecords.{two, no_byte, lone}
@@ -15,16 +15,16 @@ use Rattle.xml_model.proofs.ExamplesRecords.{two, no_byte, lone}
 record Row : Type 0 where
   path : Path
   kind : Kind
-  place : ℕ
+  index : ℕ
   past : ℕ
   start : ℕ
   stop : ℕ
 
 abbrev row : Path → Kind → ℕ → ℕ → ℕ → ℕ → Row
-row path kind place past start stop = record { path = path; kind = kind; place = place; past = past; start = start; stop = stop }
+row path kind index past start stop = record { path = path; kind = kind; index = index; past = past; start = start; stop = stop }
 
 abbrev row_of : Entry → Row
-row_of e = row e.path (kind_of e.what) e.place e.past e.start e.stop
+row_of e = row e.path (kind_of e.what) e.index e.past e.start e.stop
 
 -- the nodes on an axis of a path, in axis order
 abbrev on : Axis → Path → Forest → List Line
@@ -46,7 +46,7 @@ unfolding opened
 two_holders = refl
 
 -- the node at a place and at a path; record 3 of the section alone is none
-node_at_four : option_map line_of (at_place 4 (all two 0)) ≡ Some (line kinds.Element 11 8)
+node_at_four : option_map line_of (at_index 4 (all two 0)) ≡ Some (line kinds.Element 11 8)
 unfolding opened
 node_at_four = refl
 
@@ -54,7 +54,7 @@ node_at_path : option_map line_of (at_path (c 0 ∷ c 1 ∷ []) (all two 0)) ≡
 unfolding opened
 node_at_path = refl
 
-no_node : at_place 2 (all no_byte 0) ≡ None
+no_node : at_index 2 (all no_byte 0) ≡ None
 unfolding opened
 no_node = refl
 
@@ -62,7 +62,7 @@ no_byte_nodes : map line_of (all no_byte 0) ≡ line kinds.Root 0 19 ∷ line ki
 unfolding opened
 no_byte_nodes = refl
 
--- behind a byte order mark
+-- after a byte order mark
 lone_nodes : map line_of (all lone 3) ≡ line kinds.Root 0 7 ∷ line kinds.Element 3 4 ∷ []
 unfolding opened
 lone_nodes = refl
@@ -75,7 +75,7 @@ merged_nodes : map line_of (all merged 0) ≡ line kinds.Root 0 22 ∷ line kind
 unfolding opened
 merged_nodes = refl
 
--- <a><b>x</b>y</a>: a text directly behind a deeper one is another node
+-- <a><b>x</b>y</a>: a text directly after a deeper one is another node
 deeper_text : map line_of (all (elem (codes "a") (elem (codes "b") (words (codes "x") done) (words (codes "y") done)) done) 0)
     ≡ line kinds.Root 0 16 ∷ line kinds.Element 0 16 ∷ line kinds.Element 3 8 ∷ line kinds.Text 6 1 ∷ line kinds.Text 11 1 ∷ []
 unfolding opened
@@ -218,7 +218,7 @@ b_descendant_or_self : on axes.DescendantOrSelf at_b mixed ≡ line kinds.Attrib
 unfolding opened
 b_descendant_or_self = refl
 
--- an element is before its attribute, an attribute before a child, and what stands first is first
+-- an element is before its attribute, an attribute before a child, and what is first is first
 in_order : before at_a at_b ≡ true
 in_order = refl
 

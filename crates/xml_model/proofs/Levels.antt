@@ -5,7 +5,7 @@ use Rattle.std.specs.List.{AllByRecursion as Each}
 use Rattle.xml_model.specs.Chars.{size}
 use Rattle.xml_model.specs.Items.{Attribute, Leaf, written_attribute}
 use Rattle.xml_model.specs.Nest.{Forest, done, single, empty, element}
-use Rattle.xml_model.specs.Records.{Token, named, name_token, declares, attributes_tokens, declaration_part_tokens, declaration_attributes, leaf_tokens, text_tokens, depth_at, tokens}
+use Rattle.xml_model.specs.Records.{Record, named, name_token, declares, attributes_records, declaration_part_records, declaration_attributes, leaf_records, text_records, depth_at, forest_records}
 pub use Rattle.xml_model.specs.Scan.{level_of}
 use Rattle.xml_model.proofs.Each.{each_append, each_more}
 
@@ -24,24 +24,24 @@ level_at zero h = refl
 level_at (suc d) h = shown_level d (omega arith)
 
 -- records from a level on
-abbrev pub FromLevel : ℕ → List Token → Type 0
+abbrev pub FromLevel : ℕ → List Record → Type 0
 FromLevel l rs = Each (λ r. l ≤ level_of r) rs
 
-text_from : (l at : ℕ) (p : Token) → l ≤ 255 → l ≤ level_of p → FromLevel l (text_tokens l p)
+text_from : (l at : ℕ) (p : Record) → l ≤ 255 → l ≤ level_of p → FromLevel l (text_records l p)
 text_from zero at p h k = tt
 text_from (suc l) at p h k = (k, tt)
 
-tokens_from : (others : List Attribute) (l at d : ℕ) → l ≤ cond (d == 255) 0 (suc d) → FromLevel l (declaration_part_tokens d at others)
+tokens_from : (others : List Attribute) (l at d : ℕ) → l ≤ cond (d == 255) 0 (suc d) → FromLevel l (declaration_part_records d at others)
 tokens_from [] l at d k = tt
 tokens_from (a ∷ others) l at d k = (k, (k, tokens_from others l _ d k))
 
-pub leaf_from : (l at : ℕ) (x : Leaf) → l ≤ 255 → FromLevel l (leaf_tokens l at x)
+pub leaf_from : (l at : ℕ) (x : Leaf) → l ≤ 255 → FromLevel l (leaf_records l at x)
 leaf_from l at x h = by x
   where
     enough : l ≤ cond (depth_at l == 255) 0 (suc (depth_at l))
     enough = subst (λ (n : ℕ). l ≤ n) (sym (level_at l h)) (le_refl l)
 
-    by : (x : Leaf) → FromLevel l (leaf_tokens l at x)
+    by : (x : Leaf) → FromLevel l (leaf_records l at x)
     by (Leaf.text ps) = text_from l at _ h enough
     by (Leaf.cdata cs) = (enough, tt)
     by (Leaf.comment cs) = (enough, tt)
@@ -56,18 +56,18 @@ name_level name d o h = by (declares name)
     by true = shown_level d h
     by false = shown_level d h
 
-pub attributes_from : (others : List Attribute) (d at : ℕ) → d ≤ 254 → FromLevel (suc d) (attributes_tokens d at others)
+pub attributes_from : (others : List Attribute) (d at : ℕ) → d ≤ 254 → FromLevel (suc d) (attributes_records d at others)
 attributes_from [] d at h = tt
 attributes_from (a ∷ others) d at h =
     let name : suc d ≤ level_of (named (name_token a.name) d a.name (at + size a.space)) = subst (λ (n : ℕ). suc d ≤ n) (sym (name_level a.name d (at + size a.space) h)) (le_refl _) in
     let value : suc d ≤ cond (d == 255) 0 (suc d) = subst (λ (n : ℕ). suc d ≤ n) (sym (shown_level d h)) (le_refl _) in
     (name, (value, attributes_from others d (at + size (written_attribute a)) h))
 
-pub deeper : (l : ℕ) (rs : List Token) → FromLevel (suc l) rs → FromLevel l rs
+pub deeper : (l : ℕ) (rs : List Record) → FromLevel (suc l) rs → FromLevel l rs
 deeper l rs h = each_more _ _ (λ r k. omega (arith, k)) rs h
 
 -- each record of a list of pieces is at the pieces' level or deeper
-pub forest_from : (f : Forest) (l at : ℕ) → l ≤ 255 → Shallow l f → FromLevel l (tokens l at f)
+pub forest_from : (f : Forest) (l at : ℕ) → l ≤ 255 → Shallow l f → FromLevel l (forest_records l at f)
 forest_from done l at h s = tt
 forest_from (single x f) l at h s = each_append _ _ _ (leaf_from l at x h) (forest_from f l _ h s)
 forest_from (empty t f) l at h s = (le_refl l, each_append _ _ _ (deeper l _ (attributes_from _ l _ s.0)) (forest_from f l _ h s.1))

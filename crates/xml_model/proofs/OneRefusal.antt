@@ -30,27 +30,27 @@ one_item f bytes a b one r s =
     let h : a ∷ r.others ≡ b ∷ s.others = sym r.first ∙ ap (over_items f (first_place bytes)) same ∙ s.first in
     cc
 
--- Of two fronts of a list one is the other, or longer.
-record Longer (front rest other : List Item) : Type 0 where
+-- Of two prefixes of a list one is the other, or longer.
+record Longer (prefix rest other : List Item) : Type 0 where
   next : Item
   more : List Item
   left : List Item
   rests : rest ≡ next ∷ left
-  split : other ≡ front ++ next ∷ more
+  split : other ≡ prefix ++ next ∷ more
 
-abbrev Fronts : List Item → List Item → List Item → List Item → Type 0
-Fronts f r g s = ((f ≡ g) × (r ≡ s)) ⊎ (Longer f r g ⊎ Longer g s f)
+abbrev Prefixes : List Item → List Item → List Item → List Item → Type 0
+Prefixes f r g s = ((f ≡ g) × (r ≡ s)) ⊎ (Longer f r g ⊎ Longer g s f)
 
 longer_too : (i j : Item) (f r g : List Item) → i ≡ j → Longer f r g → Longer (i ∷ f) r (j ∷ g)
 longer_too i j f r g e l = record { next = l.next; more = l.more; left = l.left; rests = l.rests; split = ap₂ (λ x xs. x ∷ xs) (sym e) l.split }
 
-fronts : (f r g s : List Item) → f ++ r ≡ g ++ s → Fronts f r g s
-fronts [] r [] s e = inl (refl, e)
-fronts [] r (j ∷ g) s e = inr (inl (record { next = j; more = g; left = g ++ s; rests = e; split = refl }))
-fronts (i ∷ f) r [] s e = inr (inr (record { next = i; more = f; left = f ++ r; rests = sym e; split = refl }))
-fronts (i ∷ f) r (j ∷ g) s e =
+prefixes : (f r g s : List Item) → f ++ r ≡ g ++ s → Prefixes f r g s
+prefixes [] r [] s e = inl (refl, e)
+prefixes [] r (j ∷ g) s e = inr (inl (record { next = j; more = g; left = g ++ s; rests = e; split = refl }))
+prefixes (i ∷ f) r [] s e = inr (inr (record { next = i; more = f; left = f ++ r; rests = sym e; split = refl }))
+prefixes (i ∷ f) r (j ∷ g) s e =
     let p = same_head i j (f ++ r) (g ++ s) e in
-    ⊎_elim (λ q. inl (ap₂ (λ x xs. x ∷ xs) p.0 q.0, q.1)) (λ o. ⊎_elim (λ l. inr (inl (longer_too i j f r g p.0 l))) (λ l. inr (inr (longer_too j i g s f (sym p.0) l))) o) (fronts f r g s p.1)
+    ⊎_elim (λ q. inl (ap₂ (λ x xs. x ∷ xs) p.0 q.0, q.1)) (λ o. ⊎_elim (λ l. inr (inl (longer_too i j f r g p.0 l))) (λ l. inr (inr (longer_too j i g s f (sym p.0) l))) o) (prefixes f r g s p.1)
 
 not_longer : (f r g : List Item) → DoesNotBegin f r → BeginsNest g → Longer f r g → ⊥
 not_longer f r g d b l =
@@ -60,9 +60,9 @@ not_longer f r g d b l =
 
 one_nesting : (bytes : List ℕ) (a b : ℕ) (x y : Bool) → OneItem bytes → RefusesNesting bytes a x → RefusesNesting bytes b y → (a ≡ b) × (x ≡ y)
 one_nesting bytes a b x y one r s =
-    let both : (r.front ≡ s.front) × (r.rest ≡ s.rest) =
-    ⊎_elim (λ q. q) (λ o. ⊎_elim (λ l. absurd (not_longer r.front r.rest s.front r.longest s.begins l)) (λ l. absurd (not_longer s.front s.rest r.front s.longest r.begins l)) o)
-    (fronts r.front r.rest s.front s.rest (one_walk bytes one (r.front ++ r.rest) (s.front ++ s.rest) r.walked s.walked)) in
+    let both : (r.prefix ≡ s.prefix) × (r.rest ≡ s.rest) =
+    ⊎_elim (λ q. q) (λ o. ⊎_elim (λ l. absurd (not_longer r.prefix r.rest s.prefix r.longest s.begins l)) (λ l. absurd (not_longer s.prefix s.rest r.prefix s.longest r.begins l)) o)
+    (prefixes r.prefix r.rest s.prefix s.rest (one_walk bytes one (r.prefix ++ r.rest) (s.prefix ++ s.rest) r.walked s.walked)) in
     (sym r.place ∙ ap (end_of_items (first_place bytes)) both.0 ∙ s.place, sym r.deep ∙ ap₂ is_too_deep both.0 both.1 ∙ s.deep)
 
 one_name : (w : Faults) (bytes : List ℕ) (a b : ℕ) → OneItem bytes → RefusesName w bytes a → RefusesName w bytes b → a ≡ b

@@ -1,4 +1,4 @@
--- The items of a walk meet their rows, so no text is empty; and in a nest no CDATA section stands outside the root element.
+-- The items of a walk meet their rows, so no text is empty; and in a nest no CDATA section is outside the root element.
 use Rattle.std.proofs.Common.{◌≡◌, ℕ, suc, ◌+◌, ◌<◌, Bool, true, false, List, [], ◌∷◌, ◌++◌, refl, sym, ◌∙◌, arith, length, not, ◌&&◌, nat_lt, lt-ltb, ⊎_elim}
 use Rattle.std.specs.List.{list_all}
 use Rattle.std.proofs.lemmas.Bool.{and_parts, and_from, or_cases, false≢true}
@@ -82,7 +82,7 @@ declaration_proper (Leaf.instruction i) h = tt
 declaration_proper (Leaf.declaration d) h = tt
 declaration_proper (Leaf.doctype d) h = tt
 
--- the items of what stands in an element and of what stands behind it
+-- the items of what is in an element and of what is after it
 inside_meets : (inside rest : List Item) (i : Item) → list_all meets (inside ++ i ∷ rest) ≡ true → (list_all meets inside ≡ true) × (list_all meets rest ≡ true)
 inside_meets inside rest i h =
     let p = and_parts (list_all meets inside) (list_all meets (i ∷ rest)) (sym (list_all-append meets inside (i ∷ rest)) ∙ h) in

@@ -10,11 +10,13 @@ use Rattle.xml_model.specs.declared.DocFault.TheVariants as faults
 use Rattle.xml_model.specs.Chars.{size, is_qname, has_colon, prefix_of, local_of}
 use Rattle.xml_model.specs.Items.{Piece, Attribute, Tag, Instruction, Leaf, Item, leaf, start_tag, empty_tag, end_tag, written_piece, written_pieces, before_value, written_attribute, spelling, begins_at, walk, walk_to_end, end_of_items, first_place, is_nil}
 use Rattle.xml_model.specs.Nest.{Forest, done, single, empty, element, flat, is_nest}
-use Rattle.xml_model.specs.Records.{Token, records, declares, attributes_place, past_leaf, past_empty, past_start, past_element}
+use Rattle.xml_model.specs.Records.{Record, records, declares, attributes_place, past_leaf, past_empty, past_start, past_element}
 use Rattle.xml_model.specs.Content.{entity_char, value_content}
 use Rattle.xml_model.specs.Names.{Expanded, nearest, attribute_uri, xml_uri, xmlns_uri}
+use Rattle.xml_model.specs.Records.{kind_number}
+use Rattle.xml_model.specs.declared.TokenKind.TheVariants as token
 
--- 1. The bytes are not UTF-8 (XML 1.0, section 4.3.3): at is the length of the longest front that is.
+-- 1. The bytes are not UTF-8 (XML 1.0, section 4.3.3): at is the length of the longest prefix that is.
 pub record RefusesUtf8 (bytes : List ℕ) (at : ℕ) : Type 0 where
   pub within : at < length bytes
   pub prefix : IsUtf8 (take at bytes)
@@ -87,7 +89,7 @@ pub record BeginsNest (items : List Item) : Type 0 where
   pub nests : is_nest nest ≡ true
   pub split : flat nest ≡ items ++ rest
 
--- how many elements are open behind items, if n are before them
+-- how many elements are open after items, if n are before them
 abbrev pub open_after : ℕ → List Item → ℕ
 open_after n [] = n
 open_after n (start_tag t ∷ is) = open_after (suc n) is
@@ -102,24 +104,24 @@ is_opening _ = false
 
 -- whether the next item begins an element inside 255 others
 abbrev pub is_too_deep : List Item → List Item → Bool
-is_too_deep front [] = false
-is_too_deep front (i ∷ is) = is_opening i && open_after 0 front == 255
+is_too_deep prefix [] = false
+is_too_deep prefix (i ∷ is) = is_opening i && open_after 0 prefix == 255
 
--- no nest begins with the front and the next item; or no nest is the front, where it is the whole list
+-- no nest begins with the prefix and the next item; or no nest is the prefix, where it is the whole list
 abbrev pub DoesNotBegin : List Item → List Item → Type 0
-DoesNotBegin front [] = (nest : Forest) → is_nest nest ≡ true → flat nest ≡ front → ⊥
-DoesNotBegin front (i ∷ is) = BeginsNest (front ++ i ∷ []) → ⊥
+DoesNotBegin prefix [] = (nest : Forest) → is_nest nest ≡ true → flat nest ≡ prefix → ⊥
+DoesNotBegin prefix (i ∷ is) = BeginsNest (prefix ++ i ∷ []) → ⊥
 
--- 5. The front is the longest with which some nest begins: at is where it ends, and the fault is one of depth where the next item begins
+-- 5. The prefix is the longest with which some nest begins: at is where it ends, and the fault is one of depth where the next item begins
 -- an element inside 255 others.
 pub record RefusesNesting (bytes : List ℕ) (at : ℕ) (too_deep : Bool) : Type 0 where
-  pub front : List Item
+  pub prefix : List Item
   pub rest : List Item
-  pub walked : walk_to_end bytes (front ++ rest) ≡ true
-  pub begins : BeginsNest front
-  pub longest : DoesNotBegin front rest
-  pub place : end_of_items (first_place bytes) front ≡ at
-  pub deep : is_too_deep front rest ≡ too_deep
+  pub walked : walk_to_end bytes (prefix ++ rest) ≡ true
+  pub begins : BeginsNest prefix
+  pub longest : DoesNotBegin prefix rest
+  pub place : end_of_items (first_place bytes) prefix ≡ at
+  pub deep : is_too_deep prefix rest ≡ too_deep
 
 -- the nest of the whole document
 pub record IsDocument (bytes : List ℕ) (nest : Forest) : Type 0 where
@@ -128,10 +130,10 @@ pub record IsDocument (bytes : List ℕ) (nest : Forest) : Type 0 where
 
 -- 6. A record has no room for a token. The types of records that have the fields of a name.
 abbrev pub is_name_token : ℕ → Bool
-is_name_token n = list_any (λ k. n == k) (0 ∷ 2 ∷ 3 ∷ 7 ∷ 9 ∷ [])
+is_name_token n = list_any (λ k. n == k) (kind_number token.StartTag ∷ kind_number token.AttributeName ∷ kind_number token.NamespaceName ∷ kind_number token.Target ∷ kind_number token.PartName ∷ [])
 
 -- the field of a record that is too wide: of names the whole first (2,047 bytes) and then the prefix (511), of others the token (1,048,575)
-abbrev pub too_wide : Token → Option Field
+abbrev pub too_wide : Record → Option Field
 too_wide r = cond (is_name_token r.token) (cond (nat_lt 2047 r.len) (Some fields.Name) (cond (nat_lt 511 r.prefix) (Some fields.Prefix) None)) (cond (nat_lt 1_048_575 r.len) (Some fields.Token) None)
 
 -- the first of what is found here and further on
@@ -140,7 +142,7 @@ wide_here None at o = o
 wide_here (Some f) at o = Some (f, at)
 
 -- the first record that is too wide, with its field and its place
-unfoldable pub first_wide : List Token → Option (Field × ℕ)
+unfoldable pub first_wide : List Record → Option (Field × ℕ)
 first_wide [] = None
 first_wide (r ∷ rs) = wide_here (too_wide r) r.offset (first_wide rs)
 
@@ -167,7 +169,7 @@ over_names w tags at (empty t f) = w.tag at tags t ++ over_names w tags (past_em
 over_names w tags at (element t inside space f) = w.tag at tags t ++ over_names w (t ∷ tags) (past_start at t) inside ++ over_names w tags (past_element at t inside space) f
 
 -- 7. A name of a tag repeats an earlier one, byte for byte (XML 1.0, section 3.1, constraint 'Unique Att Spec'): the places of those
--- that do, behind those seen.
+-- that do, after those seen.
 abbrev pub repeated : ℕ → List (List ℕ) → List Attribute → List ℕ
 repeated at seen [] = []
 repeated at seen (a ∷ others) = cond (list_any (bytes_eq a.name) seen) (name_place at a ∷ []) [] ++ repeated (at + size (written_attribute a)) (a.name ∷ seen) others

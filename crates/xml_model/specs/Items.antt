@@ -34,7 +34,7 @@ pub record Tag : Type 0 where
   pub attributes : List Attribute
   pub space : List ℕ
 
--- PI: XML 1.0, productions 16 and 17. The white space behind the target, and the data
+-- PI: XML 1.0, productions 16 and 17. The white space after the target, and the data
 pub record Instruction : Type 0 where
   pub target : List ℕ
   pub space : List ℕ
@@ -76,7 +76,7 @@ pub data Leaf : Type 0 where
   declaration : Declaration → Leaf
   doctype : Doctype → Leaf
 
--- the nine kinds of item: a leaf, STag (XML 1.0, production 40), EmptyElemTag (44), and ETag (42) with its name and the white space behind it
+-- the nine kinds of item: a leaf, STag (XML 1.0, production 40), EmptyElemTag (44), and ETag (42) with its name and the white space after it
 pub data Item : Type 0 where
   leaf : Leaf → Item
   start_tag : Tag → Item
@@ -94,7 +94,7 @@ quote_char Quote.double = 34
 abbrev pub in_quotes : Quote → List ℕ → List ℕ
 in_quotes q cs = quote_char q ∷ cs ++ quote_char q ∷ []
 
--- a literal, or a reference as it stands: XML 1.0, productions 66 and 68
+-- a literal, or a reference as it is: XML 1.0, productions 66 and 68
 abbrev pub written_piece : Piece → List ℕ
 written_piece (literal c) = c ∷ []
 written_piece (entity name) = codes "&" ++ name ++ codes ";"
@@ -105,7 +105,7 @@ written_piece (hexadecimal digits) = codes "&#x" ++ digits ++ codes ";"
 abbrev pub written_pieces : List Piece → List ℕ
 written_pieces ps = flat_map written_piece ps
 
--- what stands before the value of an attribute, from its name up to its opening quote
+-- what is before the value of an attribute, from its name up to its opening quote
 abbrev pub before_value : Attribute → List ℕ
 before_value a = a.name ++ a.left ++ codes "=" ++ a.right ++ quote_char a.quote ∷ []
 
@@ -164,14 +164,14 @@ written_empty t = written_tag t ++ codes "/>"
 abbrev pub written_end : List ℕ → List ℕ → List ℕ
 written_end name space = codes "</" ++ name ++ space ++ codes ">"
 
--- an item as it stands, in characters
+-- an item as it is, in characters
 abbrev pub written : Item → List ℕ
 written (leaf l) = written_leaf l
 written (start_tag t) = written_start t
 written (empty_tag t) = written_empty t
 written (end_tag name space) = written_end name space
 
--- an item as it stands, in bytes of UTF-8
+-- an item as it is, in bytes of UTF-8
 unfoldable pub spelling : Item → List ℕ
 spelling i = encode_utf8_all (written i)
 
@@ -186,7 +186,7 @@ abbrev pub is_number : ℕ → List ℕ → Bool
 is_number base [] = false
 is_number base (d ∷ ds) = list_all (λ c. is_digit c base) (d ∷ ds) && is_char (number_of base (d ∷ ds))
 
--- whether a piece may stand where some characters end the text: no literal is < or & or one of these
+-- whether a piece may be where some characters end the text: no literal is < or & or one of these
 abbrev pub meets_piece : (ℕ → Bool) → Piece → Bool
 meets_piece stops (literal c) = is_char c && not (c == 60) && not (c == 38) && not (stops c)
 meets_piece stops (entity name) = is_name name
@@ -314,7 +314,7 @@ meets (end_tag name space) = is_name name && is_blank space
 abbrev pub byte_order_mark : List ℕ
 byte_order_mark = 0xEF ∷ 0xBB ∷ 0xBF ∷ []
 
--- where the items begin: behind a byte order mark, which belongs to no item
+-- where the items begin: after a byte order mark, which belongs to no item
 unfoldable pub first_place : List ℕ → ℕ
 first_place bytes = cond (begins byte_order_mark bytes) 3 0
 
@@ -324,14 +324,14 @@ ends_well (leaf (text ps)) [] = true
 ends_well (leaf (text ps)) (b ∷ rest) = b == 60
 ends_well _ rest = true
 
--- a declaration stands at the first place alone: XML 1.0, production 22
-abbrev pub may_stand : Item → ℕ → ℕ → Bool
-may_stand (leaf (declaration d)) first p = p == first
-may_stand _ first p = true
+-- a declaration is at the first place alone: XML 1.0, production 22
+abbrev pub may_begin_at : Item → ℕ → ℕ → Bool
+may_begin_at (leaf (declaration d)) first p = p == first
+may_begin_at _ first p = true
 
--- an item begins at a place: it meets the productions of its kind, its spelling stands there, and it ends well
+-- an item begins at a place: it meets the productions of its kind, its spelling is there, and it ends well
 unfoldable pub begins_at : List ℕ → ℕ → Item → Bool
-begins_at bytes p i = meets i && begins (spelling i) (drop p bytes) && ends_well i (drop (p + length (spelling i)) bytes) && may_stand i (first_place bytes) p
+begins_at bytes p i = meets i && begins (spelling i) (drop p bytes) && ends_well i (drop (p + length (spelling i)) bytes) && may_begin_at i (first_place bytes) p
 
 -- where items that begin at a place end
 abbrev pub end_of_items : ℕ → List Item → ℕ

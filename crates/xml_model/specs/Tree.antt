@@ -9,7 +9,7 @@ use Rattle.xml_model.specs.declared.Axis.TheVariants as axes
 use Rattle.xml_model.specs.Chars.{size}
 use Rattle.xml_model.specs.Items.{Attribute, Tag, Instruction, Leaf, is_nil, written_attribute}
 use Rattle.xml_model.specs.Nest.{Forest, done, single, empty}
-use Rattle.xml_model.specs.Records.{declares, run_tokens, past_run, attributes_place, past_leaf, past_empty, past_start, past_forest, past_element, tag_tokens, leaf_tokens, tokens}
+use Rattle.xml_model.specs.Records.{declares, run_records, past_run, attributes_place, past_leaf, past_empty, past_start, past_forest, past_element, tag_records, leaf_records, forest_records}
 
 -- Paths.
 
@@ -119,7 +119,7 @@ is_reverse _ = false
 
 -- Nodes.
 
--- what stands at a node: XPath 1.0, section 5. The root with the place of the first item; an element with its tag and what is in it; an
+-- what is at a node: XPath 1.0, section 5. The root with the place of the first item; an element with its tag and what is in it; an
 -- attribute; a text with its texts and CDATA sections; a comment; an instruction
 pub data Thing : Type 0 where
   root : ℕ → Forest → Thing
@@ -141,9 +141,9 @@ kind_of (Thing.instruction i) = kinds.Instruction
 -- an element that holds others: its tag and its place
 pub record Holder : Type 0 where
   pub tag : Tag
-  pub place : ℕ
+  pub index : ℕ
 
--- A node: its path, what stands there, the elements that hold it (the nearest one first; an attribute is held by its element),
+-- A node: its path, what is there, the elements that hold it (the nearest one first; an attribute is held by its element),
 -- where it begins and ends in the document, its first record and the first record past it and what is under it.
 pub record Entry : Type 0 where
   pub path : Path
@@ -151,7 +151,7 @@ pub record Entry : Type 0 where
   pub holders : List Holder
   pub start : ℕ
   pub stop : ℕ
-  pub place : ℕ
+  pub index : ℕ
   pub past : ℕ
 
 -- the same node, seen from one step further up
@@ -163,24 +163,24 @@ abbrev pub one_if : Bool → ℕ
 one_if true = 1
 one_if false = 0
 
--- the node of an attribute, from the place, the record and the number at which it may stand. A declaration of a namespace is none: XPath
+-- the node of an attribute, from the place, the record and the number at which it may be. A declaration of a namespace is none: XPath
 -- 1.0, section 5.3. Its span runs from its name to its closing quote
 abbrev pub attribute_entry : List Holder → ℕ → ℕ → ℕ → Attribute → Option Entry
-attribute_entry holders at place i a =
-    cond (declares a.name) None (Some (record { path = Step.attribute i ∷ []; what = Thing.attribute a; holders = holders; start = at + size a.space; stop = at + size (written_attribute a); place = place; past = place + 2 }))
+attribute_entry holders at index i a =
+    cond (declares a.name) None (Some (record { path = Step.attribute i ∷ []; what = Thing.attribute a; holders = holders; start = at + size a.space; stop = at + size (written_attribute a); index = index; past = index + 2 }))
 
--- the attribute nodes of a tag, as they stand
+-- the attribute nodes of a tag, as they are
 abbrev pub attributes : List Holder → ℕ → ℕ → ℕ → List Attribute → List Entry
-attributes holders at place i [] = []
-attributes holders at place i (a ∷ others) =
-    cons_option (attribute_entry holders at place i a) (attributes holders (at + size (written_attribute a)) (place + 2) (i + one_if (not (declares a.name))) others)
+attributes holders at index i [] = []
+attributes holders at index i (a ∷ others) =
+    cons_option (attribute_entry holders at index i a) (attributes holders (at + size (written_attribute a)) (index + 2) (i + one_if (not (declares a.name))) others)
 
--- where the next piece of a list of pieces stands: in which elements, from which place and record place on, as which child, and whether the
+-- where the next piece of a list of pieces is: in which elements, from which place and record place on, as which child, and whether the
 -- piece before it is a text or a CDATA section
 pub record Here : Type 0 where
   pub holders : List Holder
   pub at : ℕ
-  pub place : ℕ
+  pub index : ℕ
   pub number : ℕ
   pub joins : Bool
 
@@ -217,64 +217,64 @@ begins_run (t ∷ holders) false xs = list_any has_content xs
 abbrev pub text_node : Here → List Leaf → Option Entry
 text_node h xs =
     cond (begins_run h.holders h.joins xs)
-    (Some (record { path = child h.number ∷ []; what = Thing.text xs; holders = h.holders; start = h.at; stop = past_run h.at xs; place = h.place; past = h.place + length (run_tokens (length h.holders) h.at xs) })) None
+    (Some (record { path = child h.number ∷ []; what = Thing.text xs; holders = h.holders; start = h.at; stop = past_run h.at xs; index = h.index; past = h.index + length (run_records (length h.holders) h.at xs) })) None
 
 -- the node that begins at a leaf. An XML declaration and a DOCTYPE are none: XPath 1.0, section 5
 abbrev pub leaf_node : Here → Leaf → Forest → Option Entry
 leaf_node h (Leaf.text ps) f = text_node h (Leaf.text ps ∷ run f)
 leaf_node h (Leaf.cdata cs) f = text_node h (Leaf.cdata cs ∷ run f)
-leaf_node h (Leaf.comment cs) f = Some (record { path = child h.number ∷ []; what = Thing.comment cs; holders = h.holders; start = h.at; stop = past_leaf h.at (Leaf.comment cs); place = h.place; past = h.place + 1 })
-leaf_node h (Leaf.instruction i) f = Some (record { path = child h.number ∷ []; what = Thing.instruction i; holders = h.holders; start = h.at; stop = past_leaf h.at (Leaf.instruction i); place = h.place; past = h.place + 2 })
+leaf_node h (Leaf.comment cs) f = Some (record { path = child h.number ∷ []; what = Thing.comment cs; holders = h.holders; start = h.at; stop = past_leaf h.at (Leaf.comment cs); index = h.index; past = h.index + 1 })
+leaf_node h (Leaf.instruction i) f = Some (record { path = child h.number ∷ []; what = Thing.instruction i; holders = h.holders; start = h.at; stop = past_leaf h.at (Leaf.instruction i); index = h.index; past = h.index + 2 })
 leaf_node h _ f = None
 
--- where the piece behind a leaf stands
+-- where the piece after a leaf is
 abbrev pub after_leaf : Here → Leaf → Forest → Here
 after_leaf h x f =
-    record { holders = h.holders; at = past_leaf h.at x; place = h.place + length (leaf_tokens (length h.holders) h.at x); number = h.number + one_if (is_some (leaf_node h x f)); joins = is_text x }
+    record { holders = h.holders; at = past_leaf h.at x; index = h.index + length (leaf_records (length h.holders) h.at x); number = h.number + one_if (is_some (leaf_node h x f)); joins = is_text x }
 
--- the holders of what stands in an element
+-- the holders of what is in an element
 abbrev pub held : Here → Tag → List Holder
-held h t = record { tag = t; place = h.place } ∷ h.holders
+held h t = record { tag = t; index = h.index } ∷ h.holders
 
--- where the first piece in an element stands
+-- where the first piece in an element is
 abbrev pub inside_of : Here → Tag → Here
-inside_of h t = record { holders = held h t; at = past_start h.at t; place = h.place + length (tag_tokens (length h.holders) h.at t); number = 0; joins = false }
+inside_of h t = record { holders = held h t; at = past_start h.at t; index = h.index + length (tag_records (length h.holders) h.at t); number = 0; joins = false }
 
 -- the first record past an element and what is in it
 abbrev pub element_past : Here → Tag → Forest → ℕ
-element_past h t inside = h.place + length (tag_tokens (length h.holders) h.at t) + length (tokens (suc (length h.holders)) (past_start h.at t) inside)
+element_past h t inside = h.index + length (tag_records (length h.holders) h.at t) + length (forest_records (suc (length h.holders)) (past_start h.at t) inside)
 
--- where the piece behind an element stands
-abbrev pub behind : Here → Tag → Forest → ℕ → Here
-behind h t inside stop = record { holders = h.holders; at = stop; place = element_past h t inside; number = suc h.number; joins = false }
+-- where the piece after an element is
+abbrev pub after_element : Here → Tag → Forest → ℕ → Here
+after_element h t inside stop = record { holders = h.holders; at = stop; index = element_past h t inside; number = suc h.number; joins = false }
 
 -- the node of an element, from itself: it spans its first tag to its last
 abbrev pub element_entry : Here → Tag → Forest → ℕ → Entry
 element_entry h t inside stop =
-    record { path = []; what = Thing.element t inside; holders = h.holders; start = h.at; stop = stop; place = h.place; past = element_past h t inside }
+    record { path = []; what = Thing.element t inside; holders = h.holders; start = h.at; stop = stop; index = h.index; past = element_past h t inside }
 
 -- the attribute nodes of a tag
 abbrev pub tag_attributes : Here → Tag → List Entry
-tag_attributes h t = attributes (held h t) (attributes_place h.at t) (suc h.place) 0 t.attributes
+tag_attributes h t = attributes (held h t) (attributes_place h.at t) (suc h.index) 0 t.attributes
 
 -- the nodes of a list of pieces, in document order, with their paths from what holds the list
 abbrev pub nodes : Here → Forest → List Entry
 nodes h done = []
 nodes h (single x f) = cons_option (leaf_node h x f) (nodes (after_leaf h x f) f)
-nodes h (empty t f) = map (under (child h.number)) (element_entry h t done (past_empty h.at t) ∷ tag_attributes h t) ++ nodes (behind h t done (past_empty h.at t)) f
+nodes h (empty t f) = map (under (child h.number)) (element_entry h t done (past_empty h.at t) ∷ tag_attributes h t) ++ nodes (after_element h t done (past_empty h.at t)) f
 nodes h (Forest.element t inside space f) =
     map (under (child h.number)) (element_entry h t inside (past_element h.at t inside space) ∷ tag_attributes h t ++ nodes (inside_of h t) inside)
-    ++ nodes (behind h t inside (past_element h.at t inside space)) f
+    ++ nodes (after_element h t inside (past_element h.at t inside space)) f
 
--- where the first piece of a document stands
+-- where the first piece of a document is
 abbrev pub at_first : ℕ → Here
-at_first first = record { holders = []; at = first; place = 1; number = 0; joins = false }
+at_first first = record { holders = []; at = first; index = 1; number = 0; joins = false }
 
 -- the root, which spans the document from its first byte on, a byte order mark included
 abbrev pub root_entry : Forest → ℕ → Entry
-root_entry nest first = record { path = []; what = root first nest; holders = []; start = 0; stop = past_forest first nest; place = 0; past = suc (length (tokens 0 first nest)) }
+root_entry nest first = record { path = []; what = root first nest; holders = []; start = 0; stop = past_forest first nest; index = 0; past = suc (length (forest_records 0 first nest)) }
 
--- all nodes of a nest whose first item stands at a place, in document order
+-- all nodes of a nest whose first item is at a place, in document order
 unfoldable pub all : Forest → ℕ → List Entry
 all nest first = root_entry nest first ∷ nodes (at_first first) nest
 
@@ -288,13 +288,13 @@ unfoldable pub axis_list : Axis → Path → List Entry → List Entry
 axis_list axis p es = reverse_if (is_reverse axis) (filter (λ e. on_axis axis p e.path) es)
 
 -- the node whose first record has an index
-unfoldable pub at_place : ℕ → List Entry → Option Entry
-at_place n es = find (λ e. e.place == n) es
+unfoldable pub at_index : ℕ → List Entry → Option Entry
+at_index n es = find (λ e. e.index == n) es
 
 -- the node of a path
 unfoldable pub at_path : Path → List Entry → Option Entry
 at_path p es = find (λ e. is_self (steps p e.path)) es
 
 -- a kind and an index stand for the node that has both
-abbrev pub Stands : Kind → ℕ → Entry → List Entry → Type 0
-Stands kind n e es = Contains es e × (kind_of e.what ≡ kind) × (e.place ≡ n)
+abbrev pub Identifies : Kind → ℕ → Entry → List Entry → Type 0
+Identifies kind n e es = Contains es e × (kind_of e.what ≡ kind) × (e.index ≡ n)

@@ -11,10 +11,10 @@ ghost use Rattle.xml_model.specs.declared.DocFault.{DocFault};
 ghost use Rattle.xml_model.specs.Items.{Item, meets, walk, walk_to_end};
 ghost use Rattle.xml_model.specs.Nest.{Forest, flat, is_nest};
 ghost use Rattle.xml_model.specs.Records.{records};
-ghost use Rattle.xml_model.specs.Tree.{Entry, all, at_place, axis_list, kind_of, on_axis};
+ghost use Rattle.xml_model.specs.Tree.{Entry, all, at_index, axis_list, kind_of, on_axis};
 ghost use Rattle.xml_model.specs.Scan.{begins_by_scan, end_by_scan, holder_by_scan, kind_by_scan, past_by_scan, starts_by_scan, EndsAt};
 ghost use Rattle.xml_model.specs.Accepted.{Accepted, AcceptedTo, IsDocument, IsRefusal};
-ghost use Rattle.xml_model.specs.Laws.{by_places, holder_place, is_root_thing, list_by_places, FirstRecordShows, HasParent, IsNode, OneItem, PlacesTell, RecordsStand, SiblingsTell};
+ghost use Rattle.xml_model.specs.Laws.{by_indexes, holder_index, is_root_thing, list_by_indexes, FirstRecordShows, HasParent, IsNode, OneItem, IndexesDecide, HasRecords, SiblingsDecide};
 
 /// A list of items is the print of at most one nest.
 pub fn one_nest()
@@ -56,14 +56,14 @@ pub fn one_refusal()
 {}
 
 /// Along the tree, in document order, the places rise strictly.
-pub fn places_rise()
-    ensures { (nest : Forest) (first : ℕ) → IsStrictlyIncreasing (map (λ e. e.place) (all nest first)) }
+pub fn indexes_rise()
+    ensures { (nest : Forest) (first : ℕ) → IsStrictlyIncreasing (map (λ e. e.index) (all nest first)) }
 {}
 
 /// The records of a node are a part of all records, which begins at its place.
-pub fn records_stand()
+pub fn nodes_have_records()
     ensures { (nest : Forest) (first : ℕ) → is_nest nest ≡ true →
-        (e : Entry) → IsNode nest first e → RecordsStand (records nest first) e }
+        (e : Entry) → IsNode nest first e → HasRecords (records nest first) e }
 {}
 
 /// The first record of a node shows its kind and how many elements hold it.
@@ -75,7 +75,7 @@ pub fn first_record_shows()
 /// The records of a node end where a scan of the records from its place ends.
 pub fn ends_by_scan()
     ensures { (nest : Forest) (first : ℕ) → is_nest nest ≡ true →
-        (e : Entry) → IsNode nest first e → e.past ≡ past_by_scan (kind_of e.what) e.place (records nest first) }
+        (e : Entry) → IsNode nest first e → e.past ≡ past_by_scan (kind_of e.what) e.index (records nest first) }
 {}
 
 /// The records of the element whose first record has an index end where a scan of the records from there ends.
@@ -84,43 +84,43 @@ pub fn element_ends_by_scan()
         (at : ℕ) → EndsAt nest first at (end_by_scan at (records nest first)) }
 {}
 
-/// Of two nodes one stands under the other exactly where its place lies in the other's range, and it is before the other
+/// Of two nodes one is under the other exactly where its place lies in the other's range, and it is before the other
 /// in document order exactly where its place is lower.
-pub fn places_tell()
-    ensures { (nest : Forest) (first : ℕ) (x y : Entry) → IsNode nest first x → IsNode nest first y → PlacesTell x y }
+pub fn indexes_decide()
+    ensures { (nest : Forest) (first : ℕ) (x y : Entry) → IsNode nest first x → IsNode nest first y → IndexesDecide x y }
 {}
 
 /// A node is on an axis of another exactly where their places say so.
-pub fn axes_by_places()
+pub fn axes_by_indexes()
     ensures { (nest : Forest) (first : ℕ) → is_nest nest ≡ true →
-        (axis : Axis) (x y : Entry) → IsNode nest first x → IsNode nest first y → on_axis axis x.path y.path ≡ by_places axis x y }
+        (axis : Axis) (x y : Entry) → IsNode nest first x → IsNode nest first y → on_axis axis x.path y.path ≡ by_indexes axis x y }
 {}
 
-/// The nodes on an axis, in axis order, are those that the places tell.
-pub fn axis_lists_by_places()
+/// The nodes on an axis, in axis order, are those that the places say.
+pub fn axis_lists_by_indexes()
     ensures { (nest : Forest) (first : ℕ) → is_nest nest ≡ true →
-        (axis : Axis) (x : Entry) → IsNode nest first x → axis_list axis x.path (all nest first) ≡ list_by_places axis x (all nest first) }
+        (axis : Axis) (x : Entry) → IsNode nest first x → axis_list axis x.path (all nest first) ≡ list_by_indexes axis x (all nest first) }
 {}
 
-/// The siblings of a child are the other children of its parent, the later ones behind it.
+/// The siblings of a child are the other children of its parent, the later ones after it.
 pub fn siblings_by_parent()
     ensures { (nest : Forest) (first : ℕ) → is_nest nest ≡ true →
         (z x y : Entry) → IsNode nest first z → IsNode nest first x → IsNode nest first y →
-        on_axis axes.Child z.path x.path ≡ true → SiblingsTell z x y }
+        on_axis axes.Child z.path x.path ≡ true → SiblingsDecide z x y }
 {}
 
 /// The parent of a node is the one whose first record a scan backwards finds; the root has none.
 pub fn parent_by_scan()
     ensures { (nest : Forest) (first : ℕ) → is_nest nest ≡ true →
         (x y : Entry) → IsNode nest first x → IsNode nest first y →
-        on_axis axes.Parent x.path y.path ≡ (not (is_root_thing x.what) && y.place == holder_by_scan x.place (records nest first)) }
+        on_axis axes.Parent x.path y.path ≡ (not (is_root_thing x.what) && y.index == holder_by_scan x.index (records nest first)) }
 {}
 
 /// What a scan backwards from a node's first record finds is the first record of the nearest element that holds the node, and
 /// index 0, the root's, where no element does.
-pub fn holder_by_scan_tells()
+pub fn holder_by_scan_decides()
     ensures { (nest : Forest) (first : ℕ) → is_nest nest ≡ true →
-        (e : Entry) → IsNode nest first e → holder_by_scan e.place (records nest first) ≡ holder_place e.holders }
+        (e : Entry) → IsNode nest first e → holder_by_scan e.index (records nest first) ≡ holder_index e.holders }
 {}
 
 /// Every node but the root has a parent.
@@ -130,20 +130,20 @@ pub fn parent_exists()
 {}
 
 /// The places of the nodes are the indexes of the records that begin a node.
-pub fn places_by_scan()
+pub fn indexes_by_scan()
     ensures { (nest : Forest) (first : ℕ) → is_nest nest ≡ true → list_all meets (flat nest) ≡ true →
-        map (λ e. e.place) (all nest first) ≡ starts_by_scan (records nest first) }
+        map (λ e. e.index) (all nest first) ≡ starts_by_scan (records nest first) }
 {}
 
 /// There is a node at a place exactly where the record with that index begins one, by the records round it.
-pub fn begins_by_scan_tells()
+pub fn begins_by_scan_decides()
     ensures { (nest : Forest) (first : ℕ) → is_nest nest ≡ true → list_all meets (flat nest) ≡ true →
-        (n : ℕ) → is_some (at_place n (all nest first)) ≡ begins_by_scan n (records nest first) }
+        (n : ℕ) → is_some (at_index n (all nest first)) ≡ begins_by_scan n (records nest first) }
 {}
 
 /// The kind of the node at a place is that which the record with that index begins, by the records round it; there is none where it
 /// begins none.
-pub fn kind_by_scan_tells()
+pub fn kind_by_scan_decides()
     ensures { (nest : Forest) (first : ℕ) → is_nest nest ≡ true → list_all meets (flat nest) ≡ true →
-        (n : ℕ) → option_map (λ e. kind_of e.what) (at_place n (all nest first)) ≡ kind_by_scan n (records nest first) }
+        (n : ℕ) → option_map (λ e. kind_of e.what) (at_index n (all nest first)) ≡ kind_by_scan n (records nest first) }
 {}

@@ -1,7 +1,7 @@
 //! What an XML document is: characters, items, nests, trees, records, contents, names and axes, as definitions that
 //! the contracts of every other crate cite, and the plain types that these crates share.
 //!
-//! The definitions stand in `specs/`; docs/DEFINITIONS.md reads them in plain words.
+//! The definitions are in `specs/`; docs/DEFINITIONS.md reads them in plain words.
 #![tactic(auto)]
 
 use std::marker::Model;
@@ -59,6 +59,38 @@ pub enum NodeTest<'b> {
     Name(NameTest<'b>),
 }
 
+/// The kinds of token that have a record. The number of each is that of its records, in their upper four bits; docs/RECORDS.md
+/// has the table.
+#[derive(Clone, Copy)]
+pub enum TokenKind {
+    /// The name in a start tag or an empty tag.
+    StartTag = 0,
+    /// The name of an attribute.
+    AttributeName = 2,
+    /// The name of an attribute that declares a namespace.
+    NamespaceName = 3,
+    /// The value of an attribute or of a declaration of a namespace.
+    Value = 4,
+    /// Character data in the root element.
+    Text = 5,
+    /// What is in a comment.
+    Comment = 6,
+    /// The target of an instruction.
+    Target = 7,
+    /// The data of an instruction.
+    Data = 8,
+    /// The name of a part of the XML declaration.
+    PartName = 9,
+    /// The value of a part of the XML declaration.
+    PartValue = 10,
+    /// What is in a CDATA section.
+    Cdata = 11,
+    /// What is in a DOCTYPE.
+    Doctype = 12,
+    /// The document itself, whose record comes first.
+    Document = 13,
+}
+
 /// The part of a record that is too wide for its field.
 #[derive(Clone, Copy, Debug, PartialEq, Eq)]
 pub enum Field {
@@ -76,11 +108,11 @@ pub enum DocFault {
     Syntax { at: u32 },
     /// The reference at `at` names no built-in entity (XML 1.0, section 4.6).
     Entity { at: u32 },
-    /// The declared encoding, whose first letter stands at `at`, is neither `UTF-8` nor `US-ASCII`.
+    /// The declared encoding, whose first letter is at `at`, is neither `UTF-8` nor `US-ASCII`.
     Encoding { at: u32 },
     /// The items do not nest (XML 1.0, productions 1, 22, 27 and 39).
     Nesting { at: u32 },
-    /// The element at `at` would stand inside 255 others.
+    /// The element at `at` would be inside 255 others.
     Depth { at: u32 },
     /// The record of the token at `at` has no room for it.
     Width { field: Field, at: u32 },

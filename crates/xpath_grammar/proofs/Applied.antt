@@ -1,4 +1,4 @@
--- Operators behind an expression.
+-- Operators after an expression.
 use Rattle.std.proofs.Common.{◌≡◌, List, [], ◌∷◌, ◌++◌, refl, ap}
 use Rattle.std.specs.Borrow.{Bor}
 use Rattle.xpath_tokens.specs.declared.Token.{Token}

@@ -1,4 +1,4 @@
--- Which operators stand outside all brackets in what a symbol derives.
+-- Which operators are outside all brackets in what a symbol derives.
 use Rattle.std.proofs.Common.{◌≡◌, ℕ, suc, ◌<◌, ◌≤◌, List, [], ◌∷◌, ◌++◌, Bool, true, false, refl, ◌∙◌, ap, arith}
 use Rattle.xpath_tokens.specs.declared.Token.{Token}
 use Rattle.xpath_tokens.specs.declared.Token.TheVariants.{Open, Close, OpenSquare, CloseSquare, Dot, DotDot, At, Comma, ColonColon, Any, AnyIn, Named, Kind, Or, And, Compare, Arithmetic, Bar, Slash, SlashSlash, Function, AxisName, Literal, Number, Variable}
@@ -8,12 +8,12 @@ use Rattle.xpath_tokens.specs.declared.Operator.TheVariants.{Subtract}
 use Rattle.xpath_tokens.specs.declared.StepAxis.{StepAxis}
 use Rattle.xpath_tokens.specs.declared.NodeType.TheVariants as kind
 use Rattle.xpath_grammar.specs.declared.expr.StepTest.{StepTest}
-use Rattle.xpath_grammar.specs.Grammar.{Symbol, OrExpr, AndExpr, EqualityExpr, RelationalExpr, AdditiveExpr, MultiplicativeExpr, UnaryExpr, UnionExpr, PathExpr, FilterExpr, PrimaryExpr, Arguments, LocationPath, RelativeLocationPath, StepPart, Predicates, Predicate, Phrase, IsAdditive, plus, minus, IsEquality, equal, unequal, IsRelational, less, greater, at_most, at_least, IsMultiplicative, times, divided, modulo, Derives, or_one, or_more, and_one, and_more, equality_one, equality_more, relational_one, relational_more, additive_one, additive_more, multiplicative_one, multiplicative_more, unary_one, unary_minus, union_one, union_more, path_location, path_filter, path_slash, path_slash_slash, filter_one, filter_more, primary_bracket, primary_variable, primary_literal, primary_number, call_none, call_some, arguments_one, arguments_more, location_relative, location_root, location_slash, location_slash_slash, relative_one, relative_slash, relative_slash_slash, step, step_dot, step_dots, IsAxis, axis_name, axis_at, axis_child, IsTest, test_any, test_any_in, test_named, test_kind, test_target, predicates_none, predicates_more, predicate, ends, behind, depth, ended, Stands}
+use Rattle.xpath_grammar.specs.Grammar.{Symbol, OrExpr, AndExpr, EqualityExpr, RelationalExpr, AdditiveExpr, MultiplicativeExpr, UnaryExpr, UnionExpr, PathExpr, FilterExpr, PrimaryExpr, Arguments, LocationPath, RelativeLocationPath, StepPart, Predicates, Predicate, Phrase, IsAdditive, plus, minus, IsEquality, equal, unequal, IsRelational, less, greater, at_most, at_least, IsMultiplicative, times, divided, modulo, Derives, or_one, or_more, and_one, and_more, equality_one, equality_more, relational_one, relational_more, additive_one, additive_more, multiplicative_one, multiplicative_more, unary_one, unary_minus, union_one, union_more, path_location, path_filter, path_slash, path_slash_slash, filter_one, filter_more, primary_bracket, primary_variable, primary_literal, primary_number, call_none, call_some, arguments_one, arguments_more, location_relative, location_root, location_slash, location_slash_slash, relative_one, relative_slash, relative_slash_slash, step, step_dot, step_dots, IsAxis, axis_name, axis_at, axis_child, IsTest, test_any, test_any_in, test_named, test_kind, test_target, predicates_none, predicates_more, predicate, ends, depth_after, depth, ended, MayFollow}
 use Rattle.xpath_grammar.specs.Cutting.{rank, Free}
 
 pub depth-append : (d : ℕ) (us vs : List Token) → depth d (us ++ vs) ≡ depth (depth d us) vs
 depth-append d [] vs = refl
-depth-append d (u ∷ us) vs = depth-append (behind d u) us vs
+depth-append d (u ∷ us) vs = depth-append (depth_after d u) us vs
 
 pub ended-append : (b : Bool) (us vs : List Token) → ended b (us ++ vs) ≡ ended (ended b us) vs
 ended-append b [] vs = refl
@@ -21,7 +21,7 @@ ended-append b (u ∷ us) vs = ended-append (ends u) us vs
 
 pub Free-append : (k d : ℕ) (b : Bool) (us vs : List Token) → Free k d b us → Free k (depth d us) (ended b us) vs → Free k d b (us ++ vs)
 Free-append k d b [] vs f g = g
-Free-append k d b (u ∷ us) vs f g = (f.0, Free-append k (behind d u) (ends u) us vs f.1 g)
+Free-append k d b (u ∷ us) vs f g = (f.0, Free-append k (depth_after d u) (ends u) us vs f.1 g)
 
 -- The brackets match, an operand ends it, and outside all brackets every token has the rank m at least.
 pub record Clean (m : ℕ) (b : Bool) (ts : List Token) : Type 0 where
@@ -44,8 +44,8 @@ both {m} {b} {us} {vs} c e = record {
   last = ended-append b us vs ∙ ap (λ x. ended x vs) c.last ∙ e.last;
 }
 
--- one more token in front, that is no bracket
-ahead : (t : Token) {m : ℕ} (b : Bool) {ts : List Token} → m ≤ rank b t → ((d : ℕ) → behind d t ≡ d) → Clean m (ends t) ts → Clean m b (t ∷ ts)
+-- one more token in@prefix, that is no bracket
+ahead : (t : Token) {m : ℕ} (b : Bool) {ts : List Token} → m ≤ rank b t → ((d : ℕ) → depth_after d t ≡ d) → Clean m (ends t) ts → Clean m b (t ∷ ts)
 ahead t {m} b {ts} le plain c = record {
   flat = λ k h. ((λ e. absurd (omega arith)), rw plain (c.flat k h));
   deep = λ k d. (tt, rw plain (c.deep k d));
@@ -53,11 +53,11 @@ ahead t {m} b {ts} le plain c = record {
   last = c.last;
 }
 
-alone : (t : Token) {m : ℕ} (b : Bool) → m ≤ rank b t → ((d : ℕ) → behind d t ≡ d) → ends t ≡ true → Clean m b (t ∷ [])
+alone : (t : Token) {m : ℕ} (b : Bool) → m ≤ rank b t → ((d : ℕ) → depth_after d t ≡ d) → ends t ≡ true → Clean m b (t ∷ [])
 alone t b le plain e = ahead t b le plain (rw e (empty _))
 
 -- an operator of the rank m between two
-between : (t : Token) {m n : ℕ} {b x : Bool} {us vs : List Token} → Clean m b us → Clean n x vs → ends t ≡ x → ((d : ℕ) → behind d t ≡ d) → m ≤ rank true t → m ≤ n → Clean m b (us ++ t ∷ vs)
+between : (t : Token) {m n : ℕ} {b x : Bool} {us vs : List Token} → Clean m b us → Clean n x vs → ends t ≡ x → ((d : ℕ) → depth_after d t ≡ d) → m ≤ rank true t → m ≤ n → Clean m b (us ++ t ∷ vs)
 between t c e end plain le le' = both c (ahead t true le plain (rw end (weaker le' e)))
 
 -- brackets around
@@ -132,7 +132,7 @@ test_clean (test_named {p} {n}) b = alone (Named p n) b (omega arith) (λ d. ref
 test_clean (test_kind {k}) b = ahead (Kind k) b (omega arith) (λ d. refl) (brackets true (omega arith))
 test_clean (test_target {t}) b = ahead (Kind kind.Instruction) b (omega arith) (λ d. refl) (round_bracket {n = 10} {ts = Literal t ∷ []} (omega arith) (alone (Literal t) false (omega arith) (λ d. refl) refl))
 
-pub clean : {s : Symbol} {ts : List Token} {e : Phrase} → Derives s ts e → (b : Bool) → Stands s b → Clean (least s) b ts
+pub clean : {s : Symbol} {ts : List Token} {e : Phrase} → Derives s ts e → (b : Bool) → MayFollow s b → Clean (least s) b ts
 clean (or_one d) b h = weaker (omega arith) (clean d b h)
 clean (or_more c d) b h = between Or (clean c b h) (clean d false refl) refl (λ d. refl) (omega arith) (omega arith)
 clean (and_one d) b h = weaker (omega arith) (clean d b h)

@@ -3,7 +3,7 @@ use Rattle.std.proofs.Common.{◌≡◌, ◌≢◌, ℕ, zero, suc, ◌<◌, Lis
 use Rattle.std.proofs.lemmas.Bool.{eq-eqb, eqb-true}
 use Rattle.xpath_tokens.specs.declared.Token.{Token}
 use Rattle.xpath_tokens.specs.declared.Token.TheVariants.{Comma, Or, And, Compare, Arithmetic, Bar, Slash, SlashSlash}
-use Rattle.xpath_grammar.specs.Grammar.{Stands, Phrase, Derives, or_one, or_more, and_one, and_more, equality_one, equality_more, relational_one, relational_more, additive_one, additive_more, multiplicative_one, multiplicative_more, union_one, union_more, arguments_one, arguments_more, relative_one, relative_slash, relative_slash_slash, ends, behind, depth, ended}
+use Rattle.xpath_grammar.specs.Grammar.{MayFollow, Phrase, Derives, or_one, or_more, and_one, and_more, equality_one, equality_more, relational_one, relational_more, additive_one, additive_more, multiplicative_one, multiplicative_more, union_one, union_more, arguments_one, arguments_more, relative_one, relative_slash, relative_slash_slash, ends, depth_after, depth, ended}
 use Rattle.xpath_grammar.specs.Cutting.{rank, IsOther, Free, Level, OrLevel, AndLevel, EqualityLevel, RelationalLevel, AdditiveLevel, MultiplicativeLevel, UnionLevel, RelativeLevel, ArgumentLevel, symbol, operand, rank_of, single, combined, Cuts}
 use Rattle.xpath_grammar.proofs.Clean.{Clean, clean, least, rank_equality, rank_relational, rank_additive, rank_multiplicative}
 
@@ -21,7 +21,7 @@ further u None o = o
 -- the last cut of a list at a rank
 abbrev pub last_cut : ℕ → ℕ → Bool → List Token → Option Cut
 last_cut k d b [] = None
-last_cut k d b (t ∷ ts) = further t (last_cut k (behind d t) (ends t) ts) (here k d b t ts)
+last_cut k d b (t ∷ ts) = further t (last_cut k (depth_after d t) (ends t) ts) (here k d b t ts)
 
 cond_other : (m k : ℕ) (c : Option Cut) → m ≢ k → cond (eqb m k) c None ≡ None
 cond_other m k c ne = go (eqb m k) refl
@@ -36,28 +36,28 @@ here_none k (suc d) b t ts ne = refl
 
 pub last_none : (k d : ℕ) (b : Bool) (ts : List Token) → Free k d b ts → last_cut k d b ts ≡ None
 last_none k d b [] f = refl
-last_none k d b (t ∷ ts) f = ap (λ o. further t o (here k d b t ts)) (last_none k (behind d t) (ends t) ts f.1) ∙ here_none k d b t ts f.0
+last_none k d b (t ∷ ts) f = ap (λ o. further t o (here k d b t ts)) (last_none k (depth_after d t) (ends t) ts f.1) ∙ here_none k d b t ts f.0
 
-pub last_at : (k d : ℕ) (b : Bool) (us : List Token) (t : Token) (vs : List Token) → depth d us ≡ 0 → rank (ended b us) t ≡ k → Free k (behind 0 t) (ends t) vs → last_cut k d b (us ++ t ∷ vs) ≡ Some (cut us t vs)
+pub last_at : (k d : ℕ) (b : Bool) (us : List Token) (t : Token) (vs : List Token) → depth d us ≡ 0 → rank (ended b us) t ≡ k → Free k (depth_after 0 t) (ends t) vs → last_cut k d b (us ++ t ∷ vs) ≡ Some (cut us t vs)
 last_at k zero b [] t vs e r f =
-    ap (λ o. further t o (here k 0 b t vs)) (last_none k (behind 0 t) (ends t) vs f) ∙ ap (λ x. cond x (Some (cut [] t vs)) None) (eq-eqb (rank b t) k r)
+    ap (λ o. further t o (here k 0 b t vs)) (last_none k (depth_after 0 t) (ends t) vs f) ∙ ap (λ x. cond x (Some (cut [] t vs)) None) (eq-eqb (rank b t) k r)
 last_at k (suc d) b [] t vs e r f = absurd (omega arith)
-last_at k d b (u ∷ us) t vs e r f = ap (λ o. further u o (here k d b u (us ++ t ∷ vs))) (last_at k (behind d u) (ends u) us t vs e r f)
+last_at k d b (u ∷ us) t vs e r f = ap (λ o. further u o (here k d b u (us ++ t ∷ vs))) (last_at k (depth_after d u) (ends u) us t vs e r f)
 
 pub last_cuts : {k : ℕ} {us vs : List Token} {t : Token} → Cuts k us t vs → last_cut k 0 false (us ++ t ∷ vs) ≡ Some (cut us t vs)
 last_cuts {k} {us} {vs} {t} c = last_at k 0 false us t vs c.level c.is c.later
 
 -- a phrase of two parts
 pub record Parts (l : Level) (ts : List Token) (e : Phrase) : Type 0 where
-  pub front : List Token
+  pub prefix : List Token
   pub token : Token
   pub rest : List Token
   pub one : Phrase
   pub other : Phrase
-  pub left : Derives (symbol l) front one
+  pub left : Derives (symbol l) prefix one
   pub right : Derives (operand l) rest other
-  pub whole : ts ≡ front ++ token ∷ rest
-  pub cuts : Cuts (rank_of l) front token rest
+  pub whole : ts ≡ prefix ++ token ∷ rest
+  pub cuts : Cuts (rank_of l) prefix token rest
   pub value : e ≡ combined token one other
 
 -- a phrase of one part
@@ -66,12 +66,12 @@ pub record Alone (l : Level) (ts : List Token) (e : Phrase) : Type 0 where
   pub derived : Derives (operand l) ts part
   pub value : e ≡ single l part
 
-pub cuts_of : {m n k : ℕ} {us vs : List Token} (t : Token) → Clean m false us → Clean n (ends t) vs → rank true t ≡ k → behind 0 t ≡ 0 → k < n → Cuts k us t vs
+pub cuts_of : {m n k : ℕ} {us vs : List Token} (t : Token) → Clean m false us → Clean n (ends t) vs → rank true t ≡ k → depth_after 0 t ≡ 0 → k < n → Cuts k us t vs
 cuts_of t c d r plain h = record { level = c.level 0; is = rw c.last r; later = rw plain (d.flat _ h) }
 
-unfoldable pub parts : {us vs : List Token} {x y : Phrase} (l : Level) (t : Token) → Derives (symbol l) us x → Derives (operand l) vs y → Stands (symbol l) false → Stands (operand l) (ends t) → rank true t ≡ rank_of l → behind 0 t ≡ 0 → rank_of l < least (operand l) → Parts l (us ++ t ∷ vs) (combined t x y)
+unfoldable pub parts : {us vs : List Token} {x y : Phrase} (l : Level) (t : Token) → Derives (symbol l) us x → Derives (operand l) vs y → MayFollow (symbol l) false → MayFollow (operand l) (ends t) → rank true t ≡ rank_of l → depth_after 0 t ≡ 0 → rank_of l < least (operand l) → Parts l (us ++ t ∷ vs) (combined t x y)
 parts {us} {vs} {x} {y} l t c d h h' r plain lt = record {
-  front = us;
+  prefix = us;
   token = t;
   rest = vs;
   one = x;
@@ -105,16 +105,16 @@ level_cases RelativeLevel (relative_slash_slash c d) = inr (parts RelativeLevel 
 level_cases ArgumentLevel (arguments_one d) = inl (record { part = _; derived = d; value = refl })
 level_cases ArgumentLevel (arguments_more c d) = inr (parts ArgumentLevel Comma c d refl refl refl refl (omega arith))
 
-stands_operand : (l : Level) → Stands (operand l) false
-stands_operand OrLevel = refl
-stands_operand AndLevel = refl
-stands_operand EqualityLevel = refl
-stands_operand RelationalLevel = refl
-stands_operand AdditiveLevel = refl
-stands_operand MultiplicativeLevel = refl
-stands_operand UnionLevel = tt
-stands_operand RelativeLevel = tt
-stands_operand ArgumentLevel = refl
+holds_operand : (l : Level) → MayFollow (operand l) false
+holds_operand OrLevel = refl
+holds_operand AndLevel = refl
+holds_operand EqualityLevel = refl
+holds_operand RelationalLevel = refl
+holds_operand AdditiveLevel = refl
+holds_operand MultiplicativeLevel = refl
+holds_operand UnionLevel = tt
+holds_operand RelativeLevel = tt
+holds_operand ArgumentLevel = refl
 
 rank_below : (l : Level) → rank_of l < least (operand l)
 rank_below OrLevel = omega arith
@@ -127,7 +127,7 @@ rank_below UnionLevel = omega arith
 rank_below RelativeLevel = omega arith
 rank_below ArgumentLevel = omega arith
 
--- where no operator of the level stands outside all brackets there is one part
+-- where no operator of the level is outside all brackets there is one part
 pub no_cut : (l : Level) {ts : List Token} {e : Phrase} → Derives (symbol l) ts e → Free (rank_of l) 0 false ts → Alone l ts e
 no_cut l {ts} {e} d f =
     elim (level_cases l d) [
@@ -151,20 +151,20 @@ pub at_cut : (l : Level) {us vs : List Token} {t : Token} {e : Phrase} → Deriv
 at_cut l {us} {vs} {t} {e} d c =
     elim (level_cases l d) [
       | inl a ↦
-          let none = last_none (rank_of l) 0 false (us ++ t ∷ vs) ((clean a.derived false (stands_operand l)).flat (rank_of l) (rank_below l)) in
+          let none = last_none (rank_of l) 0 false (us ++ t ∷ vs) ((clean a.derived false (holds_operand l)).flat (rank_of l) (rank_below l)) in
           let some = last_cuts c in
           absurd (cc (none, some))
       | inr p ↦
           let mine = last_cuts c in
           let its = last_cuts p.cuts in
           let same = ap (last_cut (rank_of l) 0 false) p.whole in
-          let front : p.front ≡ us = cc (mine, its, same) in
+          let prefix : p.prefix ≡ us = cc (mine, its, same) in
           let token : p.token ≡ t = cc (mine, its, same) in
           let rest : p.rest ≡ vs = cc (mine, its, same) in
           record {
             one = p.one;
             other = p.other;
-            left = subst (λ x. Derives (symbol l) x p.one) front p.left;
+            left = subst (λ x. Derives (symbol l) x p.one) prefix p.left;
             right = subst (λ x. Derives (operand l) x p.other) rest p.right;
             value = p.value ∙ ap (λ x. combined x p.one p.other) token;
           }
@@ -173,7 +173,7 @@ at_cut l {us} {vs} {t} {e} d c =
 -- one phrase only, where the parts have one
 pub one_alone : (l : Level) {ts : List Token} {x : Phrase} → Derives (operand l) ts x → ((y : Phrase) → Derives (operand l) ts y → x ≡ y) → (f : Phrase) → Derives (symbol l) ts f → single l x ≡ f
 one_alone l {ts} {x} d only f g =
-    let a = no_cut l g ((clean d false (stands_operand l)).flat (rank_of l) (rank_below l)) in
+    let a = no_cut l g ((clean d false (holds_operand l)).flat (rank_of l) (rank_below l)) in
     ap (single l) (only a.part a.derived) ∙ sym a.value
 
 pub one_cut : (l : Level) {us vs : List Token} {t : Token} {x y : Phrase} → Cuts (rank_of l) us t vs → ((z : Phrase) → Derives (symbol l) us z → x ≡ z) → ((z : Phrase) → Derives (operand l) vs z → y ≡ z) → (f : Phrase) → Derives (symbol l) (us ++ t ∷ vs) f → combined t x y ≡ f

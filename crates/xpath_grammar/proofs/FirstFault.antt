@@ -1,4 +1,4 @@
--- The first refusal, by the part at the front of an expression and what stands behind it.
+-- The first refusal, by the part at the start of an expression and what is after it.
 use Rattle.std.proofs.Common.{◌≡◌, ℕ, ◌<◌, ◌≤◌, Bool, true, false, cond, not, ◌&&◌, List, [], ◌∷◌, ◌++◌, Option, Some, None, refl, sym, ◌∙◌, ap, subst, arith}
 use Rattle.std.specs.Prelude.{unwrap_or, is_some}
 use Rattle.std.specs.List.{flat_map}
@@ -14,7 +14,7 @@ use Rattle.xpath_grammar.specs.declared.expr.StepTest.{StepTest}
 use Rattle.xpath_grammar.specs.Tree.{Tree, Trees, Walk, or, and, union, compare, arithmetic, negate, path, from, filter, literal, number, variable, call, more, stop, go}
 use Rattle.xpath_grammar.specs.Functions.{gives_nodes}
 use Rattle.xpath_grammar.specs.Static.{Word, other_word, function_word, number_word, Mark, word_fault, listed, refused_at, plain, marked, wanted, axis_marks, axis_fault, test_fault, test_word, begun, marks, list_marks, step_marks, IsFirst}
-use Rattle.xpath_grammar.specs.Checking.{head, first_in, front_of, inner_of, needs_nodes, tail_marks, front_marks, own_fault, first_word, needed_fault, weight, list_weight, step_weight}
+use Rattle.xpath_grammar.specs.Checking.{head, first_in, prefix_of, inner_of, needs_nodes, tail_marks, prefix_marks, own_fault, first_word, needed_fault, weight, list_weight, step_weight}
 
 pub or_else_assoc : {X : Type 0} (a b c : Option X) → or_else (or_else a b) c ≡ or_else a (or_else b c)
 or_else_assoc (Some x) b c = refl
@@ -31,7 +31,7 @@ head-append (f ∷ fs) gs = refl
 pub first_in-append : (bs : List (List ℕ × List ℕ)) (ms ns : List Mark) → first_in bs (ms ++ ns) ≡ or_else (first_in bs ms) (first_in bs ns)
 first_in-append bs ms ns = ap head (flat_map-append (refused_at bs) ms ns) ∙ head-append (flat_map (refused_at bs) ms) (flat_map (refused_at bs) ns)
 
--- one token, and what stands behind it
+-- one token, and what is after it
 head_listed : (o : Option StaticFault) (fs : List StaticFault) → head ((listed o ++ []) ++ fs) ≡ or_else o (head fs)
 head_listed (Some f) fs = refl
 head_listed None fs = refl
@@ -40,40 +40,40 @@ pub first_in-plain : (bs : List (List ℕ × List ℕ)) (w : Word) (ms : List Ma
 first_in-plain bs w ms = head_listed (word_fault bs w) (flat_map (refused_at bs) ms)
 
 -- parts are smaller
-pub front_smaller : (e p : Tree) → front_of e ≡ Some p → weight p < weight e
-front_smaller (or a b) p h = let k : a ≡ p = cc in subst (λ x. weight x < weight (or a b)) k (omega arith)
-front_smaller (and a b) p h = let k : a ≡ p = cc in subst (λ x. weight x < weight (and a b)) k (omega arith)
-front_smaller (compare how a b) p h = let k : a ≡ p = cc in subst (λ x. weight x < weight (compare how a b)) k (omega arith)
-front_smaller (arithmetic op a b) p h = let k : a ≡ p = cc in subst (λ x. weight x < weight (arithmetic op a b)) k (omega arith)
-front_smaller (union a b) p h = let k : a ≡ p = cc in subst (λ x. weight x < weight (union a b)) k (omega arith)
-front_smaller (from a w) p h = let k : a ≡ p = cc in subst (λ x. weight x < weight (from a w)) k (omega arith)
-front_smaller (filter a ps) p h = let k : a ≡ p = cc in subst (λ x. weight x < weight (filter a ps)) k (omega arith)
-front_smaller (negate a) p h = absurd cc
-front_smaller (path b w) p h = absurd cc
-front_smaller (literal t) p h = absurd cc
-front_smaller (number t) p h = absurd cc
-front_smaller (variable n) p h = absurd cc
-front_smaller (call f es) p h = absurd cc
+pub prefix_smaller : (e p : Tree) → prefix_of e ≡ Some p → weight p < weight e
+prefix_smaller (or a b) p h = let k : a ≡ p = cc in subst (λ x. weight x < weight (or a b)) k (omega arith)
+prefix_smaller (and a b) p h = let k : a ≡ p = cc in subst (λ x. weight x < weight (and a b)) k (omega arith)
+prefix_smaller (compare how a b) p h = let k : a ≡ p = cc in subst (λ x. weight x < weight (compare how a b)) k (omega arith)
+prefix_smaller (arithmetic op a b) p h = let k : a ≡ p = cc in subst (λ x. weight x < weight (arithmetic op a b)) k (omega arith)
+prefix_smaller (union a b) p h = let k : a ≡ p = cc in subst (λ x. weight x < weight (union a b)) k (omega arith)
+prefix_smaller (from a w) p h = let k : a ≡ p = cc in subst (λ x. weight x < weight (from a w)) k (omega arith)
+prefix_smaller (filter a ps) p h = let k : a ≡ p = cc in subst (λ x. weight x < weight (filter a ps)) k (omega arith)
+prefix_smaller (negate a) p h = absurd cc
+prefix_smaller (path b w) p h = absurd cc
+prefix_smaller (literal t) p h = absurd cc
+prefix_smaller (number t) p h = absurd cc
+prefix_smaller (variable n) p h = absurd cc
+prefix_smaller (call f es) p h = absurd cc
 
 pub inner_smaller : (e p : Tree) → inner_of e ≡ Some p → weight p < weight e
 inner_smaller (negate a) p h = let k : a ≡ p = cc in subst (λ x. weight x < weight (negate a)) k (omega arith)
-inner_smaller e p h = front_smaller e p h
+inner_smaller e p h = prefix_smaller e p h
 
 -- the first token
-pub front_word : (e p : Tree) → front_of e ≡ Some p → first_word e ≡ first_word p
-front_word (or a b) p h = let k : a ≡ p = cc in ap first_word k
-front_word (and a b) p h = let k : a ≡ p = cc in ap first_word k
-front_word (compare how a b) p h = let k : a ≡ p = cc in ap first_word k
-front_word (arithmetic op a b) p h = let k : a ≡ p = cc in ap first_word k
-front_word (union a b) p h = let k : a ≡ p = cc in ap first_word k
-front_word (from a w) p h = let k : a ≡ p = cc in ap first_word k
-front_word (filter a ps) p h = let k : a ≡ p = cc in ap first_word k
-front_word (negate a) p h = absurd cc
-front_word (path b w) p h = absurd cc
-front_word (literal t) p h = absurd cc
-front_word (number t) p h = absurd cc
-front_word (variable n) p h = absurd cc
-front_word (call f es) p h = absurd cc
+pub prefix_word : (e p : Tree) → prefix_of e ≡ Some p → first_word e ≡ first_word p
+prefix_word (or a b) p h = let k : a ≡ p = cc in ap first_word k
+prefix_word (and a b) p h = let k : a ≡ p = cc in ap first_word k
+prefix_word (compare how a b) p h = let k : a ≡ p = cc in ap first_word k
+prefix_word (arithmetic op a b) p h = let k : a ≡ p = cc in ap first_word k
+prefix_word (union a b) p h = let k : a ≡ p = cc in ap first_word k
+prefix_word (from a w) p h = let k : a ≡ p = cc in ap first_word k
+prefix_word (filter a ps) p h = let k : a ≡ p = cc in ap first_word k
+prefix_word (negate a) p h = absurd cc
+prefix_word (path b w) p h = absurd cc
+prefix_word (literal t) p h = absurd cc
+prefix_word (number t) p h = absurd cc
+prefix_word (variable n) p h = absurd cc
+prefix_word (call f es) p h = absurd cc
 
 record Begins (ms : List Mark) (w : Word) : Type 0 where
   flag : Bool
@@ -144,7 +144,7 @@ wanted_lacking bs nodes e h = rw h (first_marked bs e)
 pub wanted_fine : (nodes : Bool) (e : Tree) (ms : List Mark) → (nodes && not (gives_nodes e)) ≡ false → wanted nodes e ms ≡ ms
 wanted_fine nodes e ms h = rw h refl
 
--- an expression is its front and what stands behind it
+-- an expression is its prefix and what is after it
 begun_cons : (m : Mark) (ms : List Mark) → begun (m ∷ ms) ≡ m ∷ ms
 begun_cons m ms = refl
 
@@ -163,7 +163,7 @@ begun_step (Known DescendantOrSelf) t ps w = refl
 begun_step (Known AncestorOrSelf) t ps w = refl
 begun_step Namespace t ps w = refl
 
-split : (e : Tree) → marks e ≡ front_marks e ++ tail_marks e
+split : (e : Tree) → marks e ≡ prefix_marks e ++ tail_marks e
 split (or a b) = refl
 split (and a b) = refl
 split (compare how a b) = refl
@@ -180,65 +180,65 @@ split (number t) = refl
 split (variable n) = refl
 split (call f es) = refl
 
-pub split_first : (bs : List (List ℕ × List ℕ)) (e : Tree) → first_in bs (marks e) ≡ or_else (first_in bs (front_marks e)) (first_in bs (tail_marks e))
-split_first bs e = ap (first_in bs) (split e) ∙ first_in-append bs (front_marks e) (tail_marks e)
+pub split_first : (bs : List (List ℕ × List ℕ)) (e : Tree) → first_in bs (marks e) ≡ or_else (first_in bs (prefix_marks e)) (first_in bs (tail_marks e))
+split_first bs e = ap (first_in bs) (split e) ∙ first_in-append bs (prefix_marks e) (tail_marks e)
 
-pub front_first : (bs : List (List ℕ × List ℕ)) (e p : Tree) → inner_of e ≡ Some p → first_in bs (front_marks e) ≡ first_in bs (wanted (needs_nodes e) p (marks p))
-front_first bs (or a b) p h = let k : a ≡ p = cc in ap (λ x. first_in bs (marks x)) k
-front_first bs (and a b) p h = let k : a ≡ p = cc in ap (λ x. first_in bs (marks x)) k
-front_first bs (compare how a b) p h = let k : a ≡ p = cc in ap (λ x. first_in bs (marks x)) k
-front_first bs (arithmetic op a b) p h = let k : a ≡ p = cc in ap (λ x. first_in bs (marks x)) k
-front_first bs (negate a) p h = let k : a ≡ p = cc in ap (λ x. first_in bs (marks x)) k
-front_first bs (union a b) p h = let k : a ≡ p = cc in ap (λ x. first_in bs (wanted true x (marks x))) k
-front_first bs (from e w) p h = let k : e ≡ p = cc in ap (λ x. first_in bs (wanted true x (marks x))) k
-front_first bs (filter e ps) p h = let k : e ≡ p = cc in ap (λ x. first_in bs (wanted true x (marks x))) k
-front_first bs (path b w) p h = absurd cc
-front_first bs (literal t) p h = absurd cc
-front_first bs (number t) p h = absurd cc
-front_first bs (variable n) p h = absurd cc
-front_first bs (call f es) p h = absurd cc
+pub prefix_first : (bs : List (List ℕ × List ℕ)) (e p : Tree) → inner_of e ≡ Some p → first_in bs (prefix_marks e) ≡ first_in bs (wanted (needs_nodes e) p (marks p))
+prefix_first bs (or a b) p h = let k : a ≡ p = cc in ap (λ x. first_in bs (marks x)) k
+prefix_first bs (and a b) p h = let k : a ≡ p = cc in ap (λ x. first_in bs (marks x)) k
+prefix_first bs (compare how a b) p h = let k : a ≡ p = cc in ap (λ x. first_in bs (marks x)) k
+prefix_first bs (arithmetic op a b) p h = let k : a ≡ p = cc in ap (λ x. first_in bs (marks x)) k
+prefix_first bs (negate a) p h = let k : a ≡ p = cc in ap (λ x. first_in bs (marks x)) k
+prefix_first bs (union a b) p h = let k : a ≡ p = cc in ap (λ x. first_in bs (wanted true x (marks x))) k
+prefix_first bs (from e w) p h = let k : e ≡ p = cc in ap (λ x. first_in bs (wanted true x (marks x))) k
+prefix_first bs (filter e ps) p h = let k : e ≡ p = cc in ap (λ x. first_in bs (wanted true x (marks x))) k
+prefix_first bs (path b w) p h = absurd cc
+prefix_first bs (literal t) p h = absurd cc
+prefix_first bs (number t) p h = absurd cc
+prefix_first bs (variable n) p h = absurd cc
+prefix_first bs (call f es) p h = absurd cc
 
-pub front_own : (bs : List (List ℕ × List ℕ)) (e : Tree) → inner_of e ≡ None → first_in bs (front_marks e) ≡ own_fault e
-front_own bs (or a b) h = absurd cc
-front_own bs (and a b) h = absurd cc
-front_own bs (compare how a b) h = absurd cc
-front_own bs (arithmetic op a b) h = absurd cc
-front_own bs (negate a) h = absurd cc
-front_own bs (union a b) h = absurd cc
-front_own bs (from e w) h = absurd cc
-front_own bs (filter e ps) h = absurd cc
-front_own bs (path true w) h = refl
-front_own bs (path false stop) h = refl
-front_own bs (path false (go a t ps w)) h = refl
-front_own bs (literal t) h = refl
-front_own bs (number t) h = first_in-plain bs (number_word t) [] ∙ or_else_none (own_fault (number t))
-front_own bs (variable n) h = refl
-front_own bs (call f es) h = first_in-plain bs (function_word f es) [] ∙ or_else_none (own_fault (call f es))
+pub prefix_own : (bs : List (List ℕ × List ℕ)) (e : Tree) → inner_of e ≡ None → first_in bs (prefix_marks e) ≡ own_fault e
+prefix_own bs (or a b) h = absurd cc
+prefix_own bs (and a b) h = absurd cc
+prefix_own bs (compare how a b) h = absurd cc
+prefix_own bs (arithmetic op a b) h = absurd cc
+prefix_own bs (negate a) h = absurd cc
+prefix_own bs (union a b) h = absurd cc
+prefix_own bs (from e w) h = absurd cc
+prefix_own bs (filter e ps) h = absurd cc
+prefix_own bs (path true w) h = refl
+prefix_own bs (path false stop) h = refl
+prefix_own bs (path false (go a t ps w)) h = refl
+prefix_own bs (literal t) h = refl
+prefix_own bs (number t) h = first_in-plain bs (number_word t) [] ∙ or_else_none (own_fault (number t))
+prefix_own bs (variable n) h = refl
+prefix_own bs (call f es) h = first_in-plain bs (function_word f es) [] ∙ or_else_none (own_fault (call f es))
 
--- what the working function knows that goes down the fronts
-pub record Descends (bs : List (List ℕ × List ℕ)) (whole front : Tree) (found : Option StaticFault) : Type 0 where
-  pub same : first_in bs (marks whole) ≡ or_else (first_in bs (front_marks front)) found
-  pub smaller : weight front ≤ weight whole
+-- what the working function knows that goes down the prefixes
+pub record Descends (bs : List (List ℕ × List ℕ)) (whole prefix : Tree) (found : Option StaticFault) : Type 0 where
+  pub same : first_in bs (marks whole) ≡ or_else (first_in bs (prefix_marks prefix)) found
+  pub smaller : weight prefix ≤ weight whole
 
 pub descends_begin : (bs : List (List ℕ × List ℕ)) (e : Tree) {found : Option StaticFault} → found ≡ first_in bs (tail_marks e) → Descends bs e e found
-descends_begin bs e h = record { same = split_first bs e ∙ ap (or_else (first_in bs (front_marks e))) (sym h); smaller = omega arith }
+descends_begin bs e h = record { same = split_first bs e ∙ ap (or_else (first_in bs (prefix_marks e))) (sym h); smaller = omega arith }
 
-pub descends_on : (bs : List (List ℕ × List ℕ)) {whole front : Tree} {found tail : Option StaticFault} (p : Tree) → Descends bs whole front found → inner_of front ≡ Some p → (needs_nodes front && not (gives_nodes p)) ≡ false → tail ≡ first_in bs (tail_marks p) → Descends bs whole p (or_else tail found)
-descends_on bs {whole} {front} {found} {tail} p d h fine t =
-    let s = inner_smaller front p h in
+pub descends_on : (bs : List (List ℕ × List ℕ)) {whole prefix : Tree} {found tail : Option StaticFault} (p : Tree) → Descends bs whole prefix found → inner_of prefix ≡ Some p → (needs_nodes prefix && not (gives_nodes p)) ≡ false → tail ≡ first_in bs (tail_marks p) → Descends bs whole p (or_else tail found)
+descends_on bs {whole} {prefix} {found} {tail} p d h fine t =
+    let s = inner_smaller prefix p h in
     let m = d.smaller in
-    let f : first_in bs (front_marks front) ≡ or_else (first_in bs (front_marks p)) tail = front_first bs front p h ∙ ap (first_in bs) (wanted_fine (needs_nodes front) p (marks p) fine) ∙ split_first bs p ∙ ap (or_else (first_in bs (front_marks p))) (sym t) in
+    let f : first_in bs (prefix_marks prefix) ≡ or_else (first_in bs (prefix_marks p)) tail = prefix_first bs prefix p h ∙ ap (first_in bs) (wanted_fine (needs_nodes prefix) p (marks p) fine) ∙ split_first bs p ∙ ap (or_else (first_in bs (prefix_marks p))) (sym t) in
     record {
-      same = d.same ∙ ap (λ x. or_else x found) f ∙ or_else_assoc (first_in bs (front_marks p)) tail found;
+      same = d.same ∙ ap (λ x. or_else x found) f ∙ or_else_assoc (first_in bs (prefix_marks p)) tail found;
       smaller = omega (arith, s, m);
     }
 
-pub descends_lacking : (bs : List (List ℕ × List ℕ)) {whole front : Tree} {found : Option StaticFault} (p : Tree) → Descends bs whole front found → inner_of front ≡ Some p → (needs_nodes front && not (gives_nodes p)) ≡ true → Some (needed_fault bs p) ≡ first_in bs (marks whole)
-descends_lacking bs {whole} {front} {found} p d h n =
-    sym (d.same ∙ ap (λ x. or_else x found) (front_first bs front p h ∙ wanted_lacking bs (needs_nodes front) p n))
+pub descends_lacking : (bs : List (List ℕ × List ℕ)) {whole prefix : Tree} {found : Option StaticFault} (p : Tree) → Descends bs whole prefix found → inner_of prefix ≡ Some p → (needs_nodes prefix && not (gives_nodes p)) ≡ true → Some (needed_fault bs p) ≡ first_in bs (marks whole)
+descends_lacking bs {whole} {prefix} {found} p d h n =
+    sym (d.same ∙ ap (λ x. or_else x found) (prefix_first bs prefix p h ∙ wanted_lacking bs (needs_nodes prefix) p n))
 
-pub descends_end : (bs : List (List ℕ × List ℕ)) {whole front : Tree} {found : Option StaticFault} → Descends bs whole front found → inner_of front ≡ None → or_else (own_fault front) found ≡ first_in bs (marks whole)
-descends_end bs {whole} {front} {found} d h = sym (d.same ∙ ap (λ x. or_else x found) (front_own bs front h))
+pub descends_end : (bs : List (List ℕ × List ℕ)) {whole prefix : Tree} {found : Option StaticFault} → Descends bs whole prefix found → inner_of prefix ≡ None → or_else (own_fault prefix) found ≡ first_in bs (marks whole)
+descends_end bs {whole} {prefix} {found} d h = sym (d.same ∙ ap (λ x. or_else x found) (prefix_own bs prefix h))
 
 -- lists and steps
 pub list_first : (bs : List (List ℕ × List ℕ)) (nodes : Bool) (e : Tree) (es : Trees) → first_in bs (list_marks nodes (more e es)) ≡ or_else (first_in bs (wanted nodes e (marks e))) (first_in bs (list_marks false es))

@@ -12,9 +12,9 @@ use Rattle.xpath_tokens.specs.declared.NodeType.TheVariants as kind
 use Rattle.xpath_grammar.specs.declared.expr.StepTest.{StepTest}
 use Rattle.xpath_grammar.specs.declared.expr.StepTest.TheVariants as test
 use Rattle.xpath_grammar.specs.Tree.{Tree, Trees, Walk, negate, path, from, literal, number, variable, call, none, stop, go}
-use Rattle.xpath_grammar.specs.Grammar.{Symbol, OrExpr, UnaryExpr, UnionExpr, PathExpr, FilterExpr, PrimaryExpr, Arguments, LocationPath, RelativeLocationPath, StepPart, Predicates, Predicate, Phrase, expr, exprs, filtered, walk, appended, filter_tree, any_depth, Derives, unary_one, unary_minus, path_location, path_filter, path_slash, path_slash_slash, filter_one, filter_more, primary_bracket, primary_variable, primary_literal, primary_number, call_none, call_some, location_relative, location_root, location_slash, location_slash_slash, relative_one, relative_slash, relative_slash_slash, step, step_dot, step_dots, IsAxis, axis_name, axis_at, axis_child, IsTest, test_any, test_any_in, test_named, test_kind, test_target, kind_test, predicates_none, predicates_more, predicate, ends, behind, depth, ended}
-use Rattle.xpath_grammar.specs.Cutting.{rank, Free, behind_slash}
-use Rattle.xpath_grammar.specs.Shape.{starts_primary, first, axis_of, behind_axis, test_of, behind_test, dot_axis}
+use Rattle.xpath_grammar.specs.Grammar.{Symbol, OrExpr, UnaryExpr, UnionExpr, PathExpr, FilterExpr, PrimaryExpr, Arguments, LocationPath, RelativeLocationPath, StepPart, Predicates, Predicate, Phrase, expr, exprs, filtered, walk, appended, filter_tree, any_depth, Derives, unary_one, unary_minus, path_location, path_filter, path_slash, path_slash_slash, filter_one, filter_more, primary_bracket, primary_variable, primary_literal, primary_number, call_none, call_some, location_relative, location_root, location_slash, location_slash_slash, relative_one, relative_slash, relative_slash_slash, step, step_dot, step_dots, IsAxis, axis_name, axis_at, axis_child, IsTest, test_any, test_any_in, test_named, test_kind, test_target, kind_test, predicates_none, predicates_more, predicate, ends, depth_after, depth, ended}
+use Rattle.xpath_grammar.specs.Cutting.{rank, Free, after_slash}
+use Rattle.xpath_grammar.specs.Shape.{starts_primary, first, axis_of, after_axis, test_of, after_test, dot_axis}
 use Rattle.xpath_grammar.proofs.Clean.{clean, Free-append}
 use Rattle.xpath_grammar.proofs.Cut.{Cut, cut, here, here_none, last_cut, last_at}
 
@@ -120,31 +120,31 @@ earlier None u None = None
 
 abbrev pub first_cut : ℕ → ℕ → Bool → List Token → Option Cut
 first_cut k d b [] = None
-first_cut k d b (t ∷ ts) = earlier (here k d b t ts) t (first_cut k (behind d t) (ends t) ts)
+first_cut k d b (t ∷ ts) = earlier (here k d b t ts) t (first_cut k (depth_after d t) (ends t) ts)
 
 pub first_none : (k d : ℕ) (b : Bool) (ts : List Token) → Free k d b ts → first_cut k d b ts ≡ None
 first_none k d b [] f = refl
 first_none k d b (t ∷ ts) f =
-    ap (λ o. earlier o t (first_cut k (behind d t) (ends t) ts)) (here_none k d b t ts f.0) ∙ ap (earlier None t) (first_none k (behind d t) (ends t) ts f.1)
+    ap (λ o. earlier o t (first_cut k (depth_after d t) (ends t) ts)) (here_none k d b t ts f.0) ∙ ap (earlier None t) (first_none k (depth_after d t) (ends t) ts f.1)
 
 pub first_at : (k d : ℕ) (b : Bool) (us : List Token) (t : Token) (vs : List Token) → Free k d b us → depth d us ≡ 0 → rank (ended b us) t ≡ k → first_cut k d b (us ++ t ∷ vs) ≡ Some (cut us t vs)
-first_at k zero b [] t vs f e r = ap (λ x. earlier (cond x (Some (cut [] t vs)) None) t (first_cut k (behind 0 t) (ends t) vs)) (eq-eqb (rank b t) k r)
+first_at k zero b [] t vs f e r = ap (λ x. earlier (cond x (Some (cut [] t vs)) None) t (first_cut k (depth_after 0 t) (ends t) vs)) (eq-eqb (rank b t) k r)
 first_at k (suc d) b [] t vs f e r = absurd (omega arith)
 first_at k d b (u ∷ us) t vs f e r =
-    ap (λ o. earlier o u (first_cut k (behind d u) (ends u) (us ++ t ∷ vs))) (here_none k d b u (us ++ t ∷ vs) f.0) ∙ ap (earlier None u) (first_at k (behind d u) (ends u) us t vs f.1 e r)
+    ap (λ o. earlier o u (first_cut k (depth_after d u) (ends u) (us ++ t ∷ vs))) (here_none k d b u (us ++ t ∷ vs) f.0) ∙ ap (earlier None u) (first_at k (depth_after d u) (ends u) us t vs f.1 e r)
 
 pub record Fromed (ts : List Token) (e : Phrase) : Type 0 where
-  pub front : List Token
+  pub prefix : List Token
   pub token : Token
   pub rest : List Token
   pub start : Tree
   pub predicates : Trees
   pub steps : Walk
-  pub left : Derives FilterExpr front (filtered start predicates)
+  pub left : Derives FilterExpr prefix (filtered start predicates)
   pub right : Derives RelativeLocationPath rest (walk steps)
-  pub whole : ts ≡ front ++ token ∷ rest
-  pub cuts : first_cut 9 0 false (front ++ token ∷ rest) ≡ Some (cut front token rest)
-  pub value : e ≡ expr (from (filter_tree start predicates) (behind_slash token steps))
+  pub whole : ts ≡ prefix ++ token ∷ rest
+  pub cuts : first_cut 9 0 false (prefix ++ token ∷ rest) ≡ Some (cut prefix token rest)
+  pub value : e ≡ expr (from (filter_tree start predicates) (after_slash token steps))
 
 pub data PathForm (ts : List Token) (e : Phrase) : Type 0 where
   is_location : Derives LocationPath ts e → PathForm ts e
@@ -159,10 +159,10 @@ slash_cut {us} t vs d r =
 pub path_cases : {ts : List Token} {e : Phrase} → Derives PathExpr ts e → PathForm ts e
 path_cases (path_location d) = is_location d
 path_cases (path_filter d) = is_filter d refl
-path_cases (path_slash c d) = is_from (record { front = _; token = Slash; rest = _; start = _; predicates = _; steps = _; left = c; right = d; whole = refl; cuts = slash_cut Slash _ c refl; value = refl })
-path_cases (path_slash_slash c d) = is_from (record { front = _; token = SlashSlash; rest = _; start = _; predicates = _; steps = _; left = c; right = d; whole = refl; cuts = slash_cut SlashSlash _ c refl; value = refl })
+path_cases (path_slash c d) = is_from (record { prefix = _; token = Slash; rest = _; start = _; predicates = _; steps = _; left = c; right = d; whole = refl; cuts = slash_cut Slash _ c refl; value = refl })
+path_cases (path_slash_slash c d) = is_from (record { prefix = _; token = SlashSlash; rest = _; start = _; predicates = _; steps = _; left = c; right = d; whole = refl; cuts = slash_cut SlashSlash _ c refl; value = refl })
 
--- a predicate behind something
+-- a predicate after something
 pub record Bracketed (vs : List Token) (e : Phrase) : Type 0 where
   pub inner : List Token
   pub part : Tree
@@ -191,14 +191,14 @@ same_cuts {us} {vs} {us'} {vs'} h h' d d' same =
     (cc (w, x, y), cc (w, x, y))
 
 pub record Filtered (ts : List Token) (e : Phrase) : Type 0 where
-  pub front : List Token
+  pub prefix : List Token
   pub rest : List Token
   pub start : Tree
   pub predicates : Trees
   pub part : Tree
-  pub left : Derives FilterExpr front (filtered start predicates)
+  pub left : Derives FilterExpr prefix (filtered start predicates)
   pub right : Derives Predicate rest (expr part)
-  pub whole : ts ≡ front ++ rest
+  pub whole : ts ≡ prefix ++ rest
   pub value : e ≡ filtered start (appended predicates part)
 
 pub record OnePrimary (ts : List Token) (e : Phrase) : Type 0 where
@@ -208,21 +208,21 @@ pub record OnePrimary (ts : List Token) (e : Phrase) : Type 0 where
 
 pub filter_cases : {ts : List Token} {e : Phrase} → Derives FilterExpr ts e → OnePrimary ts e ⊎ Filtered ts e
 filter_cases (filter_one d) = inl (record { part = _; derived = d; value = refl })
-filter_cases (filter_more c d) = inr (record { front = _; rest = _; start = _; predicates = _; part = _; left = c; right = d; whole = refl; value = refl })
+filter_cases (filter_more c d) = inr (record { prefix = _; rest = _; start = _; predicates = _; part = _; left = c; right = d; whole = refl; value = refl })
 
 pub record More (ts : List Token) (e : Phrase) : Type 0 where
-  pub front : List Token
+  pub prefix : List Token
   pub rest : List Token
   pub predicates : Trees
   pub part : Tree
-  pub left : Derives Predicates front (exprs predicates)
+  pub left : Derives Predicates prefix (exprs predicates)
   pub right : Derives Predicate rest (expr part)
-  pub whole : ts ≡ front ++ rest
+  pub whole : ts ≡ prefix ++ rest
   pub value : e ≡ exprs (appended predicates part)
 
 pub predicates_cases : {ts : List Token} {e : Phrase} → Derives Predicates ts e → ((ts ≡ []) × (e ≡ exprs none)) ⊎ More ts e
 predicates_cases predicates_none = inl (refl, refl)
-predicates_cases (predicates_more c d) = inr (record { front = _; rest = _; predicates = _; part = _; left = c; right = d; whole = refl; value = refl })
+predicates_cases (predicates_more c d) = inr (record { prefix = _; rest = _; predicates = _; part = _; left = c; right = d; whole = refl; value = refl })
 
 -- the forms that the first tokens show
 pub primary_open : {us : List Token} {e : Phrase} → Derives PrimaryExpr (Open ∷ us) e → (ts : List Token) × (a : Tree) × Derives OrExpr ts (expr a) × (us ≡ ts ++ Close ∷ []) × (e ≡ expr a)
@@ -314,7 +314,7 @@ location_other (location_slash d) h = cc
 location_other (location_slash_slash d) h = cc
 
 -- the parts of a step that its first tokens show
-pub axis_read : {us vs : List Token} (ws : List Token) {a : StepAxis} {t : StepTest} → IsAxis us a → IsTest vs t → (axis_of (us ++ (vs ++ ws)) ≡ a) × (behind_axis (us ++ (vs ++ ws)) ≡ vs ++ ws)
+pub axis_read : {us vs : List Token} (ws : List Token) {a : StepAxis} {t : StepTest} → IsAxis us a → IsTest vs t → (axis_of (us ++ (vs ++ ws)) ≡ a) × (after_axis (us ++ (vs ++ ws)) ≡ vs ++ ws)
 axis_read ws axis_name t = (refl, refl)
 axis_read ws axis_at t = (refl, refl)
 axis_read ws axis_child test_any = (refl, refl)
@@ -323,10 +323,10 @@ axis_read ws axis_child test_named = (refl, refl)
 axis_read ws axis_child test_kind = (refl, refl)
 axis_read ws axis_child test_target = (refl, refl)
 
-read_kind : (k : NodeType) (ws : List Token) → (test_of (Kind k ∷ Open ∷ Close ∷ ws) ≡ Some (kind_test k)) × (behind_test (Kind k ∷ Open ∷ Close ∷ ws) ≡ ws)
+read_kind : (k : NodeType) (ws : List Token) → (test_of (Kind k ∷ Open ∷ Close ∷ ws) ≡ Some (kind_test k)) × (after_test (Kind k ∷ Open ∷ Close ∷ ws) ≡ ws)
 read_kind k ws = (refl, refl)
 
-pub test_read : {vs : List Token} (ws : List Token) {t : StepTest} → IsTest vs t → (test_of (vs ++ ws) ≡ Some t) × (behind_test (vs ++ ws) ≡ ws)
+pub test_read : {vs : List Token} (ws : List Token) {t : StepTest} → IsTest vs t → (test_of (vs ++ ws) ≡ Some t) × (after_test (vs ++ ws) ≡ ws)
 test_read ws test_any = (refl, refl)
 test_read ws test_any_in = (refl, refl)
 test_read ws test_named = (refl, refl)
@@ -336,8 +336,8 @@ test_read ws test_target = (refl, refl)
 pub record Stepped (ts : List Token) (e : Phrase) : Type 0 where
   pub test : StepTest
   pub predicates : Trees
-  pub is_test : test_of (behind_axis ts) ≡ Some test
-  pub derived : Derives Predicates (behind_test (behind_axis ts)) (exprs predicates)
+  pub is_test : test_of (after_axis ts) ≡ Some test
+  pub derived : Derives Predicates (after_test (after_axis ts)) (exprs predicates)
   pub value : e ≡ walk (go (axis_of ts) test predicates stop)
 
 pub data StepForm (ts : List Token) (e : Phrase) : Type 0 where
@@ -362,20 +362,20 @@ step_cases (step us vs ws {t = t} {ps} a test d) =
       test = t;
       predicates = ps;
       is_test = ap test_of x.1 ∙ y.0;
-      derived = subst (λ z. Derives Predicates z (exprs ps)) (sym (ap behind_test x.1 ∙ y.1)) d;
+      derived = subst (λ z. Derives Predicates z (exprs ps)) (sym (ap after_test x.1 ∙ y.1)) d;
       value = ap (λ z. walk (go z t ps stop)) (sym x.0);
     })
 step_cases step_dot = is_dot refl refl
 step_cases step_dots = is_dots refl refl
 
 -- the tokens of an axis part and of a node test
-pub axis_split : (ts : List Token) → (us : List Token) × IsAxis us (axis_of ts) × (ts ≡ us ++ behind_axis ts)
+pub axis_split : (ts : List Token) → (us : List Token) × IsAxis us (axis_of ts) × (ts ≡ us ++ after_axis ts)
 axis_split [] = ([], axis_child, refl)
 axis_split (AxisName a ∷ ColonColon ∷ ts) = (AxisName a ∷ ColonColon ∷ [], axis_name, refl)
 axis_split (At ∷ ts) = (At ∷ [], axis_at, refl)
 axis_split ts = ([], axis_child, refl)
 
-pub test_split : (ts : List Token) (t : StepTest) → test_of ts ≡ Some t → (vs : List Token) × IsTest vs t × (ts ≡ vs ++ behind_test ts)
+pub test_split : (ts : List Token) (t : StepTest) → test_of ts ≡ Some t → (vs : List Token) × IsTest vs t × (ts ≡ vs ++ after_test ts)
 test_split (Any ∷ ts) t h = let e : test.Any ≡ t = cc in (Any ∷ [], subst (λ z. IsTest (Any ∷ []) z) e test_any, refl)
 test_split (AnyIn p ∷ ts) t h = let e : test.AnyIn p ≡ t = cc in (AnyIn p ∷ [], subst (λ z. IsTest (AnyIn p ∷ []) z) e test_any_in, refl)
 test_split (Named p n ∷ ts) t h = let e : test.Named p n ≡ t = cc in (Named p n ∷ [], subst (λ z. IsTest (Named p n ∷ []) z) e test_named, refl)

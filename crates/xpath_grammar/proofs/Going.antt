@@ -4,7 +4,7 @@ use Rattle.std.proofs.lemmas.List.{take_more, take-append-drop, take-append-le, 
 use Rattle.xpath_grammar.proofs.Ends.{same_last}
 use Rattle.xpath_tokens.specs.declared.Token.{Token}
 use Rattle.xpath_tokens.specs.declared.Token.TheVariants.{Open, Close, OpenSquare, CloseSquare}
-use Rattle.xpath_grammar.specs.Grammar.{ends, behind, depth, ended}
+use Rattle.xpath_grammar.specs.Grammar.{ends, depth_after, depth, ended}
 use Rattle.xpath_grammar.specs.Cutting.{rank, IsOther, Free, CutsAt, AreCuts, no_more, further_cut, FirstAt}
 use Rattle.xpath_grammar.proofs.Clean.{depth-append, ended-append, Free-append}
 
@@ -15,20 +15,20 @@ pub record Scanned (done : List Token) (opened : ℕ) (after : Bool) (i : ℕ) :
   pub low : opened ≤ i
   pub place : length done ≡ i
 
-behind_low : (d : ℕ) (t : Token) {i : ℕ} → d ≤ i → behind d t ≤ suc i
-behind_low d Open h = omega arith
-behind_low d OpenSquare h = omega arith
-behind_low zero Close h = omega arith
-behind_low (suc d) Close h = omega arith
-behind_low zero CloseSquare h = omega arith
-behind_low (suc d) CloseSquare h = omega arith
-behind_low d _ h = omega arith
+after_low : (d : ℕ) (t : Token) {i : ℕ} → d ≤ i → depth_after d t ≤ suc i
+after_low d Open h = omega arith
+after_low d OpenSquare h = omega arith
+after_low zero Close h = omega arith
+after_low (suc d) Close h = omega arith
+after_low zero CloseSquare h = omega arith
+after_low (suc d) CloseSquare h = omega arith
+after_low d _ h = omega arith
 
-pub scanned_more : (xs : List Token) (t : Token) {opened i : ℕ} {after : Bool} → Scanned xs opened after i → Scanned (xs ++ t ∷ []) (behind opened t) (ends t) (suc i)
+pub scanned_more : (xs : List Token) (t : Token) {opened i : ℕ} {after : Bool} → Scanned xs opened after i → Scanned (xs ++ t ∷ []) (depth_after opened t) (ends t) (suc i)
 scanned_more xs t {opened} {i} s = record {
   level = rw (s.level) (sym (depth-append 0 xs (t ∷ [])));
   flag = sym (ended-append false xs (t ∷ []));
-  low = behind_low opened t s.low;
+  low = after_low opened t s.low;
   place = length-append xs (t ∷ []) ∙ omega (arith, s.place);
 }
 
@@ -39,25 +39,25 @@ other k t (suc d) after h = tt
 cut_more : (k : ℕ) (xs : List Token) (t : Token) (i : ℕ) → IsOther k (depth 0 xs) (ended false xs) t → CutsAt k xs i → CutsAt k (xs ++ t ∷ []) i
 cut_more k xs t i h f =
     let w = f.whole in
-    let d : depth (behind 0 f.token) f.rest ≡ depth 0 xs = ap (λ x. depth (behind x f.token) f.rest) (sym f.cuts.level) ∙ sym (depth-append 0 f.front (f.token ∷ f.rest)) ∙ ap (depth 0) (sym w) in
-    let e : ended (ends f.token) f.rest ≡ ended false xs = sym (ended-append false f.front (f.token ∷ f.rest)) ∙ ap (ended false) (sym w) in
+    let d : depth (depth_after 0 f.token) f.rest ≡ depth 0 xs = ap (λ x. depth (depth_after x f.token) f.rest) (sym f.cuts.level) ∙ sym (depth-append 0 f.prefix (f.token ∷ f.rest)) ∙ ap (depth 0) (sym w) in
+    let e : ended (ends f.token) f.rest ≡ ended false xs = sym (ended-append false f.prefix (f.token ∷ f.rest)) ∙ ap (ended false) (sym w) in
     record {
-      front = f.front;
+      prefix = f.prefix;
       token = f.token;
       rest = f.rest ++ t ∷ [];
-      whole = ap (λ x. x ++ t ∷ []) w ∙ append_assoc f.front (f.token ∷ f.rest) (t ∷ []);
+      whole = ap (λ x. x ++ t ∷ []) w ∙ append_assoc f.prefix (f.token ∷ f.rest) (t ∷ []);
       place = f.place;
-      cuts = record { level = f.cuts.level; is = f.cuts.is; later = Free-append k (behind 0 f.token) (ends f.token) f.rest (t ∷ []) f.cuts.later (rw (d, e) (h, tt)) };
+      cuts = record { level = f.cuts.level; is = f.cuts.is; later = Free-append k (depth_after 0 f.token) (ends f.token) f.rest (t ∷ []) f.cuts.later (rw (d, e) (h, tt)) };
     }
 
 cut_within : {k : ℕ} {xs : List Token} {i : ℕ} → CutsAt k xs i → i ≤ length xs
-cut_within {k} {xs} {i} c = let n = ap length c.whole ∙ length-append c.front (c.token ∷ c.rest) in let p = c.place in omega arith
+cut_within {k} {xs} {i} c = let n = ap length c.whole ∙ length-append c.prefix (c.token ∷ c.rest) in let p = c.place in omega arith
 
 pub cut_inside : {k : ℕ} {xs : List Token} {i : ℕ} → CutsAt k xs i → i < length xs
-cut_inside {k} {xs} {i} c = let n = ap length c.whole ∙ length-append c.front (c.token ∷ c.rest) in let p = c.place in omega arith
+cut_inside {k} {xs} {i} c = let n = ap length c.whole ∙ length-append c.prefix (c.token ∷ c.rest) in let p = c.place in omega arith
 
 pub first_inside : {k : ℕ} {xs : List Token} {i : ℕ} → FirstAt k xs i → i < length xs
-first_inside {k} {xs} {i} c = let n = ap length c.whole ∙ length-append c.front (c.token ∷ c.rest) in let p = c.place in omega arith
+first_inside {k} {xs} {i} c = let n = ap length c.whole ∙ length-append c.prefix (c.token ∷ c.rest) in let p = c.place in omega arith
 
 -- one more token that is no cut, and one that is
 pub cuts_more : {k : ℕ} {xs : List Token} {is : List ℕ} (t : Token) → IsOther k (depth 0 xs) (ended false xs) t → AreCuts k xs is → AreCuts k (xs ++ t ∷ []) is
@@ -68,7 +68,7 @@ pub cuts_here : {k : ℕ} {xs : List Token} {is : List ℕ} {opened i : ℕ} {af
 cuts_here {k} {xs} {is} {opened} {i} t s z r a =
     further_cut is i
     (record {
-      front = xs;
+      prefix = xs;
       token = t;
       rest = [];
       whole = refl;
@@ -107,20 +107,20 @@ cuts_none (no_more f) h = f
 cuts_none (further_cut is i c a) h = absurd (no_appended is i h)
 
 -- one more token of a list
-pub front_more : (ts : List Token) (i : ℕ) (t : Token) → i < length ts → t ≡ get_or ts i t → take (i + 1) ts ≡ take i ts ++ t ∷ []
-front_more ts i t h e = take_more ts i t h ∙ ap (λ x. take i ts ++ x ∷ []) (sym e)
+pub prefix_more : (ts : List Token) (i : ℕ) (t : Token) → i < length ts → t ≡ get_or ts i t → take (i + 1) ts ≡ take i ts ++ t ∷ []
+prefix_more ts i t h e = take_more ts i t h ∙ ap (λ x. take i ts ++ x ∷ []) (sym e)
 
-pub goes_on : (ts : List Token) (i : ℕ) (t : Token) {opened : ℕ} {after : Bool} → i < length ts → t ≡ get_or ts i t → Scanned (take i ts) opened after i → Scanned (take (i + 1) ts) (behind opened t) (ends t) (i + 1)
-goes_on ts i t h e s = rw (front_more ts i t h e, add-one i) (scanned_more (take i ts) t s)
+pub goes_on : (ts : List Token) (i : ℕ) (t : Token) {opened : ℕ} {after : Bool} → i < length ts → t ≡ get_or ts i t → Scanned (take i ts) opened after i → Scanned (take (i + 1) ts) (depth_after opened t) (ends t) (i + 1)
+goes_on ts i t h e s = rw (prefix_more ts i t h e, add-one i) (scanned_more (take i ts) t s)
 
 pub is_other : (k : ℕ) (ts : List Token) (t : Token) {opened i : ℕ} {after : Bool} → Scanned ts opened after i → ((opened ≡ 0) × (rank after t ≡ k) → ⊥) → IsOther k (depth 0 ts) (ended false ts) t
 is_other k ts t {opened} {i} {after} s h = rw (← s.level, ← s.flag) (other k t opened after (λ a b. h (a, b)))
 
 pub finds : {k : ℕ} (ts : List Token) (i : ℕ) (t : Token) {is : List ℕ} {opened : ℕ} {after : Bool} → i < length ts → t ≡ get_or ts i t → Scanned (take i ts) opened after i → opened ≡ 0 → rank after t ≡ k → AreCuts k (take i ts) is → AreCuts k (take (i + 1) ts) (is ++ i ∷ [])
-finds ts i t h e s z r a = rw (front_more ts i t h e) (cuts_here t s z r a)
+finds ts i t h e s z r a = rw (prefix_more ts i t h e) (cuts_here t s z r a)
 
 pub keeps : {k : ℕ} (ts : List Token) (i : ℕ) (t : Token) {is : List ℕ} {opened : ℕ} {after : Bool} → i < length ts → t ≡ get_or ts i t → Scanned (take i ts) opened after i → ((opened ≡ 0) × (rank after t ≡ k) → ⊥) → AreCuts k (take i ts) is → AreCuts k (take (i + 1) ts) is
-keeps {k} ts i t h e s not a = rw (front_more ts i t h e) (cuts_more t (is_other k (take i ts) t s not) a)
+keeps {k} ts i t h e s not a = rw (prefix_more ts i t h e) (cuts_more t (is_other k (take i ts) t s not) a)
 
 pub at_place : (ts : List Token) (i : ℕ) (t : Token) → i < length ts → t ≡ get_or ts i t → ts ≡ take i ts ++ t ∷ drop (i + 1) ts
 at_place ts i t h e =
@@ -128,7 +128,7 @@ at_place ts i t h e =
 
 pub cut_here : (k : ℕ) (ts : List Token) (i : ℕ) (t : Token) {opened : ℕ} {after : Bool} → i < length ts → t ≡ get_or ts i t → Scanned (take i ts) opened after i → opened ≡ 0 → rank after t ≡ k → Free k 0 false (take i ts) → FirstAt k ts i
 cut_here k ts i t h e s z r f = record {
-  front = take i ts;
+  prefix = take i ts;
   token = t;
   rest = drop (i + 1) ts;
   whole = at_place ts i t h e;

@@ -1,9 +1,9 @@
--- Where the operator of a production with two parts stands.
+-- Where the operator of a production with two parts is.
 use Rattle.std.proofs.Common.{◌≡◌, ◌≢◌, ℕ, ◌≤◌, Bool, true, false, List, [], ◌∷◌, ◌++◌, refl, sym, ◌∙◌, ap, subst, arith}
 use Rattle.xpath_tokens.specs.declared.Token.{Token}
 use Rattle.xpath_tokens.specs.declared.Token.TheVariants.{Or, And, Compare, Arithmetic, Bar, Slash, SlashSlash, Comma}
 use Rattle.xpath_tokens.specs.declared.Operator.TheVariants.{Subtract}
-use Rattle.xpath_grammar.specs.Grammar.{Symbol, OrExpr, AndExpr, EqualityExpr, RelationalExpr, AdditiveExpr, MultiplicativeExpr, UnionExpr, RelativeLocationPath, Derives, Phrase, plus, minus, ends, behind, depth, ended}
+use Rattle.xpath_grammar.specs.Grammar.{Symbol, OrExpr, AndExpr, EqualityExpr, RelationalExpr, AdditiveExpr, MultiplicativeExpr, UnionExpr, RelativeLocationPath, Derives, Phrase, plus, minus, ends, depth_after, depth, ended}
 use Rattle.xpath_grammar.specs.Cutting.{OrLevel, AndLevel, EqualityLevel, RelationalLevel, AdditiveLevel, MultiplicativeLevel, UnionLevel, RelativeLevel, ArgumentLevel, rank, Free, IsOther, Cuts}
 use Rattle.xpath_grammar.specs.Laws.{IsForm, by_or, by_and, by_equality, by_relational, by_additive, by_multiplicative, by_bar, by_slash, by_slash_slash, by_comma, IsLastOperator, IsSlash, one, two, IsFirstSlash}
 use Rattle.xpath_grammar.proofs.Clean.{depth-append, ended-append, rank_equality, rank_relational, rank_additive, rank_multiplicative}
@@ -66,7 +66,7 @@ counts_by false t k l h e = let z : rank false (Arithmetic Subtract) ≡ k = sub
 -- a token of a list that is free of a rank has another, outside all brackets
 free_at : (k d : ℕ) (b : Bool) (ws xs : List Token) (u : Token) → Free k d b (ws ++ u ∷ xs) → depth d ws ≡ 0 → rank (ended b ws) u ≢ k
 free_at k d b [] xs u f h = subst (λ x. IsOther k x b u) h f.0
-free_at k d b (w ∷ ws) xs u f h = free_at k (behind d w) (ends w) ws xs u f.1 h
+free_at k d b (w ∷ ws) xs u f h = free_at k (depth_after d w) (ends w) ws xs u f.1 h
 
 pub last_of : {s o : Symbol} {us vs : List Token} {t : Token} {x y : Phrase} → IsForm s t o → Derives s us x → Derives o vs y → IsLastOperator s us t vs
 last_of {s} {o} {us} {vs} {t} is c d =
@@ -74,9 +74,9 @@ last_of {s} {o} {us} {vs} {t} is c d =
       outside = k.level;
       counts = counts_by (ended false us) t (rank_for s) (rank_small s) k.is;
       last = λ ws xs u e out p count.
-          let inner : depth (behind 0 t) ws ≡ 0 = ap (λ n. depth (behind n t) ws) (sym k.level) ∙ sym (depth-append 0 us (t ∷ ws)) ∙ out in
+          let inner : depth (depth_after 0 t) ws ≡ 0 = ap (λ n. depth (depth_after n t) ws) (sym k.level) ∙ sym (depth-append 0 us (t ∷ ws)) ∙ out in
           let flag : ended false (us ++ t ∷ ws) ≡ ended (ends t) ws = ended-append false us (t ∷ ws) in
-          free_at (rank_for s) (behind 0 t) (ends t) ws xs u (subst (Free (rank_for s) (behind 0 t) (ends t)) e k.later) inner (rank_counts (ended (ends t) ws) p.1 (λ m. sym flag ∙ count m));
+          free_at (rank_for s) (depth_after 0 t) (ends t) ws xs u (subst (Free (rank_for s) (depth_after 0 t) (ends t)) e k.later) inner (rank_counts (ended (ends t) ws) p.1 (λ m. sym flag ∙ count m));
     }
 
 pub first_of : (us : List Token) → depth 0 us ≡ 0 → Free 9 0 false us → IsFirstSlash us

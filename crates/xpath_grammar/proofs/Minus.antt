@@ -6,7 +6,7 @@ use Rattle.xpath_tokens.specs.declared.Token.TheVariants.{Close, CloseSquare, Co
 use Rattle.xpath_tokens.specs.declared.Operator.TheVariants.{Add, Subtract, Multiply, Divide, Modulo}
 use Rattle.xpath_tokens.specs.declared.StepAxis.{StepAxis}
 use Rattle.xpath_grammar.specs.declared.expr.StepTest.{StepTest}
-use Rattle.xpath_grammar.specs.Grammar.{Stands, Symbol, Phrase, Derives, or_one, or_more, and_one, and_more, equality_one, equality_more, relational_one, relational_more, additive_one, additive_more, multiplicative_one, multiplicative_more, unary_one, unary_minus, union_one, union_more, path_location, path_filter, path_slash, path_slash_slash, filter_one, filter_more, primary_bracket, primary_variable, primary_literal, primary_number, call_none, call_some, arguments_one, arguments_more, location_relative, location_root, location_slash, location_slash_slash, relative_one, relative_slash, relative_slash_slash, step, step_dot, step_dots, IsAxis, axis_name, axis_at, axis_child, IsTest, test_any, test_any_in, test_named, test_kind, test_target, predicates_none, predicates_more, predicate, plus, minus, times, divided, modulo, ends, ended}
+use Rattle.xpath_grammar.specs.Grammar.{MayFollow, Symbol, Phrase, Derives, or_one, or_more, and_one, and_more, equality_one, equality_more, relational_one, relational_more, additive_one, additive_more, multiplicative_one, multiplicative_more, unary_one, unary_minus, union_one, union_more, path_location, path_filter, path_slash, path_slash_slash, filter_one, filter_more, primary_bracket, primary_variable, primary_literal, primary_number, call_none, call_some, arguments_one, arguments_more, location_relative, location_root, location_slash, location_slash_slash, relative_one, relative_slash, relative_slash_slash, step, step_dot, step_dots, IsAxis, axis_name, axis_at, axis_child, IsTest, test_any, test_any_in, test_named, test_kind, test_target, predicates_none, predicates_more, predicate, plus, minus, times, divided, modulo, ends, ended}
 use Rattle.xpath_grammar.specs.Laws.{minuses, flags}
 use Rattle.xpath_grammar.proofs.Clean.{clean}
 
@@ -22,7 +22,7 @@ both b us vs e h k = flags-append b us vs ∙ rw (e, h, k) refl
 closed : (us : List Token) (t : Token) {xs : List Bool} → flags (ended false us) (t ∷ []) ≡ [] → flags false us ≡ xs → flags false (us ++ t ∷ []) ≡ xs
 closed us t {xs} h k = flags-append false us (t ∷ []) ∙ rw (h, k) (append-nil xs)
 
--- no minus stands in an axis part or a node test
+-- no minus is in an axis part or a node test
 axis_minus : {us vs : List Token} (ws : List Token) {a : StepAxis} {t : StepTest} → IsAxis us a → IsTest vs t → (b : Bool) → flags b (us ++ (vs ++ ws)) ≡ flags true ws
 axis_minus ws axis_name test_any b = refl
 axis_minus ws axis_name test_any_in b = refl
@@ -40,7 +40,7 @@ axis_minus ws axis_child test_named b = refl
 axis_minus ws axis_child test_kind b = refl
 axis_minus ws axis_child test_target b = refl
 
-pub minus_law : {s : Symbol} {ts : List Token} {e : Phrase} (d : Derives s ts e) (b : Bool) → Stands s b → flags b ts ≡ minuses d
+pub minus_law : {s : Symbol} {ts : List Token} {e : Phrase} (d : Derives s ts e) (b : Bool) → MayFollow s b → flags b ts ≡ minuses d
 minus_law (or_one d) b h = minus_law d b h
 minus_law (or_more {us} {vs} c d) b h = both b us (Or ∷ vs) (clean c b h).last (minus_law c b h) (minus_law d false refl)
 minus_law (and_one d) b h = minus_law d b h

@@ -10,7 +10,7 @@ use Rattle.xpath_grammar.specs.Static.{greatest, has_fraction, whole_value, numb
 use Rattle.xpath_grammar.specs.Checking.{scan_next, scan_start}
 
 abbrev scan : ℕ → Bool → Bool → NumberScan
-scan v b f = record { value = v; behind = b; fraction = f }
+scan v b f = record { value = v; after = b; fraction = f }
 
 or_false : (a : Bool) → a ≡ (a || false)
 or_false true = refl
@@ -20,23 +20,23 @@ or_assoc : (a b c : Bool) → ((a || b) || c) ≡ (a || (b || c))
 or_assoc true b c = refl
 or_assoc false b c = refl
 
-behind_fraction : (v : ℕ) (f : Bool) (cs : List ℕ) → (fold scan_next (scan v true f) cs).fraction ≡ (f || list_any (λ d. not (d == 48)) cs)
-behind_fraction v f [] = or_false f
-behind_fraction v f (c ∷ cs) = behind_fraction v (f || not (c == 48)) cs ∙ or_assoc f (not (c == 48)) (list_any (λ d. not (d == 48)) cs)
+after_fraction : (v : ℕ) (f : Bool) (cs : List ℕ) → (fold scan_next (scan v true f) cs).fraction ≡ (f || list_any (λ d. not (d == 48)) cs)
+after_fraction v f [] = or_false f
+after_fraction v f (c ∷ cs) = after_fraction v (f || not (c == 48)) cs ∙ or_assoc f (not (c == 48)) (list_any (λ d. not (d == 48)) cs)
 
-behind_value : (v : ℕ) (f : Bool) (cs : List ℕ) → (fold scan_next (scan v true f) cs).value ≡ v
-behind_value v f [] = refl
-behind_value v f (c ∷ cs) = behind_value v (f || not (c == 48)) cs
+after_value : (v : ℕ) (f : Bool) (cs : List ℕ) → (fold scan_next (scan v true f) cs).value ≡ v
+after_value v f [] = refl
+after_value v f (c ∷ cs) = after_value v (f || not (c == 48)) cs
 
 abbrev grown : ℕ → ℕ → ℕ
 grown v c = cond (nat_lt greatest v) v (10 * v + (c - 48))
 
-front_fraction : (v : ℕ) (cs : List ℕ) → (fold scan_next (scan v false false) cs).fraction ≡ has_fraction cs
-front_fraction v [] = refl
-front_fraction v (c ∷ cs) = this (front_fraction (grown v c) cs) (c == 46)
+prefix_fraction : (v : ℕ) (cs : List ℕ) → (fold scan_next (scan v false false) cs).fraction ≡ has_fraction cs
+prefix_fraction v [] = refl
+prefix_fraction v (c ∷ cs) = this (prefix_fraction (grown v c) cs) (c == 46)
   where
     this : (fold scan_next (scan (grown v c) false false) cs).fraction ≡ has_fraction cs → (b : Bool) → (fold scan_next (cond b (scan v true false) (scan (grown v c) false false)) cs).fraction ≡ cond b (list_any (λ d. not (d == 48)) cs) (has_fraction cs)
-    this i true = behind_fraction v false cs
+    this i true = after_fraction v false cs
     this i false = i
 
 whole_ge : (v : ℕ) (cs : List ℕ) → v ≤ whole_value v cs
@@ -61,9 +61,9 @@ lt_false a b h = this (nat_lt a b) refl
     this true e = let k = ltb-true a b e in absurd (omega arith)
     this false e = refl
 
-front_value : (v : ℕ) (f : Bool) (cs : List ℕ) → nat_lt greatest (fold scan_next (scan v false f) cs).value ≡ nat_lt greatest (whole_value v cs)
-front_value v f [] = refl
-front_value v f (c ∷ cs) = this (front_value (grown v c) f cs) (c == 46)
+prefix_value : (v : ℕ) (f : Bool) (cs : List ℕ) → nat_lt greatest (fold scan_next (scan v false f) cs).value ≡ nat_lt greatest (whole_value v cs)
+prefix_value v f [] = refl
+prefix_value v f (c ∷ cs) = this (prefix_value (grown v c) f cs) (c == 46)
   where
     next : (b : Bool) → nat_lt greatest v ≡ b → nat_lt greatest (whole_value (cond b v (10 * v + (c - 48))) cs) ≡ nat_lt greatest (whole_value (10 * v + (c - 48)) cs)
     next true e =
@@ -74,7 +74,7 @@ front_value v f (c ∷ cs) = this (front_value (grown v c) f cs) (c == 46)
     next false e = refl
 
     this : nat_lt greatest (fold scan_next (scan (grown v c) false f) cs).value ≡ nat_lt greatest (whole_value (grown v c) cs) → (b : Bool) → nat_lt greatest (fold scan_next (cond b (scan v true f) (scan (grown v c) false f)) cs).value ≡ nat_lt greatest (cond b v (whole_value (10 * v + (c - 48)) cs))
-    this i true = ap (nat_lt greatest) (behind_value v f cs)
+    this i true = ap (nat_lt greatest) (after_value v f cs)
     this i false = i ∙ next (nat_lt greatest v) refl
 
 abbrev faulted : Bool → Bool → Option StaticFault
@@ -82,8 +82,8 @@ faulted f r = cond f (Some Fraction) (cond r (Some Range) None)
 
 scanned : (t : List ℕ) (s : NumberScan) → s ≡ fold scan_next scan_start t → number_fault t ≡ faulted s.fraction (nat_lt greatest s.value)
 scanned t s e =
-    let f : has_fraction t ≡ s.fraction = sym (ap (λ x. x.fraction) e ∙ front_fraction 0 t) in
-    let v : nat_lt greatest (whole_value 0 t) ≡ nat_lt greatest s.value = sym (ap (λ x. nat_lt greatest x.value) e ∙ front_value 0 false t) in
+    let f : has_fraction t ≡ s.fraction = sym (ap (λ x. x.fraction) e ∙ prefix_fraction 0 t) in
+    let v : nat_lt greatest (whole_value 0 t) ≡ nat_lt greatest s.value = sym (ap (λ x. nat_lt greatest x.value) e ∙ prefix_value 0 false t) in
     ap (λ x. faulted x (nat_lt greatest (whole_value 0 t))) f ∙ ap (faulted s.fraction) v
 
 pub is_fraction : (t : List ℕ) (s : NumberScan) → s ≡ fold scan_next scan_start t → s.fraction ≡ true → Some Fraction ≡ number_fault t

@@ -24,8 +24,8 @@ use Rattle.xpath_grammar.specs.declared.parser.Binary.{Binary}
 use Rattle.xpath_grammar.specs.declared.parser.Binary.TheVariants as rust
 use Rattle.xpath_grammar.specs.Tree.{tree_of, Tree, Trees, Walk, path, from, filter, literal, number, variable, call, none, more, stop, go}
 use Rattle.xpath_grammar.specs.Grammar.{Symbol, OrExpr, UnaryExpr, UnionExpr, PathExpr, FilterExpr, PrimaryExpr, Arguments, LocationPath, RelativeLocationPath, StepPart, Predicates, Phrase, expr, exprs, filtered, walk, appended, joined, filter_tree, any_depth, IsAdditive, plus, minus, IsEquality, equal, unequal, IsRelational, less, greater, at_most, at_least, IsMultiplicative, times, divided, modulo, Derives, or_one, or_more, and_one, and_more, equality_one, equality_more, relational_one, relational_more, additive_one, additive_more, multiplicative_one, multiplicative_more, unary_one, unary_minus, union_one, union_more, path_location, path_filter, path_slash, path_slash_slash, filter_one, filter_more, primary_bracket, primary_variable, primary_literal, primary_number, call_none, call_some, arguments_one, arguments_more, location_relative, location_root, location_slash, location_slash_slash, relative_one, relative_slash, relative_slash_slash, step, step_dot, step_dots, predicates_none, predicates_more, predicate, ended}
-use Rattle.xpath_grammar.specs.Cutting.{rank, Free, Level, RelativeLevel, ArgumentLevel, symbol, operand, rank_of, combined, Cuts, CutsAt, FirstAt, behind_slash, Answers, AnswersFilter, DerivesFilter, Gives, as_expr, as_step, form, IsBinary, applied, tree_join, leading_minuses, negations}
-use Rattle.xpath_grammar.specs.Shape.{starts_primary, first, NotPrimary, Relative, dot_axis, axis_of, behind_axis, test_of, behind_test, IsStepTest}
+use Rattle.xpath_grammar.specs.Cutting.{rank, Free, Level, RelativeLevel, ArgumentLevel, symbol, operand, rank_of, combined, Cuts, CutsAt, FirstAt, after_slash, Answers, AnswersFilter, DerivesFilter, Gives, as_expr, as_step, form, IsBinary, applied, tree_join, leading_minuses, negations}
+use Rattle.xpath_grammar.specs.Shape.{starts_primary, first, NotPrimary, Relative, dot_axis, axis_of, after_axis, test_of, after_test, IsStepTest}
 use Rattle.xpath_grammar.proofs.Clean.{clean}
 use Rattle.xpath_grammar.proofs.Cut.{cut, no_cut, at_cut, last_cut, last_none, last_cuts}
 use Rattle.xpath_grammar.proofs.Forms.{no_minus, starts, first-append, first_cut, first_none, first_at, path_cases, PathForm, is_location, is_filter, is_from, predicate_cases, square_cut, filter_cases, predicates_cases, primary_open, primary_call, location_first, location_second, StepForm, is_dot, is_dots, is_step, Stepped, step_cases, axis_split, test_split}
@@ -53,12 +53,12 @@ pub record Sliced (k : ℕ) (ts : List Token) (i : ℕ) (t : Token) : Type 0 whe
 pub sliced : (k : ℕ) (ts : List Token) (i : ℕ) (c : CutsAt k ts i) → Sliced k ts i c.token
 sliced k ts i c =
     let w = c.whole in
-    let a : take i ts ≡ c.front = ap (take i) w ∙ take_cut c.front c.token c.rest i c.place in
-    let b : drop (i + 1) ts ≡ c.rest = ap (drop (i + 1)) w ∙ drop_cut c.front c.token c.rest i c.place in
+    let a : take i ts ≡ c.prefix = ap (take i) w ∙ take_cut c.prefix c.token c.rest i c.place in
+    let b : drop (i + 1) ts ≡ c.rest = ap (drop (i + 1)) w ∙ drop_cut c.prefix c.token c.rest i c.place in
     record { whole = rw (a, b) w; cuts = rw (a, b) c.cuts }
 
 pub token_at : (k : ℕ) (ts : List Token) (i : ℕ) (c : CutsAt k ts i) (t : Token) → t ≡ get_or ts i t → c.token ≡ t
-token_at k ts i c t e = sym (e ∙ ap (λ x. get_or x i t) c.whole ∙ get_cut c.front c.token c.rest i t c.place)
+token_at k ts i c t e = sym (e ∙ ap (λ x. get_or x i t) c.whole ∙ get_cut c.prefix c.token c.rest i t c.place)
 
 -- a refusal that is passed on
 pub refuses : {X Y : Type 0} (s s' : Symbol) (view : X → Phrase) (view' : Y → Phrase) (ts ts' : List Token) (f : Fault) → Answers {X = Y} s' view' ts' (Err f) → ((e : Phrase) → Derives s ts e → (g : Phrase) × Derives s' ts' g) → Answers {X = X} s view ts (Err f)
@@ -176,7 +176,7 @@ pub cut_both : (l : Binary) {ts : List Token} {i : ℕ} {a b : Tree} (t : Token)
 cut_both l {ts} {i} {a} {b} t c at left right =
     let s = sliced (rank_of (form l)) ts i c in
     let e = token_at (rank_of (form l)) ts i c t at in
-    let op = operates l (ended false c.front) c.token c.cuts.is in
+    let op = operates l (ended false c.prefix) c.token c.cuts.is in
     subst (λ x. Derives (symbol (form l)) ts (combined x (expr a) (expr b))) e (subst (λ x. Derives (symbol (form l)) x (combined c.token (expr a) (expr b))) (sym s.whole) (binary_more op left right))
 
 -- unary expressions
@@ -207,7 +207,7 @@ location_only {ts} {e} h d = this (path_cases d)
     this (is_location k) = k
     this (is_filter k v) = let x = starts k in absurd cc
     this (is_from p) =
-        let x = first-append starts_primary p.front (p.token ∷ p.rest) (starts p.left) in
+        let x = first-append starts_primary p.prefix (p.token ∷ p.rest) (starts p.left) in
         let y = ap (first starts_primary) p.whole in
         absurd cc
 
@@ -239,7 +239,7 @@ absolute_made w d = rw w (path_location (location_slash d))
 pub deep_made : {ts us : List Token} {w : Walk} {b : Tree} → ts ≡ SlashSlash ∷ us → Derives RelativeLocationPath us (walk w) → b ≡ path true (any_depth w) → Derives PathExpr ts (expr b)
 deep_made w d h = rw (w, h) (path_location (location_slash_slash d))
 
--- paths behind an expression
+-- paths after an expression
 pub filter_err : (ts : List Token) (f : Fault) → AnswersFilter ts (Err f) → Answers {X = Expr} FilterExpr as_expr ts (Err f)
 filter_err ts Syntax a = a
 filter_err ts NoMemory a = tt
@@ -258,8 +258,8 @@ from_none ts (Err Syntax) s f a = λ e d. this e (path_cases d)
         cc
 from_none ts (Err NoMemory) s f a = tt
 
-pub first_cuts : {k : ℕ} {ts : List Token} {i : ℕ} (c : FirstAt k ts i) → first_cut k 0 false ts ≡ Some (cut c.front c.token c.rest)
-first_cuts {k} c = ap (first_cut k 0 false) c.whole ∙ first_at k 0 false c.front c.token c.rest c.before c.level c.is
+pub first_cuts : {k : ℕ} {ts : List Token} {i : ℕ} (c : FirstAt k ts i) → first_cut k 0 false ts ≡ Some (cut c.prefix c.token c.rest)
+first_cuts {k} c = ap (first_cut k 0 false) c.whole ∙ first_at k 0 false c.prefix c.token c.rest c.before c.level c.is
 
 pub record FromParts (ts : List Token) (i : ℕ) : Type 0 where
   pub start : Phrase
@@ -280,10 +280,10 @@ from_parts {ts} {i} s c e d = this (path_cases d)
         let y = first_cuts c in
         let x = p.cuts in
         let z = ap (first_cut 9 0 false) p.whole in
-        let front : p.front ≡ c.front = cc in
+        let prefix : p.prefix ≡ c.prefix = cc in
         let rest : p.rest ≡ c.rest = cc in
-        let a : take i ts ≡ p.front = ap (take i) c.whole ∙ take_cut c.front c.token c.rest i c.place ∙ sym front in
-        let b : drop (i + 1) ts ≡ p.rest = ap (drop (i + 1)) c.whole ∙ drop_cut c.front c.token c.rest i c.place ∙ sym rest in
+        let a : take i ts ≡ p.prefix = ap (take i) c.whole ∙ take_cut c.prefix c.token c.rest i c.place ∙ sym prefix in
+        let b : drop (i + 1) ts ≡ p.rest = ap (drop (i + 1)) c.whole ∙ drop_cut c.prefix c.token c.rest i c.place ∙ sym rest in
         record { start = filtered p.start p.predicates; steps = walk p.steps; left = rw a p.left; right = rw b p.right }
 
 rank_slash : (b : Bool) (t : Token) → rank b t ≡ 9 → (t ≡ Slash) ⊎ (t ≡ SlashSlash)
@@ -305,39 +305,39 @@ rank_comma b (Compare how) h = let r = compare_rank b how in let low = r.0 in le
 rank_comma b (Arithmetic op) h = let r = arithmetic_rank b op in let low = r.0 in let second = r.1 in let third = r.2 in let fourth = r.3 in absurd (omega arith)
 rank_comma b _ h = absurd (omega arith)
 
-from_token : {us vs : List Token} {a : Tree} {ps : Trees} {w : Walk} (t : Token) → (t ≡ Slash) ⊎ (t ≡ SlashSlash) → Derives FilterExpr us (filtered a ps) → Derives RelativeLocationPath vs (walk w) → Derives PathExpr (us ++ t ∷ vs) (expr (from (filter_tree a ps) (behind_slash t w)))
+from_token : {us vs : List Token} {a : Tree} {ps : Trees} {w : Walk} (t : Token) → (t ≡ Slash) ⊎ (t ≡ SlashSlash) → Derives FilterExpr us (filtered a ps) → Derives RelativeLocationPath vs (walk w) → Derives PathExpr (us ++ t ∷ vs) (expr (from (filter_tree a ps) (after_slash t w)))
 from_token t s c d = elim s [ inl e ↦ rw e (path_slash c d) | inr e ↦ rw e (path_slash_slash c d) ]
 
-pub from_made : {ts : List Token} {i : ℕ} {a b : Tree} {v w : Walk} (t : Token) → FirstAt 9 ts i → t ≡ get_or ts i t → DerivesFilter (take i ts) a → Derives RelativeLocationPath (drop (i + 1) ts) (walk w) → v ≡ behind_slash t w → b ≡ from a v → Derives PathExpr ts (expr b)
+pub from_made : {ts : List Token} {i : ℕ} {a b : Tree} {v w : Walk} (t : Token) → FirstAt 9 ts i → t ≡ get_or ts i t → DerivesFilter (take i ts) a → Derives RelativeLocationPath (drop (i + 1) ts) (walk w) → v ≡ after_slash t w → b ≡ from a v → Derives PathExpr ts (expr b)
 from_made {ts} {i} {a} {b} {v} {w} t c at left right hv hb =
-    let x : take i ts ≡ c.front = ap (take i) c.whole ∙ take_cut c.front c.token c.rest i c.place in
-    let y : drop (i + 1) ts ≡ c.rest = ap (drop (i + 1)) c.whole ∙ drop_cut c.front c.token c.rest i c.place in
-    let e : c.token ≡ t = sym (at ∙ ap (λ x. get_or x i t) c.whole ∙ get_cut c.front c.token c.rest i t c.place) in
+    let x : take i ts ≡ c.prefix = ap (take i) c.whole ∙ take_cut c.prefix c.token c.rest i c.place in
+    let y : drop (i + 1) ts ≡ c.rest = ap (drop (i + 1)) c.whole ∙ drop_cut c.prefix c.token c.rest i c.place in
+    let e : c.token ≡ t = sym (at ∙ ap (λ x. get_or x i t) c.whole ∙ get_cut c.prefix c.token c.rest i t c.place) in
     let whole : ts ≡ take i ts ++ t ∷ drop (i + 1) ts = c.whole ∙ ap (λ z. z ++ c.token ∷ c.rest) (sym x) ∙ ap (λ z. take i ts ++ z ∷ c.rest) e ∙ ap (λ z. take i ts ++ t ∷ z) (sym y) in
-    let slash = rank_slash (ended false c.front) t (rw (← e) c.is) in
+    let slash = rank_slash (ended false c.prefix) t (rw (← e) c.is) in
     let d = from_token t slash left.derived right in
-    let value : b ≡ from (filter_tree left.start left.predicates) (behind_slash t w) = hb ∙ ap (λ z. from z v) left.value ∙ ap (λ z. from (filter_tree left.start left.predicates) z) hv in
-    subst (λ z. Derives PathExpr ts (expr z)) (sym value) (subst (λ z. Derives PathExpr z (expr (from (filter_tree left.start left.predicates) (behind_slash t w)))) (sym whole) d)
+    let value : b ≡ from (filter_tree left.start left.predicates) (after_slash t w) = hb ∙ ap (λ z. from z v) left.value ∙ ap (λ z. from (filter_tree left.start left.predicates) z) hv in
+    subst (λ z. Derives PathExpr ts (expr z)) (sym value) (subst (λ z. Derives PathExpr z (expr (from (filter_tree left.start left.predicates) (after_slash t w)))) (sym whole) d)
 
 -- filters: a primary expression and then predicates
 pub record Split (ts : List Token) (e : Phrase) : Type 0 where
-  pub front : List Token
+  pub prefix : List Token
   pub rest : List Token
   pub start : Tree
   pub predicates : Trees
-  pub left : Derives PrimaryExpr front (expr start)
+  pub left : Derives PrimaryExpr prefix (expr start)
   pub right : Derives Predicates rest (exprs predicates)
-  pub whole : ts ≡ front ++ rest
+  pub whole : ts ≡ prefix ++ rest
   pub value : e ≡ filtered start predicates
 
 pub filter_split : {ts : List Token} {e : Phrase} → Derives FilterExpr ts e → Split ts e
-filter_split (filter_one {ts} d) = record { front = _; rest = []; start = _; predicates = none; left = d; right = predicates_none; whole = sym (append-nil ts); value = refl }
+filter_split (filter_one {ts} d) = record { prefix = _; rest = []; start = _; predicates = none; left = d; right = predicates_none; whole = sym (append-nil ts); value = refl }
 filter_split (filter_more {us} {vs} {a} {p} {ps} c d) =
     let s = filter_split c in
     let v = s.value in
     let ea : a ≡ s.start = cc in
     let ep : ps ≡ s.predicates = cc in
-    record { front = s.front; rest = s.rest ++ vs; start = s.start; predicates = appended s.predicates p; left = s.left; right = predicates_more s.right d; whole = ap (λ x. x ++ vs) s.whole ∙ append_assoc s.front s.rest vs; value = ap (λ z. filtered z (appended ps p)) ea ∙ ap (λ z. filtered s.start (appended z p)) ep }
+    record { prefix = s.prefix; rest = s.rest ++ vs; start = s.start; predicates = appended s.predicates p; left = s.left; right = predicates_more s.right d; whole = ap (λ x. x ++ vs) s.whole ∙ append_assoc s.prefix s.rest vs; value = ap (λ z. filtered z (appended ps p)) ea ∙ ap (λ z. filtered s.start (appended z p)) ep }
 
 pub filter_join : {us vs : List Token} {a : Tree} {ps : Trees} → Derives PrimaryExpr us (expr a) → Derives Predicates vs (exprs ps) → Derives FilterExpr (us ++ vs) (filtered a ps)
 filter_join {us} p predicates_none = rw (append-nil us) (filter_one p)
@@ -375,18 +375,18 @@ filter_parts {ts} {i} c e d =
     let y = first_cuts c in
     elim (predicates_start s.right) [
       | inl k ↦
-          let w : ts ≡ s.front = s.whole ∙ ap (λ x. s.front ++ x) k ∙ append-nil s.front in
-          let x = first_none 10 0 false s.front free in
+          let w : ts ≡ s.prefix = s.whole ∙ ap (λ x. s.prefix ++ x) k ∙ append-nil s.prefix in
+          let x = first_none 10 0 false s.prefix free in
           let z = ap (first_cut 10 0 false) w in
           absurd cc
       | inr k ↦
-          let w : ts ≡ s.front ++ OpenSquare ∷ k.0 = s.whole ∙ ap (λ x. s.front ++ x) k.1 in
-          let x = first_at 10 0 false s.front OpenSquare k.0 free ((clean s.left false tt).level 0) refl in
+          let w : ts ≡ s.prefix ++ OpenSquare ∷ k.0 = s.whole ∙ ap (λ x. s.prefix ++ x) k.1 in
+          let x = first_at 10 0 false s.prefix OpenSquare k.0 free ((clean s.left false tt).level 0) refl in
           let z = ap (first_cut 10 0 false) w in
-          let front : s.front ≡ c.front = cc in
-          let place : length s.front ≡ i = ap length front ∙ c.place in
-          let a : take i ts ≡ s.front = ap (take i) s.whole ∙ take_at s.front s.rest i place in
-          let b : drop i ts ≡ s.rest = ap (drop i) s.whole ∙ drop_at s.front s.rest i place in
+          let prefix : s.prefix ≡ c.prefix = cc in
+          let place : length s.prefix ≡ i = ap length prefix ∙ c.place in
+          let a : take i ts ≡ s.prefix = ap (take i) s.whole ∙ take_at s.prefix s.rest i place in
+          let b : drop i ts ≡ s.rest = ap (drop i) s.whole ∙ drop_at s.prefix s.rest i place in
           record { start = expr s.start; predicates = exprs s.predicates; left = rw a s.left; right = rw b s.right }
     ]
 
@@ -398,7 +398,7 @@ filter_none ts (Err Syntax) f a = λ e d.
       | inr p ↦
           let q = predicate_cases p.right in
           let x = last_none 10 0 false ts f in
-          let y = square_cut false p.front q.inner ((clean p.left false tt).level 0) q.derived in
+          let y = square_cut false p.prefix q.inner ((clean p.left false tt).level 0) q.derived in
           let z = p.whole in
           let w = q.whole in
           cc
@@ -411,8 +411,8 @@ filter_refuses s view ts ts' NoMemory refused h = tt
 
 pub filter_made : (ts : List Token) (i : ℕ) (a : Tree) (ps : Trees) (r : Result Expr Fault) → FirstAt 10 ts i → Derives PrimaryExpr (take i ts) (expr a) → Derives Predicates (drop i ts) (exprs ps) → Gives r (λ e. tree_of e ≡ filter a ps) → AnswersFilter ts r
 filter_made ts i a ps (Ok e) c left right h =
-    let square = rank_square (ended false c.front) c.token c.is in
-    let w : drop i ts ≡ OpenSquare ∷ c.rest = ap (drop i) c.whole ∙ drop_at c.front (c.token ∷ c.rest) i c.place ∙ ap (λ x. x ∷ c.rest) square in
+    let square = rank_square (ended false c.prefix) c.token c.is in
+    let w : drop i ts ≡ OpenSquare ∷ c.rest = ap (drop i) c.whole ∙ drop_at c.prefix (c.token ∷ c.rest) i c.place ∙ ap (λ x. x ∷ c.rest) square in
     let x = some_predicates a (subst (λ z. Derives Predicates z (exprs ps)) w right) in
     record { start = a; predicates = ps; derived = subst (λ z. Derives FilterExpr z (filtered a ps)) (take-append-drop i ts) (filter_join left right); value = h ∙ sym x }
 filter_made ts i a ps (Err Syntax) c left right h = absurd h
@@ -460,7 +460,7 @@ no_primary_shape no' e primary_number = no'.number _ refl
 no_primary_shape no' e call_none = no'.call _ [] refl
 no_primary_shape no' e (call_some d) = no'.call _ _ refl
 
--- lists that grow at the front
+-- lists that grow at the start
 adds_none : (xs : Trees) → adds xs none ≡ xs
 adds_none none = refl
 adds_none (more x xs) = ap (more x) (adds_none xs)
@@ -497,7 +497,7 @@ take_within i ts h = omega (arith, length-take i ts)
 pub arguments_on : {ts rest : List Token} {i : ℕ} {all all' : Trees} {a : Tree} → Remaining Arguments exprs (λ es. adds es all) ts rest → CutsAt 0 rest i → Derives OrExpr (drop (i + 1) rest) (expr a) → all' ≡ more a all → Remaining Arguments exprs (λ es. adds es all') ts (take i rest)
 arguments_on {ts} {rest} {i} {all} {all'} {a} r c d h =
     let s = sliced 0 rest i c in
-    let comma = rank_comma (ended false c.front) c.token c.cuts.is in
+    let comma = rank_comma (ended false c.prefix) c.token c.cuts.is in
     let w : take i rest ++ Comma ∷ drop (i + 1) rest ≡ rest = ap (λ x. take i rest ++ x ∷ drop (i + 1) rest) (sym comma) ∙ sym s.whole in
     record {
       within = take_within i rest r.within;
@@ -509,10 +509,10 @@ pub arguments_end : {ts rest : List Token} {all b : Trees} {a : Tree} → Remain
 arguments_end {a = a} r d h = rw h (r.sound (more a none) (arguments_one d))
 
 pub record PredicateParts (ts : List Token) (i : ℕ) : Type 0 where
-  pub front : Phrase
+  pub prefix : Phrase
   pub inner : List Token
   pub part : Phrase
-  pub left : Derives Predicates (take i ts) front
+  pub left : Derives Predicates (take i ts) prefix
   pub right : Derives OrExpr inner part
   pub whole : drop (i + 1) ts ≡ inner ++ CloseSquare ∷ []
 
@@ -524,12 +524,12 @@ predicate_parts {ts} {i} c e d =
       | inl k ↦ let z = ap (last_cut 10 0 false) k.0 in absurd cc
       | inr m ↦
           let q = predicate_cases m.right in
-          let its = square_cut false m.front q.inner ((clean m.left true refl).level 0) q.derived in
-          let w : ts ≡ m.front ++ OpenSquare ∷ (q.inner ++ CloseSquare ∷ []) = m.whole ∙ ap (λ x. m.front ++ x) q.whole in
+          let its = square_cut false m.prefix q.inner ((clean m.left true refl).level 0) q.derived in
+          let w : ts ≡ m.prefix ++ OpenSquare ∷ (q.inner ++ CloseSquare ∷ []) = m.whole ∙ ap (λ x. m.prefix ++ x) q.whole in
           let z = ap (last_cut 10 0 false) w in
-          let front : take i ts ≡ m.front = cc in
+          let prefix : take i ts ≡ m.prefix = cc in
           let rest : drop (i + 1) ts ≡ q.inner ++ CloseSquare ∷ [] = cc in
-          record { front = exprs m.predicates; inner = q.inner; part = expr q.part; left = rw front m.left; right = q.derived; whole = rest }
+          record { prefix = exprs m.predicates; inner = q.inner; part = expr q.part; left = rw prefix m.left; right = q.derived; whole = rest }
     ]
 
 pub no_predicate : {ts : List Token} → ts ≢ [] → Free 10 0 false ts → (e : Phrase) → Derives Predicates ts e → ⊥
@@ -538,8 +538,8 @@ no_predicate {ts} ne f e d =
       | inl k ↦ ne k.0
       | inr m ↦
           let q = predicate_cases m.right in
-          let its = square_cut false m.front q.inner ((clean m.left true refl).level 0) q.derived in
-          let w : ts ≡ m.front ++ OpenSquare ∷ (q.inner ++ CloseSquare ∷ []) = m.whole ∙ ap (λ x. m.front ++ x) q.whole in
+          let its = square_cut false m.prefix q.inner ((clean m.left true refl).level 0) q.derived in
+          let w : ts ≡ m.prefix ++ OpenSquare ∷ (q.inner ++ CloseSquare ∷ []) = m.whole ∙ ap (λ x. m.prefix ++ x) q.whole in
           let z = ap (last_cut 10 0 false) w in
           let x = last_none 10 0 false ts f in
           cc
@@ -554,34 +554,34 @@ predicate_inner {us = us} c w e d =
 pub predicates_on : {ts rest us : List Token} {i : ℕ} {all all' : Trees} {a : Tree} → Remaining Predicates exprs (λ es. adds es all) ts rest → CutsAt 10 rest i → drop (i + 1) rest ≡ us ++ CloseSquare ∷ [] → Derives OrExpr us (expr a) → all' ≡ more a all → Remaining Predicates exprs (λ es. adds es all') ts (take i rest)
 predicates_on {ts} {rest} {us} {i} {all} {all'} {a} r c u d h =
     let s = sliced 10 rest i c in
-    let square = rank_square (ended false c.front) c.token c.cuts.is in
+    let square = rank_square (ended false c.prefix) c.token c.cuts.is in
     let w : take i rest ++ OpenSquare ∷ (us ++ CloseSquare ∷ []) ≡ rest = ap (λ x. take i rest ++ OpenSquare ∷ x) (sym u) ∙ ap (λ x. take i rest ++ x ∷ drop (i + 1) rest) (sym square) ∙ sym s.whole in
     record {
       within = take_within i rest r.within;
       sound = λ es k. subst (λ x. Derives Predicates ts (exprs x)) (adds_appended es a all ∙ ap (adds es) (sym h)) (r.sound (appended es a) (subst (λ x. Derives Predicates x (exprs (appended es a))) w (predicates_more k (predicate d))));
-      only = λ e k. let x = r.only e k in let p = predicate_parts c x.0 x.1 in (p.front, p.left);
+      only = λ e k. let x = r.only e k in let p = predicate_parts c x.0 x.1 in (p.prefix, p.left);
     }
 
 pub predicates_end : {ts rest : List Token} {all : Trees} → Remaining Predicates exprs (λ es. adds es all) ts rest → rest ≡ [] → Derives Predicates ts (exprs all)
 predicates_end r e = r.sound none (rw e predicates_none)
 
 -- relative paths
-pub relative_on : {ts rest : List Token} {i : ℕ} {all all' v : Walk} {w : Walk} (t : Token) → Remaining RelativeLocationPath walk (λ x. joined x all) ts rest → CutsAt 9 rest i → t ≡ get_or rest i t → Derives StepPart (drop (i + 1) rest) (walk w) → v ≡ joined w all → all' ≡ behind_slash t v → Remaining RelativeLocationPath walk (λ x. joined x all') ts (take i rest)
+pub relative_on : {ts rest : List Token} {i : ℕ} {all all' v : Walk} {w : Walk} (t : Token) → Remaining RelativeLocationPath walk (λ x. joined x all) ts rest → CutsAt 9 rest i → t ≡ get_or rest i t → Derives StepPart (drop (i + 1) rest) (walk w) → v ≡ joined w all → all' ≡ after_slash t v → Remaining RelativeLocationPath walk (λ x. joined x all') ts (take i rest)
 relative_on {ts} {rest} {i} {all} {all'} {v} {w} t r c at d hv h =
     let s = sliced 9 rest i c in
     let e = token_at 9 rest i c t at in
-    let slash = rank_slash (ended false c.front) t (rw (← e) c.cuts.is) in
+    let slash = rank_slash (ended false c.prefix) t (rw (← e) c.cuts.is) in
     let whole : take i rest ++ t ∷ drop (i + 1) rest ≡ rest = ap (λ x. take i rest ++ x ∷ drop (i + 1) rest) (sym e) ∙ sym s.whole in
     record {
       within = take_within i rest r.within;
       sound = λ x k. elim slash [
         | inl f ↦
             let one = subst (λ z. Derives RelativeLocationPath z (walk (joined x w))) (ap (λ y. take i rest ++ y ∷ drop (i + 1) rest) (sym f) ∙ whole) (relative_slash k d) in
-            let same : joined (joined x w) all ≡ joined x all' = joined_assoc x w all ∙ ap (joined x) (sym hv ∙ sym (h ∙ ap (λ y. behind_slash y v) f)) in
+            let same : joined (joined x w) all ≡ joined x all' = joined_assoc x w all ∙ ap (joined x) (sym hv ∙ sym (h ∙ ap (λ y. after_slash y v) f)) in
             subst (λ z. Derives RelativeLocationPath ts (walk z)) same (r.sound (joined x w) one)
         | inr f ↦
             let one = subst (λ z. Derives RelativeLocationPath z (walk (joined x (any_depth w)))) (ap (λ y. take i rest ++ y ∷ drop (i + 1) rest) (sym f) ∙ whole) (relative_slash_slash k d) in
-            let same : joined (joined x (any_depth w)) all ≡ joined x all' = joined_assoc x (any_depth w) all ∙ ap (λ y. joined x (any_depth y)) (sym hv) ∙ ap (joined x) (sym (h ∙ ap (λ y. behind_slash y v) f)) in
+            let same : joined (joined x (any_depth w)) all ≡ joined x all' = joined_assoc x (any_depth w) all ∙ ap (λ y. joined x (any_depth y)) (sym hv) ∙ ap (joined x) (sym (h ∙ ap (λ y. after_slash y v) f)) in
             subst (λ z. Derives RelativeLocationPath ts (walk z)) same (r.sound (joined x (any_depth w)) one)
       ];
       only = λ e k. let x = r.only e k in cut_left RelativeLevel c x.0 x.1;
@@ -604,25 +604,25 @@ step_parts {ts} n e d = this (step_cases d)
     this (is_dots h v) = let k = ap dot_axis h in absurd cc
     this (is_step m s) = s
 
-pub no_step : {ts : List Token} → dot_axis ts ≡ None → test_of (behind_axis ts) ≡ None → (e : Phrase) → Derives StepPart ts e → ⊥
+pub no_step : {ts : List Token} → dot_axis ts ≡ None → test_of (after_axis ts) ≡ None → (e : Phrase) → Derives StepPart ts e → ⊥
 no_step n m e d = let s = step_parts n e d in let t = s.is_test in cc
 
-step_refused : (ts : List Token) (f : Fault) → dot_axis ts ≡ None → IsStepTest (behind_axis ts) (Err f) → Answers {X = Step} StepPart as_step ts (Err f)
+step_refused : (ts : List Token) (f : Fault) → dot_axis ts ≡ None → IsStepTest (after_axis ts) (Err f) → Answers {X = Step} StepPart as_step ts (Err f)
 step_refused ts Syntax n h = λ e d. no_step n h e d
 step_refused ts NoMemory n h = tt
 
-pub step_refused_at : (ts : List Token) (f : Fault) (r : Result Step Fault) → dot_axis ts ≡ None → IsErrAnd r (λ y. y ≡ f) → IsStepTest (behind_axis ts) (Err f) → Answers StepPart as_step ts r
+pub step_refused_at : (ts : List Token) (f : Fault) (r : Result Step Fault) → dot_axis ts ≡ None → IsErrAnd r (λ y. y ≡ f) → IsStepTest (after_axis ts) (Err f) → Answers StepPart as_step ts r
 step_refused_at ts f r n h k = let p = err_from_is_err_and r h in rw (p.1, p.2) (step_refused ts f n k)
 
-pub step_rest : {ts : List Token} → dot_axis ts ≡ None → (e : Phrase) → Derives StepPart ts e → (g : Phrase) × Derives Predicates (behind_test (behind_axis ts)) g
+pub step_rest : {ts : List Token} → dot_axis ts ≡ None → (e : Phrase) → Derives StepPart ts e → (g : Phrase) × Derives Predicates (after_test (after_axis ts)) g
 step_rest n e d = let s = step_parts n e d in (exprs s.predicates, s.derived)
 
-pub step_made : (ts : List Token) {t : StepTest} {ps : Trees} → test_of (behind_axis ts) ≡ Some t → Derives Predicates (behind_test (behind_axis ts)) (exprs ps) → Derives StepPart ts (walk (go (axis_of ts) t ps stop))
+pub step_made : (ts : List Token) {t : StepTest} {ps : Trees} → test_of (after_axis ts) ≡ Some t → Derives Predicates (after_test (after_axis ts)) (exprs ps) → Derives StepPart ts (walk (go (axis_of ts) t ps stop))
 step_made ts {t} {ps} h d =
     let a = axis_split ts in
-    let k = test_split (behind_axis ts) t h in
-    let w : ts ≡ a.0 ++ (k.0 ++ behind_test (behind_axis ts)) = a.2 ∙ ap (λ z. a.0 ++ z) k.2 in
-    subst (λ z. Derives StepPart z (walk (go (axis_of ts) t ps stop))) (sym w) (step a.0 k.0 (behind_test (behind_axis ts)) a.1 k.1 d)
+    let k = test_split (after_axis ts) t h in
+    let w : ts ≡ a.0 ++ (k.0 ++ after_test (after_axis ts)) = a.2 ∙ ap (λ z. a.0 ++ z) k.2 in
+    subst (λ z. Derives StepPart z (walk (go (axis_of ts) t ps stop))) (sym w) (step a.0 k.0 (after_test (after_axis ts)) a.1 k.1 d)
 
 -- the exit of a call whose refusal is passed on
 pub refuses_at : {X Y : Type 0} (s s' : Symbol) (view : X → Phrase) (view' : Y → Phrase) (ts ts' : List Token) (f : Fault) (r : Result X Fault) → IsErrAnd r (λ y. y ≡ f) → Answers {X = Y} s' view' ts' (Err f) → ((e : Phrase) → Derives s ts e → (g : Phrase) × Derives s' ts' g) → Answers s view ts r
@@ -653,7 +653,7 @@ chain_begin s ts = record { within = omega arith; sound = λ a d. d; only = λ e
 
 pub chain_on : (l : Binary) {ts rest : List Token} {i : ℕ} (ps : List (Bor Token × Expr)) (p : Bor Token × Expr) → Remaining (symbol (form l)) expr (λ a. applied a ps) ts rest → CutsAt (rank_of (form l)) rest i → p.0.now ≡ get_or rest i p.0.now → Derives (operand (form l)) (drop (i + 1) rest) (expr (tree_of p.1)) → Remaining (symbol (form l)) expr (λ a. applied a (ps ++ p ∷ [])) ts (take i rest)
 chain_on l {ts} {rest} {i} ps p r c at d =
-    let op = operates l (ended false c.front) c.token c.cuts.is in
+    let op = operates l (ended false c.prefix) c.token c.cuts.is in
     let e = token_at (rank_of (form l)) rest i c p.0.now at in
     let binary : IsBinary p.0.now = subst IsBinary e (operates-binary op) in
     record {
@@ -666,4 +666,4 @@ chain_on l {ts} {rest} {i} ps p r c at d =
     }
 
 pub chain_binary : (l : Binary) {rest : List Token} {i : ℕ} (t : Token) → CutsAt (rank_of (form l)) rest i → t ≡ get_or rest i t → IsBinary t
-chain_binary l {rest} {i} t c at = subst IsBinary (token_at (rank_of (form l)) rest i c t at) (operates-binary (operates l (ended false c.front) c.token c.cuts.is))
+chain_binary l {rest} {i} t c at = subst IsBinary (token_at (rank_of (form l)) rest i c t at) (operates-binary (operates l (ended false c.prefix) c.token c.cuts.is))

@@ -10,9 +10,9 @@ use Rattle.xpath_tokens.specs.declared.StepAxis.TheVariants.{Known}
 use Rattle.xpath_grammar.specs.declared.expr.StepTest.{StepTest}
 use Rattle.xpath_grammar.specs.declared.expr.StepTest.TheVariants as test
 use Rattle.xpath_grammar.specs.Tree.{Tree, Trees, Walk, negate, path, from, call, none, stop, go}
-use Rattle.xpath_grammar.specs.Grammar.{Stands, Symbol, OrExpr, UnaryExpr, UnionExpr, PathExpr, FilterExpr, PrimaryExpr, Arguments, LocationPath, RelativeLocationPath, StepPart, Predicates, Predicate, Phrase, expr, exprs, filtered, walk, appended, filter_tree, any_depth, Derives, or_one, or_more, and_one, and_more, equality_one, equality_more, relational_one, relational_more, additive_one, additive_more, multiplicative_one, multiplicative_more, unary_one, unary_minus, union_one, union_more, path_location, path_filter, path_slash, path_slash_slash, filter_one, filter_more, primary_bracket, primary_variable, primary_literal, primary_number, call_none, call_some, arguments_one, arguments_more, location_relative, location_root, location_slash, location_slash_slash, relative_one, relative_slash, relative_slash_slash, step, step_dot, step_dots, IsAxis, IsTest, predicates_none, predicates_more, predicate, ends, behind}
-use Rattle.xpath_grammar.specs.Cutting.{rank, Level, OrLevel, AndLevel, EqualityLevel, RelationalLevel, AdditiveLevel, MultiplicativeLevel, UnionLevel, RelativeLevel, ArgumentLevel, symbol, operand, rank_of, combined, behind_slash}
-use Rattle.xpath_grammar.specs.Shape.{starts_primary, first, axis_of, behind_axis, test_of, behind_test, dot_axis}
+use Rattle.xpath_grammar.specs.Grammar.{MayFollow, Symbol, OrExpr, UnaryExpr, UnionExpr, PathExpr, FilterExpr, PrimaryExpr, Arguments, LocationPath, RelativeLocationPath, StepPart, Predicates, Predicate, Phrase, expr, exprs, filtered, walk, appended, filter_tree, any_depth, Derives, or_one, or_more, and_one, and_more, equality_one, equality_more, relational_one, relational_more, additive_one, additive_more, multiplicative_one, multiplicative_more, unary_one, unary_minus, union_one, union_more, path_location, path_filter, path_slash, path_slash_slash, filter_one, filter_more, primary_bracket, primary_variable, primary_literal, primary_number, call_none, call_some, arguments_one, arguments_more, location_relative, location_root, location_slash, location_slash_slash, relative_one, relative_slash, relative_slash_slash, step, step_dot, step_dots, IsAxis, IsTest, predicates_none, predicates_more, predicate, ends, depth_after}
+use Rattle.xpath_grammar.specs.Cutting.{rank, Level, OrLevel, AndLevel, EqualityLevel, RelationalLevel, AdditiveLevel, MultiplicativeLevel, UnionLevel, RelativeLevel, ArgumentLevel, symbol, operand, rank_of, combined, after_slash}
+use Rattle.xpath_grammar.specs.Shape.{starts_primary, first, axis_of, after_axis, test_of, after_test, dot_axis}
 use Rattle.xpath_grammar.proofs.Clean.{clean, least, rank_equality, rank_relational, rank_additive, rank_multiplicative}
 use Rattle.xpath_grammar.proofs.Cut.{last_none}
 use Rattle.xpath_grammar.proofs.Cut.{one_alone, one_cut, parts, last_none}
@@ -32,7 +32,7 @@ one_minus ts a only f g =
     cc
 
 from_starts : {ts : List Token} {e : Phrase} → Fromed ts e → first starts_primary ts ≡ true
-from_starts p = subst (λ x. first starts_primary x ≡ true) (sym p.whole) (first-append starts_primary p.front (p.token ∷ p.rest) (starts p.left))
+from_starts p = subst (λ x. first starts_primary x ≡ true) (sym p.whole) (first-append starts_primary p.prefix (p.token ∷ p.rest) (starts p.left))
 
 one_location : {ts : List Token} {e : Phrase} → Derives LocationPath ts e → Only LocationPath ts e → Only PathExpr ts e
 one_location {ts} {e} d only f g = this (path_cases g)
@@ -54,10 +54,10 @@ one_filter {ts} {a} {ps} d only f g = this (path_cases g)
         let z = ap (first_cut 9 0 false) p.whole in
         absurd cc
 
-one_from : {us vs : List Token} {a : Tree} {ps : Trees} {w : Walk} (t : Token) → Derives FilterExpr us (filtered a ps) → rank true t ≡ 9 → Only FilterExpr us (filtered a ps) → Only RelativeLocationPath vs (walk w) → Only PathExpr (us ++ t ∷ vs) (expr (from (filter_tree a ps) (behind_slash t w)))
+one_from : {us vs : List Token} {a : Tree} {ps : Trees} {w : Walk} (t : Token) → Derives FilterExpr us (filtered a ps) → rank true t ≡ 9 → Only FilterExpr us (filtered a ps) → Only RelativeLocationPath vs (walk w) → Only PathExpr (us ++ t ∷ vs) (expr (from (filter_tree a ps) (after_slash t w)))
 one_from {us} {vs} {a} {ps} {w} t d r only only' f g = this (path_cases g)
   where
-    this : PathForm (us ++ t ∷ vs) f → expr (from (filter_tree a ps) (behind_slash t w)) ≡ f
+    this : PathForm (us ++ t ∷ vs) f → expr (from (filter_tree a ps) (after_slash t w)) ≡ f
     this (is_location k) = let x = first-append starts_primary us (t ∷ vs) (starts d) in let y = starts k in absurd cc
     this (is_filter k v) =
         let x = first_none 9 0 false (us ++ t ∷ vs) ((clean k false tt).flat 9 (omega arith)) in
@@ -67,10 +67,10 @@ one_from {us} {vs} {a} {ps} {w} t d r only only' f g = this (path_cases g)
         let x = slash_cut t vs d r in
         let y = p.cuts in
         let z = ap (first_cut 9 0 false) p.whole in
-        let front : p.front ≡ us = cc in
+        let prefix : p.prefix ≡ us = cc in
         let token : p.token ≡ t = cc in
         let rest : p.rest ≡ vs = cc in
-        let h = only (filtered p.start p.predicates) (subst (λ x. Derives FilterExpr x (filtered p.start p.predicates)) front p.left) in
+        let h = only (filtered p.start p.predicates) (subst (λ x. Derives FilterExpr x (filtered p.start p.predicates)) prefix p.left) in
         let h' = only' (walk p.steps) (subst (λ x. Derives RelativeLocationPath x (walk p.steps)) rest p.right) in
         let start : a ≡ p.start = cc in
         let predicates : ps ≡ p.predicates = cc in
@@ -84,7 +84,7 @@ one_primary {ts} {a} d only f g =
       | inr p ↦
           let q = predicate_cases p.right in
           let x = last_none 10 0 false ts ((clean d false tt).flat 10 (omega arith)) in
-          let y = square_cut false p.front q.inner ((clean p.left false tt).level 0) q.derived in
+          let y = square_cut false p.prefix q.inner ((clean p.left false tt).level 0) q.derived in
           let z = p.whole in
           let w = q.whole in
           absurd cc
@@ -148,7 +148,7 @@ one_none f g =
       | inl k ↦ sym k.1
       | inr q ↦
           let k = predicate_cases q.right in
-          let x = square_cut true q.front k.inner ((clean q.left true refl).level 0) k.derived in
+          let x = square_cut true q.prefix k.inner ((clean q.left true refl).level 0) k.derived in
           let y = q.whole in
           let z = k.whole in
           absurd cc
@@ -206,9 +206,9 @@ one_step {us} {vs} {ws} {a} {t} {ps} is_axis is_test only f g = this (step_cases
     this (is_step n s) =
         let x = axis_read ws is_axis is_test in
         let y = test_read ws is_test in
-        let w : behind_test (behind_axis (us ++ (vs ++ ws))) ≡ ws = ap behind_test x.1 ∙ y.1 in
+        let w : after_test (after_axis (us ++ (vs ++ ws))) ≡ ws = ap after_test x.1 ∙ y.1 in
         let p = only (exprs s.predicates) (subst (λ z. Derives Predicates z (exprs s.predicates)) w s.derived) in
-        let r : test_of (behind_axis (us ++ (vs ++ ws))) ≡ Some t = ap test_of x.1 ∙ y.0 in
+        let r : test_of (after_axis (us ++ (vs ++ ws))) ≡ Some t = ap test_of x.1 ∙ y.0 in
         let i = s.is_test in
         let e : t ≡ s.test = cc in
         let q : ps ≡ s.predicates = cc in
@@ -231,7 +231,7 @@ one_dots f g = this (step_cases g)
     this (is_dots h v) = sym v
     this (is_step n s) = absurd cc
 
-level_cut : {us vs : List Token} {x y : Phrase} (l : Level) (t : Token) → Derives (symbol l) us x → Derives (operand l) vs y → Stands (symbol l) false → Stands (operand l) (ends t) → rank true t ≡ rank_of l → behind 0 t ≡ 0 → rank_of l < least (operand l) → Only (symbol l) us x → Only (operand l) vs y → Only (symbol l) (us ++ t ∷ vs) (combined t x y)
+level_cut : {us vs : List Token} {x y : Phrase} (l : Level) (t : Token) → Derives (symbol l) us x → Derives (operand l) vs y → MayFollow (symbol l) false → MayFollow (operand l) (ends t) → rank true t ≡ rank_of l → depth_after 0 t ≡ 0 → rank_of l < least (operand l) → Only (symbol l) us x → Only (operand l) vs y → Only (symbol l) (us ++ t ∷ vs) (combined t x y)
 unfolding parts
 level_cut l t c d h h' r plain lt only only' = one_cut l (parts l t c d h h' r plain lt).cuts only only'
 

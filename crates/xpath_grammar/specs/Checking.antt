@@ -1,5 +1,5 @@
--- The first refusal of an expression, as the working functions find it: they go down the parts at its front, and keep the
--- earliest refusal of what stands behind them.
+-- The first refusal of an expression, as the working functions find it: they go down the parts at its start, and keep the
+-- earliest refusal of what is after them.
 use Rattle.std.specs.Prelude.{ℕ, suc, ◌+◌, ◌*◌, ◌-◌, Bool, true, false, cond, not, ◌||◌, ◌==◌, nat_lt, List, [], ◌∷◌, Option, Some, None, unwrap_or}
 use Rattle.std.specs.List.{flat_map}
 use Rattle.xml_model.specs.declared.Axis.TheVariants as axis
@@ -18,13 +18,13 @@ use Rattle.xpath_grammar.specs.Static.{Word, axis_word, test_word, function_word
 -- one more character of a number that is scanned
 abbrev pub scan_next : NumberScan → ℕ → NumberScan
 scan_next s c =
-    cond s.behind
-    (record { value = s.value; behind = true; fraction = s.fraction || not (c == 48) })
-    (cond (c == 46) (record { value = s.value; behind = true; fraction = s.fraction })
-    (record { value = cond (nat_lt greatest s.value) s.value (10 * s.value + (c - 48)); behind = false; fraction = s.fraction }))
+    cond s.after
+    (record { value = s.value; after = true; fraction = s.fraction || not (c == 48) })
+    (cond (c == 46) (record { value = s.value; after = true; fraction = s.fraction })
+    (record { value = cond (nat_lt greatest s.value) s.value (10 * s.value + (c - 48)); after = false; fraction = s.fraction }))
 
 abbrev pub scan_start : NumberScan
-scan_start = record { value = 0; behind = false; fraction = false }
+scan_start = record { value = 0; after = false; fraction = false }
 
 -- the first of a list
 abbrev pub head : List StaticFault → Option StaticFault
@@ -35,30 +35,30 @@ head (f ∷ fs) = Some f
 abbrev pub first_in : List (List ℕ × List ℕ) → List Mark → Option StaticFault
 first_in bs ms = head (flat_map (refused_at bs) ms)
 
--- the expression at the front of another, with the same first token
-abbrev pub front_of : Tree → Option Tree
-front_of (or a b) = Some a
-front_of (and a b) = Some a
-front_of (compare how a b) = Some a
-front_of (arithmetic op a b) = Some a
-front_of (union a b) = Some a
-front_of (from e w) = Some e
-front_of (filter e ps) = Some e
-front_of _ = None
+-- the expression at the start of another, with the same first token
+abbrev pub prefix_of : Tree → Option Tree
+prefix_of (or a b) = Some a
+prefix_of (and a b) = Some a
+prefix_of (compare how a b) = Some a
+prefix_of (arithmetic op a b) = Some a
+prefix_of (union a b) = Some a
+prefix_of (from e w) = Some e
+prefix_of (filter e ps) = Some e
+prefix_of _ = None
 
--- the same, or the expression behind a minus sign
+-- the same, or the expression after a minus sign
 abbrev pub inner_of : Tree → Option Tree
 inner_of (negate a) = Some a
-inner_of e = front_of e
+inner_of e = prefix_of e
 
--- whether nodes are needed of the expression at the front
+-- whether nodes are needed of the expression at the start
 abbrev pub needs_nodes : Tree → Bool
 needs_nodes (union a b) = true
 needs_nodes (from e w) = true
 needs_nodes (filter e ps) = true
 needs_nodes _ = false
 
--- the tokens behind the part at the front
+-- the tokens after the part at the start
 abbrev pub tail_marks : Tree → List Mark
 tail_marks (or a b) = marks b
 tail_marks (and a b) = marks b
@@ -71,25 +71,25 @@ tail_marks (filter e ps) = list_marks false ps
 tail_marks (call f es) = list_marks (wants_nodes (signature_of f)) es
 tail_marks _ = []
 
--- the tokens of the part at the front, or the one of an expression that has no other at its front
-abbrev pub front_marks : Tree → List Mark
-front_marks (or a b) = marks a
-front_marks (and a b) = marks a
-front_marks (compare how a b) = marks a
-front_marks (arithmetic op a b) = marks a
-front_marks (negate a) = plain other_word ∷ marks a
-front_marks (union a b) = wanted true a (marks a)
-front_marks (path true w) = plain other_word ∷ []
-front_marks (path false stop) = plain other_word ∷ []
-front_marks (path false (go a t ps w)) = []
-front_marks (from e w) = wanted true e (marks e)
-front_marks (filter e ps) = wanted true e (marks e)
-front_marks (literal t) = plain other_word ∷ []
-front_marks (number t) = plain (number_word t) ∷ []
-front_marks (variable n) = plain variable_word ∷ []
-front_marks (call f es) = plain (function_word f es) ∷ []
+-- the tokens of the part at the start, or the one of an expression that has no other at its start
+abbrev pub prefix_marks : Tree → List Mark
+prefix_marks (or a b) = marks a
+prefix_marks (and a b) = marks a
+prefix_marks (compare how a b) = marks a
+prefix_marks (arithmetic op a b) = marks a
+prefix_marks (negate a) = plain other_word ∷ marks a
+prefix_marks (union a b) = wanted true a (marks a)
+prefix_marks (path true w) = plain other_word ∷ []
+prefix_marks (path false stop) = plain other_word ∷ []
+prefix_marks (path false (go a t ps w)) = []
+prefix_marks (from e w) = wanted true e (marks e)
+prefix_marks (filter e ps) = wanted true e (marks e)
+prefix_marks (literal t) = plain other_word ∷ []
+prefix_marks (number t) = plain (number_word t) ∷ []
+prefix_marks (variable n) = plain variable_word ∷ []
+prefix_marks (call f es) = plain (function_word f es) ∷ []
 
--- what an expression that has no other at its front refuses there
+-- what an expression that has no other at its start refuses there
 abbrev pub own_fault : Tree → Option StaticFault
 own_fault (number t) = number_fault t
 own_fault (variable n) = Some fault.Variable
@@ -126,11 +126,11 @@ first_word (call f es) = function_word f es
 abbrev pub needed_fault : List (List ℕ × List ℕ) → Tree → StaticFault
 needed_fault bs e = unwrap_or (word_fault bs (first_word e)) fault.NotNodes
 
-abbrev pub marks_behind : Tail → List Mark
-marks_behind tail.Nothing = []
-marks_behind (tail.Operand nodes e) = wanted nodes (tree_of e.now) (marks (tree_of e.now))
-marks_behind (tail.Steps s) = step_marks (walk_of s.now)
-marks_behind (tail.List nodes es) = list_marks nodes (trees_of es.now)
+abbrev pub marks_after : Tail → List Mark
+marks_after tail.Nothing = []
+marks_after (tail.Operand nodes e) = wanted nodes (tree_of e.now) (marks (tree_of e.now))
+marks_after (tail.Steps s) = step_marks (walk_of s.now)
+marks_after (tail.List nodes es) = list_marks nodes (trees_of es.now)
 
 -- how many parts an expression has
 abbrev mutual

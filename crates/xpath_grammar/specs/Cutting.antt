@@ -14,9 +14,9 @@ use Rattle.xpath_grammar.specs.declared.expr.Step.{Step, out-Step}
 use Rattle.xpath_grammar.specs.declared.parser.Binary.{Binary}
 use Rattle.xpath_grammar.specs.declared.parser.Binary.TheVariants as rust
 use Rattle.xpath_grammar.specs.Tree.{tree_of, trees_of, walk_of, Tree, Trees, Walk, or, and, union, compare, arithmetic, negate, none, more, stop, go}
-use Rattle.xpath_grammar.specs.Grammar.{Symbol, Phrase, appended, joined, filter_tree, any_depth, Derives, ends, behind, depth, ended, OrExpr, AndExpr, EqualityExpr, RelationalExpr, AdditiveExpr, MultiplicativeExpr, UnaryExpr, UnionExpr, PathExpr, FilterExpr, Arguments, RelativeLocationPath, StepPart, expr, exprs, filtered, walk}
+use Rattle.xpath_grammar.specs.Grammar.{Symbol, Phrase, appended, joined, filter_tree, any_depth, Derives, ends, depth_after, depth, ended, OrExpr, AndExpr, EqualityExpr, RelationalExpr, AdditiveExpr, MultiplicativeExpr, UnaryExpr, UnionExpr, PathExpr, FilterExpr, Arguments, RelativeLocationPath, StepPart, expr, exprs, filtered, walk}
 
--- how far a token binds where it stands outside all brackets; the flag says that a token before it ends an operand
+-- how far a token binds where it is outside all brackets; the flag says that a token before it ends an operand
 abbrev pub rank : Bool → Token → ℕ
 rank b Comma = 0
 rank b Or = 1
@@ -34,14 +34,14 @@ rank b SlashSlash = 9
 rank b OpenSquare = 10
 rank b _ = 20
 
--- no token of a rank stands outside all brackets
+-- no token of a rank is outside all brackets
 abbrev pub IsOther : ℕ → ℕ → Bool → Token → Type 0
 IsOther k zero b t = rank b t ≢ k
 IsOther k (suc d) b t = Unit {0}
 
 abbrev pub Free : ℕ → ℕ → Bool → List Token → Type 0
 Free k d b [] = Unit {0}
-Free k d b (t ∷ ts) = IsOther k d b t × Free k (behind d t) (ends t) ts
+Free k d b (t ∷ ts) = IsOther k d b t × Free k (depth_after d t) (ends t) ts
 
 -- the forms with an operator or a separator between two parts
 pub data Level : Type 0 where
@@ -101,16 +101,16 @@ combined _ x y = x
 pub record Cuts (k : ℕ) (us : List Token) (t : Token) (vs : List Token) : Type 0 where
   pub level : depth 0 us ≡ 0
   pub is : rank (ended false us) t ≡ k
-  pub later : Free k (behind 0 t) (ends t) vs
+  pub later : Free k (depth_after 0 t) (ends t) vs
 
 -- a list has its last cut at a place
 pub record CutsAt (k : ℕ) (ts : List Token) (i : ℕ) : Type 0 where
-  pub front : List Token
+  pub prefix : List Token
   pub token : Token
   pub rest : List Token
-  pub whole : ts ≡ front ++ token ∷ rest
-  pub place : length front ≡ i
-  pub cuts : Cuts k front token rest
+  pub whole : ts ≡ prefix ++ token ∷ rest
+  pub place : length prefix ≡ i
+  pub cuts : Cuts k prefix token rest
 
 -- all the places at which a list is cut, the last one first at the end
 pub data AreCuts (k : ℕ) : List Token → List ℕ → Type 0 where
@@ -119,14 +119,14 @@ pub data AreCuts (k : ℕ) : List Token → List ℕ → Type 0 where
 
 -- a list has its first cut at a place
 pub record FirstAt (k : ℕ) (ts : List Token) (i : ℕ) : Type 0 where
-  pub front : List Token
+  pub prefix : List Token
   pub token : Token
   pub rest : List Token
-  pub whole : ts ≡ front ++ token ∷ rest
-  pub place : length front ≡ i
-  pub level : depth 0 front ≡ 0
-  pub is : rank (ended false front) token ≡ k
-  pub before : Free k 0 false front
+  pub whole : ts ≡ prefix ++ token ∷ rest
+  pub place : length prefix ≡ i
+  pub level : depth 0 prefix ≡ 0
+  pub is : rank (ended false prefix) token ≡ k
+  pub before : Free k 0 false prefix
 
 abbrev pub FoundFirst : ℕ → List Token → Option ℕ → Type 0
 FoundFirst k ts None = Free k 0 false ts
@@ -182,10 +182,10 @@ Gives (Ok x) P = P x
 Gives (Err Syntax) P = ⊥
 Gives (Err NoMemory) P = Unit {0}
 
--- a path behind an expression
-abbrev pub behind_slash : Token → Walk → Walk
-behind_slash SlashSlash w = any_depth w
-behind_slash _ w = w
+-- a path after an expression
+abbrev pub after_slash : Token → Walk → Walk
+after_slash SlashSlash w = any_depth w
+after_slash _ w = w
 
 abbrev pub step_walk : Step → Walk
 step_walk s = go (out-Step s).axis (out-Step s).test (trees_of (out-Step s).predicates) stop
@@ -213,7 +213,7 @@ tree_join (Arithmetic op) a b = arithmetic op a b
 tree_join Bar a b = union a b
 tree_join _ a b = a
 
--- a tree with operators and operands behind it, of which the last come first
+-- a tree with operators and operands after it, of which the last come first
 abbrev pub applied : Tree → List (Bor Token × Expr) → Tree
 applied a [] = a
 applied a (p ∷ ps) = tree_join p.0.now (applied a ps) (tree_of p.1)
@@ -226,7 +226,7 @@ abbrev pub is_minus : Token → Bool
 is_minus (Arithmetic Subtract) = true
 is_minus _ = false
 
--- how many minus signs stand at the front
+-- how many minus signs are at the start
 abbrev pub leading_minuses : List Token → ℕ
 leading_minuses [] = 0
 leading_minuses (t ∷ ts) = cond (is_minus t) (suc (leading_minuses ts)) 0

@@ -98,7 +98,7 @@ is_nodes type.Nodes = true
 is_nodes type.Any = true
 is_nodes _ = false
 
--- whether an expression may stand where nodes are needed
+-- whether an expression may be where nodes are needed
 abbrev pub gives_nodes : Tree → Bool
 gives_nodes t = is_nodes (type_of t)
 

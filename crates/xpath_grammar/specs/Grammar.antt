@@ -130,39 +130,39 @@ pub data Derives : Symbol → List Token → Phrase → Type 0 where
   predicates_more : {us vs : List Token} {p : Tree} {ps : Trees} → Derives Predicates us (exprs ps) → Derives Predicate vs (expr p) → Derives Predicates (us ++ vs) (exprs (appended ps p))
   predicate : {ts : List Token} {a : Tree} → Derives OrExpr ts (expr a) → Derives Predicate (OpenSquare ∷ (ts ++ CloseSquare ∷ [])) (expr a)
 
--- whether a token ends an operand, so that a minus behind it is binary
+-- whether a token ends an operand, so that a minus after it is binary
 abbrev pub ends : Token → Bool
 ends Slash = true
 ends t = closes_operand t
 
--- how many brackets are open behind a token
-abbrev pub behind : ℕ → Token → ℕ
-behind d Open = suc d
-behind d OpenSquare = suc d
-behind zero Close = zero
-behind (suc d) Close = d
-behind zero CloseSquare = zero
-behind (suc d) CloseSquare = d
-behind d _ = d
+-- how many brackets are open after a token
+abbrev pub depth_after : ℕ → Token → ℕ
+depth_after d Open = suc d
+depth_after d OpenSquare = suc d
+depth_after zero Close = zero
+depth_after (suc d) Close = d
+depth_after zero CloseSquare = zero
+depth_after (suc d) CloseSquare = d
+depth_after d _ = d
 
--- how many brackets are open behind a list, and whether it ends an operand
+-- how many brackets are open after a list, and whether it ends an operand
 abbrev pub depth : ℕ → List Token → ℕ
 depth d [] = d
-depth d (t ∷ ts) = depth (behind d t) ts
+depth d (t ∷ ts) = depth (depth_after d t) ts
 
 abbrev pub ended : Bool → List Token → Bool
 ended b [] = b
 ended b (t ∷ ts) = ended (ends t) ts
 
--- where a symbol may stand: behind what ends an operand, or not
-abbrev pub Stands : Symbol → Bool → Type 0
-Stands Arguments b = b ≡ false
-Stands OrExpr b = b ≡ false
-Stands AndExpr b = b ≡ false
-Stands EqualityExpr b = b ≡ false
-Stands RelationalExpr b = b ≡ false
-Stands AdditiveExpr b = b ≡ false
-Stands MultiplicativeExpr b = b ≡ false
-Stands UnaryExpr b = b ≡ false
-Stands Predicates b = b ≡ true
-Stands _ b = Unit {0}
+-- where a symbol may be: after what ends an operand, or not
+abbrev pub MayFollow : Symbol → Bool → Type 0
+MayFollow Arguments b = b ≡ false
+MayFollow OrExpr b = b ≡ false
+MayFollow AndExpr b = b ≡ false
+MayFollow EqualityExpr b = b ≡ false
+MayFollow RelationalExpr b = b ≡ false
+MayFollow AdditiveExpr b = b ≡ false
+MayFollow MultiplicativeExpr b = b ≡ false
+MayFollow UnaryExpr b = b ≡ false
+MayFollow Predicates b = b ≡ true
+MayFollow _ b = Unit {0}

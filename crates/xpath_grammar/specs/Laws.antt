@@ -54,13 +54,13 @@ minuses predicates_none = []
 minuses (predicates_more c d) = minuses c ++ minuses d
 minuses (predicate d) = minuses d
 
--- of each minus in a list, whether a token that ends an operand stands before it
+-- of each minus in a list, whether a token that ends an operand is before it
 abbrev pub flags : Bool → List Token → List Bool
 flags b [] = []
 flags b (Arithmetic Subtract ∷ ts) = b ∷ flags false ts
 flags b (t ∷ ts) = flags (ends t) ts
 
--- the productions with two parts: the symbol, the operator, and the symbol of the part behind it; a comma is that of the
+-- the productions with two parts: the symbol, the operator, and the symbol of the part after it; a comma is that of the
 -- arguments of a call
 pub data IsForm : Symbol → Token → Symbol → Type 0 where
   by_or : IsForm OrExpr Or AndExpr
@@ -78,11 +78,11 @@ pub data IsForm : Symbol → Token → Symbol → Type 0 where
 abbrev pub IsOperator : Symbol → Token → Type 0
 IsOperator s t = (o : Symbol) × IsForm s t o
 
--- what stands behind these tokens stands outside all brackets
+-- what is after these tokens is outside all brackets
 abbrev pub IsOutside : List Token → Type 0
 IsOutside before = depth 0 before ≡ 0
 
--- a minus is an operator only where it is binary: where a token that is /, or can end an operand, stands before it
+-- a minus is an operator only where it is binary: where a token that is /, or can end an operand, is before it
 abbrev pub Counts : List Token → Token → Type 0
 Counts before t = t ≡ Arithmetic Subtract → ended false before ≡ true
 
@@ -92,12 +92,12 @@ pub record IsLastOperator (s : Symbol) (us : List Token) (t : Token) (vs : List 
   pub counts : Counts us t
   pub last : (ws xs : List Token) (u : Token) → vs ≡ ws ++ u ∷ xs → IsOutside (us ++ t ∷ ws) → IsOperator s u → Counts (us ++ t ∷ ws) u → ⊥
 
--- a / or // with steps behind it
+-- a / or // with steps after it
 pub data IsSlash : Token → Type 0 where
   one : IsSlash Slash
   two : IsSlash SlashSlash
 
--- what stands behind these tokens stands outside all brackets, and no / or // among them does
+-- what is after these tokens is outside all brackets, and no / or // among them does
 pub record IsFirstSlash (us : List Token) : Type 0 where
   pub outside : IsOutside us
   pub first : (ws xs : List Token) (u : Token) → us ≡ ws ++ u ∷ xs → IsOutside ws → IsSlash u → ⊥

@@ -18,9 +18,9 @@ use Rattle.xpath_grammar.specs.declared.shape.PathShape.{PathShape}
 use Rattle.xpath_grammar.specs.declared.shape.PathShape.TheVariants as path
 use Rattle.xpath_grammar.specs.Grammar.{kind_test}
 
-abbrev pub IsFront : List Token → Option (Bor Token × Bor (List Token)) → Type 0
-IsFront ts None = ts ≡ []
-IsFront ts (Some p) = ts ≡ p.0.now ∷ p.1.now
+abbrev pub IsPrefix : List Token → Option (Bor Token × Bor (List Token)) → Type 0
+IsPrefix ts None = ts ≡ []
+IsPrefix ts (Some p) = ts ≡ p.0.now ∷ p.1.now
 
 abbrev pub IsBack : List Token → Option (Bor Token × Bor (List Token)) → Type 0
 IsBack ts None = ts ≡ []
@@ -81,18 +81,18 @@ dot_axis (Dot ∷ []) = Some axis.Itself
 dot_axis (DotDot ∷ []) = Some axis.Parent
 dot_axis _ = None
 
--- the axis part at the front, and what stands behind it
+-- the axis part at the start, and what is after it
 abbrev pub axis_of : List Token → StepAxis
 axis_of (AxisName a ∷ ColonColon ∷ ts) = a
 axis_of (At ∷ ts) = Known axis.Attribute
 axis_of _ = Known axis.Child
 
-abbrev pub behind_axis : List Token → List Token
-behind_axis (AxisName a ∷ ColonColon ∷ ts) = ts
-behind_axis (At ∷ ts) = ts
-behind_axis ts = ts
+abbrev pub after_axis : List Token → List Token
+after_axis (AxisName a ∷ ColonColon ∷ ts) = ts
+after_axis (At ∷ ts) = ts
+after_axis ts = ts
 
--- the node test at the front, and what stands behind it
+-- the node test at the start, and what is after it
 abbrev pub test_of : List Token → Option StepTest
 test_of (Any ∷ ts) = Some test.Any
 test_of (AnyIn p ∷ ts) = Some (test.AnyIn p)
@@ -101,11 +101,11 @@ test_of (Kind k ∷ Open ∷ Close ∷ ts) = Some (kind_test k)
 test_of (Kind kind.Instruction ∷ Open ∷ Literal t ∷ Close ∷ ts) = Some (test.Target t)
 test_of _ = None
 
-abbrev pub behind_test : List Token → List Token
-behind_test (Kind k ∷ Open ∷ Close ∷ ts) = ts
-behind_test (Kind k ∷ Open ∷ Literal t ∷ Close ∷ ts) = ts
-behind_test (t ∷ ts) = ts
-behind_test [] = []
+abbrev pub after_test : List Token → List Token
+after_test (Kind k ∷ Open ∷ Close ∷ ts) = ts
+after_test (Kind k ∷ Open ∷ Literal t ∷ Close ∷ ts) = ts
+after_test (t ∷ ts) = ts
+after_test [] = []
 
 abbrev pub IsStepTest : List Token → Result StepTest Fault → Type 0
 IsStepTest ts (Ok t) = test_of ts ≡ Some t

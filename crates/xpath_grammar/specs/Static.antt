@@ -15,7 +15,7 @@ use Rattle.xpath_grammar.specs.Bindings.{uri_in}
 use Rattle.xpath_grammar.specs.Functions.{signature_of, gives_nodes, fits}
 
 -- A token of an expression that can be refused, or with which an expression can begin. The others, brackets, commas,
--- operators behind an operand and slashes behind a step, are left aside.
+-- operators after an operand and slashes after a step, are left aside.
 pub data Word : Type 0 where
   axis_word : StepAxis → Word
   test_word : StepTest → Word
@@ -33,17 +33,17 @@ pub record Mark : Type 0 where
 abbrev pub greatest : ℕ
 greatest = 9007199254740991
 
--- a digit behind the point is not 0
+-- a digit after the point is not 0
 abbrev pub has_fraction : List ℕ → Bool
 has_fraction [] = false
 has_fraction (c ∷ cs) = cond (c == 46) (list_any (λ d. not (d == 48)) cs) (has_fraction cs)
 
--- the value of the digits before the point, behind a number
+-- the value of the digits before the point, after a number
 abbrev pub whole_value : ℕ → List ℕ → ℕ
 whole_value v [] = v
 whole_value v (c ∷ cs) = cond (c == 46) v (whole_value (10 * v + (c - 48)) cs)
 
--- Fraction, where a digit behind the point is not 0; Range, where the number is else above the greatest
+-- Fraction, where a digit after the point is not 0; Range, where the number is else above the greatest
 abbrev pub number_fault : List ℕ → Option StaticFault
 number_fault t = cond (has_fraction t) (Some fault.Fraction) (cond (nat_lt greatest (whole_value 0 t)) (Some fault.Range) None)
 
@@ -82,7 +82,7 @@ abbrev pub listed : Option StaticFault → List StaticFault
 listed (Some f) = f ∷ []
 listed None = []
 
--- the refusals that stand at a token, in the order of StaticFault
+-- the refusals that are at a token, in the order of StaticFault
 abbrev pub refused_at : List (List ℕ × List ℕ) → Mark → List StaticFault
 refused_at bs m = listed (word_fault bs m.word) ++ cond m.not_nodes (fault.NotNodes ∷ []) []
 
@@ -93,7 +93,7 @@ abbrev pub marked : List Mark → List Mark
 marked [] = []
 marked (m ∷ ms) = record { word = m.word; not_nodes = true } ∷ ms
 
--- the tokens of an expression of which nodes are needed, or not: where it is of another type, that stands at its first
+-- the tokens of an expression of which nodes are needed, or not: where it is of another type, that is at its first
 abbrev pub wanted : Bool → Tree → List Mark → List Mark
 wanted nodes e ms = cond (nodes && not (gives_nodes e)) (marked ms) ms
 

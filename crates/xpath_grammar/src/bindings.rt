@@ -43,7 +43,7 @@ impl<T: Drop> From<AllocFailed<T>> for BindFault {
 }
 
 /// The prefixes that an expression may use, with their URIs (XPath 1.0, section 1). Contracts see the prefixes that were
-/// set, each with its URI; `xml` is bound always, and stands in no list.
+/// set, each with its URI; `xml` is bound always, and is in no list.
 #[derive(Drop)]
 pub struct Bindings {
     held: Vec<Binding>,

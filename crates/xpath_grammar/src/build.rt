@@ -3,7 +3,7 @@
 ghost use Rattle.std.specs.Prelude.{◌≡◌, ℕ, true, IfOk};
 ghost use Rattle.xpath_grammar.specs.Tree.{tree_of, trees_of, walk_of, negate, from as from_tree, filter as filter_with, more as more_trees, call as call_tree, number as number_tree, literal as literal_tree, variable as variable_tree, path as path_tree};
 ghost use Rattle.xpath_grammar.specs.Grammar.{any_depth, joined as joined_walks};
-ghost use Rattle.xpath_grammar.specs.Cutting.{behind_slash, step_walk, Gives, as_expr, combined, IsBinary, negations, applied, AreBinary};
+ghost use Rattle.xpath_grammar.specs.Cutting.{after_slash, step_walk, Gives, as_expr, combined, IsBinary, negations, applied, AreBinary};
 
 use crate::expr::{Expr, Exprs, Step, StepTest, Steps};
 use std::alloc::{AllocError, Global};
@@ -52,7 +52,7 @@ pub fn from(alloc: Global, start: Expr, steps: Steps) -> Result<Expr, Fault>
     Ok(Expr::From { start, steps })
 }
 
-/// The expression with predicates behind it (XPath 1.0, production 20).
+/// The expression with predicates after it (XPath 1.0, production 20).
 pub fn filtered(alloc: Global, start: Expr, predicates: Exprs) -> Result<Expr, Fault>
     ensures { Gives result (λ e. tree_of e ≡ filter_with (tree_of start) (trees_of predicates)) }
 {
@@ -98,7 +98,7 @@ pub fn call(alloc: Global, name: &Text, arguments: Exprs) -> Result<Expr, Fault>
     Ok(Expr::Call { name, arguments })
 }
 
-/// The list with one more expression in front.
+/// The list with one more expression in@prefix.
 pub fn more(alloc: Global, part: Expr, all: Exprs) -> Result<Exprs, Fault>
     ensures { Gives result (λ es. trees_of es ≡ more_trees (tree_of part) (trees_of all)) }
 {
@@ -107,7 +107,7 @@ pub fn more(alloc: Global, part: Expr, all: Exprs) -> Result<Exprs, Fault>
     Ok(Exprs::More(part, all))
 }
 
-/// The steps with one more in front (XPath 1.0, production 3).
+/// The steps with one more in@prefix (XPath 1.0, production 3).
 pub fn step_more(alloc: Global, part: Step, all: Steps) -> Result<Steps, Fault>
     ensures { Gives result (λ s. walk_of s ≡ joined_walks (step_walk part) (walk_of all)) }
 {
@@ -116,7 +116,7 @@ pub fn step_more(alloc: Global, part: Step, all: Steps) -> Result<Steps, Fault>
     Ok(Steps::More(part, all))
 }
 
-/// The steps behind the one that `//` stands for (XPath 1.0, productions 10 and 11).
+/// The steps after the one that `//` stands for (XPath 1.0, productions 10 and 11).
 pub fn any_depth(alloc: Global, steps: Steps) -> Result<Steps, Fault>
     ensures { Gives result (λ s. walk_of s ≡ any_depth (walk_of steps)) }
 {
@@ -130,9 +130,9 @@ pub fn any_depth(alloc: Global, steps: Steps) -> Result<Steps, Fault>
     Ok(Steps::More(step, steps))
 }
 
-/// The steps behind `/` or `//`, with the one that `//` stands for.
-pub fn behind_slash(alloc: Global, token: &Token, steps: Steps) -> Result<Steps, Fault>
-    ensures { Gives result (λ s. walk_of s ≡ behind_slash token.now (walk_of steps)) }
+/// The steps after `/` or `//`, with the one that `//` stands for.
+pub fn after_slash(alloc: Global, token: &Token, steps: Steps) -> Result<Steps, Fault>
+    ensures { Gives result (λ s. walk_of s ≡ after_slash token.now (walk_of steps)) }
 {
     match token {
         Token::SlashSlash => any_depth(alloc, steps),
@@ -151,14 +151,14 @@ pub fn deep(alloc: Global, steps: Steps) -> Result<Expr, Fault>
     })
 }
 
-/// The first operand with the operators and operands behind it, applied from the left; `behind` has the last of them
+/// The first operand with the operators and operands after it, applied from the left; `after` has the last of them
 /// first.
-pub fn applied(alloc: Global, first: Expr, mut behind: Vec<(&Token, Expr)>) -> Result<Expr, Fault>
-    requires { AreBinary behind.items }
-    ensures { Gives result (λ e. tree_of e ≡ applied (tree_of first) behind.entry.items) }
+pub fn applied(alloc: Global, first: Expr, mut after: Vec<(&Token, Expr)>) -> Result<Expr, Fault>
+    requires { AreBinary after.items }
+    ensures { Gives result (λ e. tree_of e ≡ applied (tree_of first) after.entry.items) }
 {
     let mut left = first;
-    while let Some((token, part)) = behind.pop() {
+    while let Some((token, part)) = after.pop() {
         left = joined(alloc, token, left, part)?;
     }
     Ok(left)

@@ -24,7 +24,7 @@ pub enum Expr {
     Path { absolute: bool, steps: Steps },
     /// Steps from the nodes of an expression (XPath 1.0, production 19).
     From { start: Box<Expr>, steps: Steps },
-    /// An expression with predicates behind it, at least one (XPath 1.0, production 20).
+    /// An expression with predicates after it, at least one (XPath 1.0, production 20).
     Filter { start: Box<Expr>, predicates: Exprs },
     /// A text, without its quotes.
     Literal(Text),
@@ -64,7 +64,7 @@ pub struct Step {
     pub axis: StepAxis,
     /// What its nodes pass.
     pub test: StepTest,
-    /// The predicates behind the test, in their order.
+    /// The predicates after the test, in their order.
     pub predicates: Exprs,
 }
 

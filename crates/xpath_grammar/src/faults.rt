@@ -30,11 +30,11 @@ pub enum StaticFault {
     Arguments,
     /// The prefix of a name test is not bound.
     Prefix,
-    /// A digit behind a number's point is not 0.
+    /// A digit after a number's point is not 0.
     Fraction,
     /// A number is above 9007199254740991.
     Range,
-    /// Nodes are needed where an expression of another type stands.
+    /// Nodes are needed where an expression of another type is.
     NotNodes,
 }
 
@@ -44,8 +44,8 @@ pub struct NumberScan {
     /// The value of the digits before the point, where it is not above the greatest number.
     pub value: u64,
     /// The point was there.
-    pub behind: bool,
-    /// A digit behind the point was not 0.
+    pub after: bool,
+    /// A digit after the point was not 0.
     pub fraction: bool,
 }
 
@@ -53,17 +53,17 @@ pub struct NumberScan {
 fn scan_next(scan: NumberScan, c: char) -> NumberScan
     ensures { result ≡ scan_next scan c }
 {
-    if scan.behind {
+    if scan.after {
         return NumberScan {
             value: scan.value,
-            behind: true,
+            after: true,
             fraction: scan.fraction || c != '0',
         };
     }
     if c == '.' {
         return NumberScan {
             value: scan.value,
-            behind: true,
+            after: true,
             fraction: scan.fraction,
         };
     }
@@ -74,7 +74,7 @@ fn scan_next(scan: NumberScan, c: char) -> NumberScan
     };
     NumberScan {
         value,
-        behind: false,
+        after: false,
         fraction: scan.fraction,
     }
 }
@@ -85,7 +85,7 @@ fn scan_number(text: &str) -> NumberScan
 {
     let start = NumberScan {
         value: 0,
-        behind: false,
+        after: false,
         fraction: false,
     };
     text.chars().fold(start, |scan, c| scan_next(scan, c))

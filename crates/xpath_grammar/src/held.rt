@@ -72,7 +72,7 @@ pub fn find<'a>(held: &'a [Binding], prefix: &str) -> Option<&'a str>
     }
 }
 
-/// Puts a binding in the place of an earlier one of its prefix, or behind all.
+/// Puts a binding in the place of an earlier one of its prefix, or after all.
 pub fn put(held: &mut Vec<Binding>, prefix: &str, binding: Binding) -> Result<(), AllocError>
     requires { binding.0 ≡ chars prefix.now }
     ensures bound { OnOk result ((q : List ℕ) → lookup held.new.items q ≡ cond (bytes_eq (chars prefix.now) q) (Some binding.1) (lookup held.old.items q)) }

@@ -6,13 +6,13 @@ ghost use Rattle.xpath_grammar.specs.Grammar.{UnaryExpr, PathExpr, PrimaryExpr, 
 ghost use Rattle.xpath_grammar.specs.Cutting.{AnswersFilter, as_step, Answers, as_expr, as_exprs, as_walk, form, symbol, operand, rank_of};
 
 use crate::build::{
-    applied, behind_slash, call, deep, filtered, from, literal, more, negated_times, number,
+    applied, after_slash, call, deep, filtered, from, literal, more, negated_times, number,
     step_more, variable,
 };
 use crate::expr::{Expr, Exprs, Step, StepTest, Steps};
-use crate::scan::{Around, behind_minuses, first_operator, operators, parts_at};
+use crate::scan::{Around, after_minuses, first_operator, operators, parts_at};
 use crate::shape::{
-    PathShape, PrimaryShape, axis_part, behind_test, dot_axis, path_shape, primary_shape,
+    PathShape, PrimaryShape, axis_part, after_test, dot_axis, path_shape, primary_shape,
     step_test, unsquared,
 };
 use std::alloc::Global;
@@ -60,16 +60,16 @@ pub fn chain(alloc: Global, level: Binary, tokens: &[Token]) -> Result<Expr, Fau
     ensures { Answers (symbol (form level)) as_expr tokens.now result }
 {
     let mut cuts = operators(alloc, level.rank(), tokens)?;
-    let mut behind = Vec::new(alloc);
+    let mut after = Vec::new(alloc);
     let mut rest = tokens;
     while let Some(i) = cuts.pop() {
-        let Around { front, token, back } = parts_at(rest, i);
+        let Around { prefix, token, back } = parts_at(rest, i);
         let part = operand(alloc, level, back)?;
-        behind.push((token, part))?;
-        rest = front;
+        after.push((token, part))?;
+        rest = prefix;
     }
     let first = operand(alloc, level, rest)?;
-    applied(alloc, first, behind)
+    applied(alloc, first, after)
 }
 
 /// The expression that tokens derive as an operand of a form.
@@ -93,7 +93,7 @@ fn operand(alloc: Global, level: Binary, tokens: &[Token]) -> Result<Expr, Fault
 fn unary(alloc: Global, tokens: &[Token]) -> Result<Expr, Fault>
     ensures { Answers UnaryExpr as_expr tokens.now result }
 {
-    let (count, rest) = behind_minuses(tokens);
+    let (count, rest) = after_minuses(tokens);
     let part = chain(alloc, Binary::Union, rest)?;
     negated_times(alloc, count, part)
 }
@@ -139,10 +139,10 @@ fn from_filter(alloc: Global, tokens: &[Token]) -> Result<Expr, Fault>
     match first_operator(9, tokens) {
         None => filter(alloc, tokens),
         Some(i) => {
-            let Around { front, token, back } = parts_at(tokens, i);
-            let start = filter(alloc, front)?;
+            let Around { prefix, token, back } = parts_at(tokens, i);
+            let start = filter(alloc, prefix)?;
             let steps = relative(alloc, back)?;
-            let steps = behind_slash(alloc, token, steps)?;
+            let steps = after_slash(alloc, token, steps)?;
             from(alloc, start, steps)
         }
     }
@@ -194,19 +194,19 @@ fn arguments(alloc: Global, tokens: &[Token]) -> Result<Exprs, Fault>
     let mut rest = tokens;
     while let Some(i) = cuts.pop() {
         let Around {
-            front,
+            prefix,
             token: _,
             back,
         } = parts_at(rest, i);
         let part = chain(alloc, Binary::Or, back)?;
         all = more(alloc, part, all)?;
-        rest = front;
+        rest = prefix;
     }
     let part = chain(alloc, Binary::Or, rest)?;
     more(alloc, part, all)
 }
 
-/// Predicates, one behind another (XPath 1.0, production 8).
+/// Predicates, one after another (XPath 1.0, production 8).
 #[cycle(parser)]
 fn predicates(alloc: Global, tokens: &[Token]) -> Result<Exprs, Fault>
     ensures { Answers Predicates as_exprs tokens.now result }
@@ -216,7 +216,7 @@ fn predicates(alloc: Global, tokens: &[Token]) -> Result<Exprs, Fault>
     let mut rest = tokens;
     while let Some(i) = cuts.pop() {
         let Around {
-            front,
+            prefix,
             token: _,
             back,
         } = parts_at(rest, i);
@@ -225,7 +225,7 @@ fn predicates(alloc: Global, tokens: &[Token]) -> Result<Exprs, Fault>
         };
         let part = chain(alloc, Binary::Or, inner)?;
         all = more(alloc, part, all)?;
-        rest = front;
+        rest = prefix;
     }
     if rest.is_empty() {
         Ok(all)
@@ -243,11 +243,11 @@ fn relative(alloc: Global, tokens: &[Token]) -> Result<Steps, Fault>
     let mut all = Steps::End;
     let mut rest = tokens;
     while let Some(i) = cuts.pop() {
-        let Around { front, token, back } = parts_at(rest, i);
+        let Around { prefix, token, back } = parts_at(rest, i);
         let part = step(alloc, back)?;
-        let behind = step_more(alloc, part, all)?;
-        all = behind_slash(alloc, token, behind)?;
-        rest = front;
+        let after = step_more(alloc, part, all)?;
+        all = after_slash(alloc, token, after)?;
+        rest = prefix;
     }
     let part = step(alloc, rest)?;
     step_more(alloc, part, all)
@@ -267,7 +267,7 @@ fn step(alloc: Global, tokens: &[Token]) -> Result<Step, Fault>
     }
     let (axis, rest) = axis_part(tokens);
     let test = step_test(alloc, rest)?;
-    let predicates = predicates(alloc, behind_test(rest))?;
+    let predicates = predicates(alloc, after_test(rest))?;
     Ok(Step {
         axis,
         test,

@@ -1,9 +1,9 @@
-//! An expression by the part at its front and what stands behind that.
+//! An expression by the part at its start and what is after that.
 
 ghost use Rattle.std.specs.Prelude.{◌≡◌, ◌<◌, None, option_map};
 ghost use Rattle.xpath_grammar.specs.Tree.{tree_of, walk_of};
 ghost use Rattle.xpath_grammar.specs.Static.{word_fault};
-ghost use Rattle.xpath_grammar.specs.Checking.{front_of, inner_of, needs_nodes, tail_marks, own_fault, step_word, walk_word, first_word, needed_fault, marks_behind, weight, tail_weight};
+ghost use Rattle.xpath_grammar.specs.Checking.{prefix_of, inner_of, needs_nodes, tail_marks, own_fault, step_word, walk_word, first_word, needed_fault, marks_after, weight, tail_weight};
 
 use crate::bindings::Bindings;
 use crate::expr::{Expr, Exprs, StepTest, Steps};
@@ -11,9 +11,9 @@ use crate::faults::{StaticFault, axis_fault, call_fault, number_fault, test_faul
 use xml_model::Axis;
 use xpath_tokens::StepAxis;
 
-/// What stands behind the part at the front of an expression.
+/// What is after the part at the start of an expression.
 pub enum Tail<'a> {
-    /// Nothing stands there.
+    /// Nothing is there.
     Nothing,
     /// Another operand, of which nodes are needed or not.
     Operand(bool, &'a Expr),
@@ -23,9 +23,9 @@ pub enum Tail<'a> {
     List(bool, &'a Exprs),
 }
 
-/// The expression at the front of another, with the same first token.
-fn front_part(expr: &Expr) -> Option<&Expr>
-    ensures { option_map (λ e. tree_of e.now) result ≡ front_of (tree_of expr.now) }
+/// The expression at the start of another, with the same first token.
+fn prefix_part(expr: &Expr) -> Option<&Expr>
+    ensures { option_map (λ e. tree_of e.now) result ≡ prefix_of (tree_of expr.now) }
 {
     match expr {
         Expr::Or(left, _) | Expr::And(left, _) | Expr::Union(left, _) => Some(left),
@@ -39,17 +39,17 @@ fn front_part(expr: &Expr) -> Option<&Expr>
     }
 }
 
-/// The expression at the front of another, or behind a minus sign.
+/// The expression at the start of another, or after a minus sign.
 pub fn inner_part(expr: &Expr) -> Option<&Expr>
     ensures { option_map (λ e. tree_of e.now) result ≡ inner_of (tree_of expr.now) }
 {
     match expr {
         Expr::Negate(part) => Some(part),
-        _ => front_part(expr),
+        _ => prefix_part(expr),
     }
 }
 
-/// Whether nodes are needed of the expression at the front.
+/// Whether nodes are needed of the expression at the start.
 pub fn needs_nodes(expr: &Expr) -> bool
     ensures { result ≡ needs_nodes (tree_of expr.now) }
 {
@@ -59,9 +59,9 @@ pub fn needs_nodes(expr: &Expr) -> bool
     )
 }
 
-/// What stands behind the part at the front.
+/// What is after the part at the start.
 pub fn tail_of(expr: &Expr) -> Tail<'_>
-    ensures marks { marks_behind result ≡ tail_marks (tree_of expr.now) }
+    ensures marks { marks_after result ≡ tail_marks (tree_of expr.now) }
     ensures within { tail_weight result < weight (tree_of expr.now) }
 {
     match expr {
@@ -79,7 +79,7 @@ pub fn tail_of(expr: &Expr) -> Tail<'_>
     }
 }
 
-/// What an expression that has no other at its front refuses there.
+/// What an expression that has no other at its start refuses there.
 pub fn own_fault(expr: &Expr) -> Option<StaticFault>
     ensures { result ≡ own_fault (tree_of expr.now) }
 {
@@ -111,9 +111,9 @@ fn walk_fault(bindings: &Bindings, steps: &Steps) -> Option<StaticFault>
     }
 }
 
-/// What the first token of an expression that has no other at its front is refused for.
+/// What the first token of an expression that has no other at its start is refused for.
 fn leaf_fault(bindings: &Bindings, expr: &Expr) -> Option<StaticFault>
-    requires { front_of (tree_of expr.now) ≡ None }
+    requires { prefix_of (tree_of expr.now) ≡ None }
     ensures { result ≡ word_fault bindings.now (first_word (tree_of expr.now)) }
 {
     match expr {
@@ -125,16 +125,16 @@ fn leaf_fault(bindings: &Bindings, expr: &Expr) -> Option<StaticFault>
     }
 }
 
-/// The expression that begins with the same token, and has no other at its front.
+/// The expression that begins with the same token, and has no other at its start.
 fn leaf(expr: &Expr) -> &Expr
     ensures first { first_word (tree_of result.now) ≡ first_word (tree_of expr.now) }
-    ensures alone { front_of (tree_of result.now) ≡ None }
+    ensures alone { prefix_of (tree_of result.now) ≡ None }
 {
-    let mut front = expr;
-    while let Some(part) = front_part(front) {
-        front = part;
+    let mut prefix = expr;
+    while let Some(part) = prefix_part(prefix) {
+        prefix = part;
     }
-    front
+    prefix
 }
 
 /// What an expression that gives no nodes refuses where they are needed.

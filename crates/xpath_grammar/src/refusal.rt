@@ -4,7 +4,7 @@ ghost use Rattle.std.specs.Prelude.{◌≡◌, ◌&&◌, not, [], IfOk, IfErr};
 ghost use Rattle.xpath_grammar.specs.Tree.{tree_of, trees_of, walk_of};
 ghost use Rattle.xpath_grammar.specs.Static.{refusals, IsFirst, wanted, marks, list_marks, step_marks};
 ghost use Rattle.xpath_grammar.specs.Functions.{gives_nodes};
-ghost use Rattle.xpath_grammar.specs.Checking.{first_in, marks_behind};
+ghost use Rattle.xpath_grammar.specs.Checking.{first_in, marks_after};
 
 use crate::bindings::Bindings;
 use crate::expr::{Expr, Exprs, Steps};
@@ -19,27 +19,27 @@ fn lacks_nodes(nodes: bool, expr: &Expr) -> bool
     nodes && !gives_nodes(expr)
 }
 
-/// The first refusal. It goes down the expressions at the front, so that a chain of operators is a loop.
+/// The first refusal. It goes down the expressions at the start, so that a chain of operators is a loop.
 #[cycle(refusal)]
 fn expr_fault(bindings: &Bindings, expr: &Expr) -> Option<StaticFault>
     ensures { result ≡ first_in bindings.now (marks (tree_of expr.now)) }
 {
-    let mut front = expr;
-    let mut found = tail_fault(bindings, tail_of(front));
-    while let Some(part) = inner_part(front) {
-        if lacks_nodes(needs_nodes(front), part) {
+    let mut prefix = expr;
+    let mut found = tail_fault(bindings, tail_of(prefix));
+    while let Some(part) = inner_part(prefix) {
+        if lacks_nodes(needs_nodes(prefix), part) {
             return Some(needed_fault(bindings, part));
         }
-        front = part;
-        found = earlier(tail_fault(bindings, tail_of(front)), found);
+        prefix = part;
+        found = earlier(tail_fault(bindings, tail_of(prefix)), found);
     }
-    earlier(own_fault(front), found)
+    earlier(own_fault(prefix), found)
 }
 
-/// The first refusal of what stands behind the part at the front.
+/// The first refusal of what is after the part at the start.
 #[cycle(refusal)]
 fn tail_fault(bindings: &Bindings, tail: Tail<'_>) -> Option<StaticFault>
-    ensures { result ≡ first_in bindings.now (marks_behind tail.entry) }
+    ensures { result ≡ first_in bindings.now (marks_after tail.entry) }
 {
     match tail {
         Tail::Nothing => None,
@@ -67,13 +67,13 @@ fn list_fault(nodes: bool, bindings: &Bindings, list: &Exprs) -> Option<StaticFa
 {
     let mut needed = nodes;
     let mut rest = list;
-    while let Exprs::More(first, behind) = rest {
+    while let Exprs::More(first, after) = rest {
         let fault = wanted_fault(needed, bindings, first);
         if fault.is_some() {
             return fault;
         }
         needed = false;
-        rest = behind;
+        rest = after;
     }
     None
 }
@@ -84,13 +84,13 @@ fn steps_fault(bindings: &Bindings, steps: &Steps) -> Option<StaticFault>
     ensures { result ≡ first_in bindings.now (step_marks (walk_of steps.now)) }
 {
     let mut rest = steps;
-    while let Steps::More(step, behind) = rest {
+    while let Steps::More(step, after) = rest {
         let own = earlier(axis_fault(step.axis), test_fault(bindings, &step.test));
         let fault = earlier(own, list_fault(false, bindings, &step.predicates));
         if fault.is_some() {
             return fault;
         }
-        rest = behind;
+        rest = after;
     }
     None
 }

@@ -1,13 +1,13 @@
 //! Where a list of tokens is cut.
 
 ghost use Rattle.std.specs.Prelude.{◌≡◌, ◌+◌, ◌<◌, ◌≤◌, ◌^◌, ◌↔◌, IsTrue, length, take, drop, slice_index_or as get_or};
-ghost use Rattle.xpath_grammar.specs.Grammar.{ends, behind};
+ghost use Rattle.xpath_grammar.specs.Grammar.{ends, depth_after};
 ghost use Rattle.xpath_grammar.specs.Cutting.{rank, is_minus, leading_minuses, Gives, AreCuts, FoundFirst};
 
 use std::alloc::Global;
 use xpath_tokens::{Comparison, Fault, Operator, Token};
 
-/// How tightly a token binds where it stands outside all brackets, or 20 where no list is cut at it. `after` says that the
+/// How tightly a token binds where it is outside all brackets, or 20 where no list is cut at it. `after` says that the
 /// token before it ends an operand.
 pub fn rank(after: bool, token: &Token) -> u8
     ensures { result ≡ rank after token.now }
@@ -28,7 +28,7 @@ pub fn rank(after: bool, token: &Token) -> u8
     }
 }
 
-/// Whether a token ends an operand, so that a minus behind it is binary.
+/// Whether a token ends an operand, so that a minus after it is binary.
 pub fn ends(token: &Token) -> bool
     ensures { result ≡ ends token.now }
 {
@@ -48,10 +48,10 @@ pub fn ends(token: &Token) -> bool
     )
 }
 
-/// How many brackets are open behind a token.
-pub fn behind(depth: usize, token: &Token) -> usize
+/// How many brackets are open after a token.
+pub fn depth_after(depth: usize, token: &Token) -> usize
     requires { depth + 1 < 2 ^ 64 }
-    ensures { result ≡ behind depth token.now }
+    ensures { result ≡ depth_after depth token.now }
 {
     match token {
         Token::Open | Token::OpenSquare => depth + 1,
@@ -60,7 +60,7 @@ pub fn behind(depth: usize, token: &Token) -> usize
     }
 }
 
-/// Whether a token has the rank and stands outside all brackets.
+/// Whether a token has the rank and is outside all brackets.
 fn is_cut(wanted: u8, depth: usize, after: bool, token: &Token) -> bool
     ensures { IsTrue result ↔ ((depth ≡ 0) × (rank after token.now ≡ wanted)) }
 {
@@ -78,7 +78,7 @@ pub fn operators(alloc: Global, wanted: u8, tokens: &[Token]) -> Result<Vec<usiz
         if is_cut(wanted, depth, after, token) {
             found.push(i)?;
         }
-        depth = behind(depth, token);
+        depth = depth_after(depth, token);
         after = ends(token);
     }
     Ok(found)
@@ -91,7 +91,7 @@ fn is_minus(token: &Token) -> bool
     matches!(token, Token::Arithmetic(Operator::Subtract))
 }
 
-/// How many minus signs stand at the front.
+/// How many minus signs are at the start.
 fn leading_minuses(tokens: &[Token]) -> usize
     ensures count { result ≡ leading_minuses tokens.now }
     ensures within { result ≤ length tokens.now }
@@ -103,8 +103,8 @@ fn leading_minuses(tokens: &[Token]) -> usize
     count
 }
 
-/// The tokens behind the minus signs at the front, and how many signs there are.
-pub fn behind_minuses<'a>(tokens: &'a [Token]) -> (usize, &'a [Token])
+/// The tokens after the minus signs at the start, and how many signs there are.
+pub fn after_minuses<'a>(tokens: &'a [Token]) -> (usize, &'a [Token])
     ensures count { result.0 ≡ leading_minuses tokens.now }
     ensures rest { result.1.now ≡ drop (leading_minuses tokens.now) tokens.now }
 {
@@ -112,25 +112,25 @@ pub fn behind_minuses<'a>(tokens: &'a [Token]) -> (usize, &'a [Token])
     (count, &tokens[count..])
 }
 
-/// A token of a list, with what stands before it and behind it.
+/// A token of a list, with what is before it and after it.
 pub struct Around<'a> {
     /// The tokens before it.
-    pub front: &'a [Token],
+    pub prefix: &'a [Token],
     /// The token.
     pub token: &'a Token,
-    /// The tokens behind it.
+    /// The tokens after it.
     pub back: &'a [Token],
 }
 
-/// The token at a place, with what stands before it and behind it.
+/// The token at a place, with what is before it and after it.
 pub fn parts_at<'a>(tokens: &'a [Token], place: usize) -> Around<'a>
     requires { place < length tokens.now }
-    ensures front { result.front.now ≡ take place tokens.now }
+    ensures prefix { result.prefix.now ≡ take place tokens.now }
     ensures token { result.token.now ≡ get_or tokens.now place result.token.now }
     ensures back { result.back.now ≡ drop (place + 1) tokens.now }
 {
     Around {
-        front: &tokens[..place],
+        prefix: &tokens[..place],
         token: &tokens[place],
         back: &tokens[place + 1..],
     }
@@ -146,7 +146,7 @@ pub fn first_operator(wanted: u8, tokens: &[Token]) -> Option<usize>
         if is_cut(wanted, depth, after, token) {
             return Some(i);
         }
-        depth = behind(depth, token);
+        depth = depth_after(depth, token);
         after = ends(token);
     }
     None

@@ -1,7 +1,7 @@
 //! The forms that the first and the last tokens show.
 
 ghost use Rattle.std.specs.Prelude.{◌≡◌, ◌≤◌, length};
-ghost use Rattle.xpath_grammar.specs.Shape.{IsFront, IsBack, IsPrimaryShape, IsClosed, IsUnsquared, IsPathShape, dot_axis, axis_of, behind_axis, IsStepTest, behind_test};
+ghost use Rattle.xpath_grammar.specs.Shape.{IsPrefix, IsBack, IsPrimaryShape, IsClosed, IsUnsquared, IsPathShape, dot_axis, axis_of, after_axis, IsStepTest, after_test};
 ghost use Rattle.xpath_grammar.specs.Grammar.{kind_test};
 
 use crate::build::copy;
@@ -10,9 +10,9 @@ use std::alloc::Global;
 use xml_model::{Axis, Text};
 use xpath_tokens::{Fault, NodeType, StepAxis, Token};
 
-/// The first token and those behind it; None where there is no token.
-pub fn front<'a>(tokens: &'a [Token]) -> Option<(&'a Token, &'a [Token])>
-    ensures { IsFront tokens.now result }
+/// The first token and those after it; None where there is no token.
+pub fn first_and_rest<'a>(tokens: &'a [Token]) -> Option<(&'a Token, &'a [Token])>
+    ensures { IsPrefix tokens.now result }
 {
     tokens.split_first()
 }
@@ -28,13 +28,13 @@ pub fn back<'a>(tokens: &'a [Token]) -> Option<(&'a Token, &'a [Token])>
 pub enum PrimaryShape<'a> {
     /// A variable reference, by the name.
     Variable(&'a Text),
-    /// A literal, by what stands between the quotes.
+    /// A literal, by what is between the quotes.
     Literal(&'a Text),
     /// A number, as it is spelled.
     Number(&'a Text),
-    /// What stands between `(` and `)`.
+    /// What is between `(` and `)`.
     Bracketed(&'a [Token]),
-    /// The name of a function, and what stands between `(` and `)`.
+    /// The name of a function, and what is between `(` and `)`.
     Call(&'a Text, &'a [Token]),
     /// No primary expression.
     Other,
@@ -86,9 +86,9 @@ pub fn unsquared<'a>(tokens: &'a [Token]) -> Option<&'a [Token]>
 pub enum PathShape<'a> {
     /// `/` alone.
     Root,
-    /// The steps behind `/`.
+    /// The steps after `/`.
     Absolute(&'a [Token]),
-    /// The steps behind `//`.
+    /// The steps after `//`.
     Deep(&'a [Token]),
     /// A primary expression comes first.
     Filter,
@@ -100,7 +100,7 @@ pub enum PathShape<'a> {
 pub fn path_shape<'a>(tokens: &'a [Token]) -> PathShape<'a>
     ensures { IsPathShape tokens.now result }
 {
-    match front(tokens) {
+    match first_and_rest(tokens) {
         Some((Token::Slash, rest)) => {
             if rest.is_empty() {
                 PathShape::Root
@@ -134,10 +134,10 @@ pub fn dot_axis(tokens: &[Token]) -> Option<Axis>
     }
 }
 
-/// The axis of a step, and the tokens behind it (XPath 1.0, productions 5 and 13).
+/// The axis of a step, and the tokens after it (XPath 1.0, productions 5 and 13).
 pub fn axis_part<'a>(tokens: &'a [Token]) -> (StepAxis, &'a [Token])
     ensures axis { result.0 ≡ axis_of tokens.now }
-    ensures rest { result.1.now ≡ behind_axis tokens.now }
+    ensures rest { result.1.now ≡ after_axis tokens.now }
     ensures within { length result.1.now ≤ length tokens.now }
 {
     match tokens {
@@ -182,9 +182,9 @@ pub fn step_test(alloc: Global, tokens: &[Token]) -> Result<StepTest, Fault>
     })
 }
 
-/// The tokens behind the node test at the front.
-pub fn behind_test<'a>(tokens: &'a [Token]) -> &'a [Token]
-    ensures rest { result.now ≡ behind_test tokens.now }
+/// The tokens after the node test at the start.
+pub fn after_test<'a>(tokens: &'a [Token]) -> &'a [Token]
+    ensures rest { result.now ≡ after_test tokens.now }
     ensures within { length result.now ≤ length tokens.now }
 {
     match tokens {

@@ -46,10 +46,10 @@ fn operator_sign(how: Operator) -> &'static str {
     }
 }
 
-fn show_text(out: &mut String, before: &str, text: &Text, behind: &str) -> Result<(), AllocError> {
+fn show_text(out: &mut String, before: &str, text: &Text, after: &str) -> Result<(), AllocError> {
     out.push_str(before)?;
     out.push_str(text.held.as_str())?;
-    out.push_str(behind)
+    out.push_str(after)
 }
 
 fn show_test(out: &mut String, test: &StepTest) -> Result<(), AllocError> {
@@ -73,14 +73,14 @@ fn show_test(out: &mut String, test: &StepTest) -> Result<(), AllocError> {
 }
 
 #[cycle(show)]
-fn show_list(out: &mut String, before: &str, list: &Exprs, behind: &str) -> Result<(), AllocError> {
+fn show_list(out: &mut String, before: &str, list: &Exprs, after: &str) -> Result<(), AllocError> {
     match list {
         Exprs::End => Ok(()),
         Exprs::More(first, rest) => {
             out.push_str(before)?;
             show(out, first)?;
-            out.push_str(behind)?;
-            show_list(out, before, rest, behind)
+            out.push_str(after)?;
+            show_list(out, before, rest, after)
         }
     }
 }
@@ -258,24 +258,24 @@ fn bound_prefixes(rt: HostRuntime) -> Result<(), Fail> {
     Ok(())
 }
 
-/// A text repeated, with others before and behind.
+/// A text repeated, with others before and after.
 fn row(
     alloc: Global,
     before: &str,
     count: usize,
     text: &str,
-    behind: &str,
+    after: &str,
 ) -> Result<String, AllocError> {
     let mut out = String::new(alloc);
     out.push_str(before)?;
     for _ in 0..count {
         out.push_str(text)?;
     }
-    out.push_str(behind)?;
+    out.push_str(after)?;
     Ok(out)
 }
 
-/// What stands before and behind a text that is repeated, how often it is, and the answer; "ok" is an expression.
+/// What is before and after a text that is repeated, how often it is, and the answer; "ok" is an expression.
 const LIMITS: [(&str, usize, &str, &str, &str); 24] = [
     ("", 4096, "-", "1", "long"),
     ("", 4095, "-", "1", "ok"),
@@ -315,8 +315,8 @@ fn limit_word(alloc: Global, text: &str) -> &'static str {
 
 #[test]
 fn limits(rt: HostRuntime) -> Result<(), Fail> {
-    for (before, count, text, behind, expected) in LIMITS {
-        let whole = row(rt.alloc(), before, count, text, behind)?;
+    for (before, count, text, after, expected) in LIMITS {
+        let whole = row(rt.alloc(), before, count, text, after)?;
         assert_eq!(rt;
             limit_word(rt.alloc(), whole.as_str()),
             expected,
@@ -347,8 +347,8 @@ const LONG: [(&str, usize, &str, &str, &str); 8] = [
 #[test]
 fn long_refusals(rt: HostRuntime) -> Result<(), Fail> {
     let bindings = Bindings::new(rt.alloc());
-    for (before, count, text, behind, expected) in LONG {
-        let whole = row(rt.alloc(), before, count, text, behind)?;
+    for (before, count, text, after, expected) in LONG {
+        let whole = row(rt.alloc(), before, count, text, after)?;
         assert_eq!(rt;
             static_word(rt.alloc(), &bindings, whole.as_str()),
             expected,

@@ -4,7 +4,7 @@ use Rattle.std.specs.List.{list_all, list_any}
 use Rattle.std.proofs.lemmas.Bool.{eqb-true, eq-eqb, ltb-true, ltb-false}
 use Rattle.std.proofs.lemmas.List.{drop_at}
 use Rattle.xml_model.specs.Chars.{is_ncname}
-use Rattle.xpath_tokens.specs.Tokens.{IsWord, symbol, name, any_in, literal, number, variable, IsQName, plain, prefixed, IsNumber, whole, pointed, behind_point, are_digits, is_decimal_digit, is_quote, is_symbol, is_single, is_pair}
+use Rattle.xpath_tokens.specs.Tokens.{IsWord, symbol, name, any_in, literal, number, variable, IsQName, plain, prefixed, IsNumber, whole, pointed, after_point, are_digits, is_decimal_digit, is_quote, is_symbol, is_single, is_pair}
 use Rattle.xpath_tokens.specs.Words.{run, is_other, ncname_length, plus_local, local_length, joined_length, qname_length, colon_star, star_length, any_in_length, with_point, point_length, number_length, closed_length, literal_length, dollar_length, variable_length, symbol_length, word_length}
 use Rattle.xpath_tokens.proofs.Runs.{and_parts, run-all, run-append, run-stop, run-next, take_past, ncname_word, ncname_length-append, ncname_some, ncname_length-colon}
 
@@ -141,7 +141,7 @@ number_word cs n = this (run is_decimal_digit cs) (drop (run is_decimal_digit cs
     dot zero zero rest e f h k = absurd (k refl)
     dot zero (suc m) rest e f h k =
         let z : with_point 0 (suc m) ≡ 0 + suc (suc m) = with_point-zero m ∙ omega arith in
-        subst IsNumber (sym (ap (λ x. take x cs) z ∙ take_past 0 (suc m) cs rest 46 h)) (behind_point (taken_digits rest m f))
+        subst IsNumber (sym (ap (λ x. take x cs) z ∙ take_past 0 (suc m) cs rest 46 h)) (after_point (taken_digits rest m f))
     dot (suc a) m rest e f h k =
         let z : with_point (suc a) m ≡ suc a + suc m = with_point-suc a m ∙ omega arith in
         subst IsNumber (sym (ap (λ x. take x cs) z ∙ take_past (suc a) m cs rest 46 h)) (pointed (take (suc a) cs) (take m rest) (taken_digits cs a e) (subst (λ x. list_all is_decimal_digit (take x rest) ≡ true) f (run-all is_decimal_digit rest)))
@@ -194,7 +194,7 @@ number_at_least vs (pointed ds es h k) =
     let e : number_length ((ds ++ 46 ∷ es) ++ vs) ≡ with_point (length ds) (run is_decimal_digit (es ++ vs)) = ap number_length s ∙ ap (λ x. point_length x (drop (run is_decimal_digit (ds ++ 46 ∷ (es ++ vs))) (ds ++ 46 ∷ (es ++ vs)))) a ∙ ap (point_length (length ds)) d in
     let l = length-append ds (46 ∷ es) in
     rw e (omega arith)
-number_at_least vs (behind_point {es} h) =
+number_at_least vs (after_point {es} h) =
     let m = run-append is_decimal_digit es vs (digits_some es h).0 in
     let some = (digits_some es h).1 in
     let b = with_point_at_least 0 (length es) (run is_decimal_digit (es ++ vs)) (omega arith) (omega arith) in

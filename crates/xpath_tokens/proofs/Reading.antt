@@ -13,7 +13,7 @@ use Rattle.xpath_tokens.specs.declared.lexer.WordKind.{WordKind}
 use Rattle.xpath_tokens.specs.declared.lexer.WordKind.TheVariants as word
 use Rattle.xpath_tokens.specs.declared.Token.{Token}
 use Rattle.xpath_tokens.specs.declared.Token.TheVariants.{AnyIn, Named, AxisName, Literal, Number, Variable}
-use Rattle.xpath_tokens.specs.Tokens.{IsWord, symbol, name, any_in, literal, number, variable, IsQName, plain, prefixed, IsNumber, whole, pointed, behind_point, are_digits, is_decimal_digit, is_quote, is_symbol, find_named, delimiters, operator_signs, operator_names, node_types, axis_names, before_open, before_colons, behind_space, starts_open, starts_colons, IsToken, is_delimiter, is_sign, is_times, is_operator_name, is_node_type, is_function, is_axis, is_any, is_any_in, is_name as is_name_token, is_prefixed, is_literal, is_number, is_variable}
+use Rattle.xpath_tokens.specs.Tokens.{IsWord, symbol, name, any_in, literal, number, variable, IsQName, plain, prefixed, IsNumber, whole, pointed, after_point, are_digits, is_decimal_digit, is_quote, is_symbol, find_named, delimiters, operator_signs, operator_names, node_types, axis_names, before_open, before_colons, after_space, starts_open, starts_colons, IsToken, is_delimiter, is_sign, is_times, is_operator_name, is_node_type, is_function, is_axis, is_any, is_any_in, is_name as is_name_token, is_prefixed, is_literal, is_number, is_variable}
 use Rattle.xpath_tokens.specs.Words.{is_ncname_start, is_ncname_char}
 use Rattle.xpath_tokens.specs.Reading.{token_of, token_by_kind, kind_of, symbol_token, fixed_token, or_else, star_token, name_token, named_token, axis_token, call_token, Place, place, at_open, at_colons, elsewhere, without_last, has_star}
 use Rattle.xpath_tokens.proofs.Runs.{and_parts, ncname_cons, ncname_nil}
@@ -151,7 +151,7 @@ number_kind (pointed ds es h k) = this ds h
     this : (ds : List ℕ) → are_digits ds ≡ true → kind_of (ds ++ 46 ∷ es) ≡ word.Number
     this [] h = absurd cc
     this (c ∷ cs) h = digit_kind c (cs ++ 46 ∷ es) (and_parts (is_decimal_digit c) (list_all is_decimal_digit cs) h).0
-number_kind (behind_point {es} h) = point_kind es h
+number_kind (after_point {es} h) = point_kind es h
 
 dollar_symbol : (cs : List ℕ) → is_symbol (36 ∷ cs) ≡ false
 dollar_symbol [] = refl
@@ -224,7 +224,7 @@ axis_kind w a h = found_row (λ w a. kind_of w ≡ word.Name) axis_names (refl, 
 axis_plain : (w : List ℕ) (a : StepAxis) → find_named axis_names w ≡ Some a → has_colon w ≡ false
 axis_plain w a h = found_row (λ w a. has_colon w ≡ false) axis_names (refl, (refl, (refl, (refl, (refl, (refl, (refl, (refl, (refl, (refl, (refl, (refl, (refl, tt))))))))))))) w a h
 
--- what stands before two colons stands before no bracket
+-- what is before two colons is before no bracket
 colons_open : (cs : List ℕ) → starts_colons cs ≡ true → starts_open cs ≡ false
 colons_open [] h = refl
 colons_open (c ∷ []) h = absurd cc
@@ -267,7 +267,7 @@ is_read (is_times h) = rw h refl
 is_read {after} {rest} {w} {t} (is_operator_name h k) = rw h (at_operand w rest (operator_kind w t k) ∙ k)
 is_read {after} {rest} {w} (is_node_type {k = k} h o f) = rw h (at_name w rest at_open (node_kind w k f) (place_open rest o) ∙ ap (λ x. Some (call_token w x)) f)
 is_read {after} {rest} {w} (is_function h o f q) = rw h (at_name w rest at_open (qname_kind q) (place_open rest o) ∙ ap (λ x. Some (call_token w x)) f)
-is_read {after} {rest} {w} (is_axis {a = a} h o f) = rw h (at_name w rest at_colons (axis_kind w a f) (place_colons rest (colons_open (behind_space rest) o) o) ∙ axis_read w a f)
+is_read {after} {rest} {w} (is_axis {a = a} h o f) = rw h (at_name w rest at_colons (axis_kind w a f) (place_colons rest (colons_open (after_space rest) o) o) ∙ axis_read w a f)
 is_read (is_any h) = rw h refl
 is_read {after} {rest} (is_any_in {p} h) = row_kind after (p ++ 58 ∷ 42 ∷ []) rest word.AnyIn (any_in_kind p h) ∙ ap (λ x. Some (AnyIn x)) (prefix_is p (42 ∷ []) h)
 is_read {after} {rest} {w} (is_name_token h o k n) = rw h (at_name w rest elsewhere (qname_kind (plain n)) (place_elsewhere rest o k) ∙ ap Some (named_plain w n))

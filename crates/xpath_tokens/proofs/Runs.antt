@@ -36,7 +36,7 @@ run-within p (c ∷ cs) = this (run-within p cs) (p c)
     this i true = omega arith
     this i false = omega arith
 
--- the character behind a run fails the test
+-- the character after a run fails the test
 pub run-next : (p : ℕ → Bool) (cs : List ℕ) (c : ℕ) (vs : List ℕ) → drop (run p cs) cs ≡ c ∷ vs → p c ≡ false
 run-next p [] c vs h = absurd cc
 run-next p (d ∷ cs) c vs h = this (run-next p cs c vs) (p d) refl h
@@ -45,7 +45,7 @@ run-next p (d ∷ cs) c vs h = this (run-next p cs c vs) (p d) refl h
     this i true e k = i k
     this i false e k = let same : d ≡ c = cc in subst (λ x. p x ≡ false) same e
 
--- what stands behind a place, with a character and some more
+-- what is after a place, with a character and some more
 pub take_past : (a m : ℕ) (cs rest : List ℕ) (c : ℕ) → drop a cs ≡ c ∷ rest → take (a + suc m) cs ≡ take a cs ++ c ∷ take m rest
 take_past zero m cs rest c h =
     let e : 0 + suc m ≡ suc m = omega arith in

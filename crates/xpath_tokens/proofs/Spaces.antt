@@ -2,14 +2,14 @@
 use Rattle.std.proofs.Common.{◌≡◌, ℕ, suc, ◌+◌, ◌<◌, ◌≤◌, Bool, true, false, cond, not, ◌||◌, ◌==◌, nat_lt, List, [], ◌∷◌, length, take, drop, refl, sym, ◌∙◌, ap, arith}
 use Rattle.std.proofs.lemmas.Bool.{ltb-true, ltb-false}
 use Rattle.xml_model.specs.Chars.{is_space, has_colon, before_colon, after_colon, prefix_of, local_of}
-use Rattle.xpath_tokens.specs.Tokens.{behind_space}
+use Rattle.xpath_tokens.specs.Tokens.{after_space}
 use Rattle.xpath_tokens.specs.Words.{run, is_other}
 
-pub behind_space_run : (cs : List ℕ) → drop (run is_space cs) cs ≡ behind_space cs
-behind_space_run [] = refl
-behind_space_run (c ∷ cs) = this (behind_space_run cs) (is_space c)
+pub after_space_run : (cs : List ℕ) → drop (run is_space cs) cs ≡ after_space cs
+after_space_run [] = refl
+after_space_run (c ∷ cs) = this (after_space_run cs) (is_space c)
   where
-    this : drop (run is_space cs) cs ≡ behind_space cs → (b : Bool) → drop (cond b (suc (run is_space cs)) 0) (c ∷ cs) ≡ cond b (behind_space cs) (c ∷ cs)
+    this : drop (run is_space cs) cs ≡ after_space cs → (b : Bool) → drop (cond b (suc (run is_space cs)) 0) (c ∷ cs) ≡ cond b (after_space cs) (c ∷ cs)
     this i true = i
     this i false = refl
 
@@ -73,9 +73,9 @@ pub prefix_before : (cs : List ℕ) (n : ℕ) → n ≡ run (is_other 58) cs →
 unfolding prefix_of
 prefix_before cs n e h = rw (colon_inside cs (rw e at h)) (before_run cs ∙ ap (λ x. take x cs) (sym e))
 
-pub local_behind : (cs : List ℕ) (n : ℕ) → n ≡ run (is_other 58) cs → n < length cs → local_of cs ≡ drop (n + 1) cs
+pub local_after : (cs : List ℕ) (n : ℕ) → n ≡ run (is_other 58) cs → n < length cs → local_of cs ≡ drop (n + 1) cs
 unfolding local_of
-local_behind cs n e h = let m : suc (run (is_other 58) cs) ≡ n + 1 = omega arith in rw (colon_inside cs (rw e at h)) (after_run cs ∙ ap (λ x. drop x cs) m)
+local_after cs n e h = let m : suc (run (is_other 58) cs) ≡ n + 1 = omega arith in rw (colon_inside cs (rw e at h)) (after_run cs ∙ ap (λ x. drop x cs) m)
 
 pub prefix_none : (cs : List ℕ) (n : ℕ) → n ≡ run (is_other 58) cs → length cs ≤ n → prefix_of cs ≡ []
 unfolding prefix_of

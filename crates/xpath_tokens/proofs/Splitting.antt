@@ -5,7 +5,7 @@ use Rattle.std.proofs.lemmas.Bool.{eqb-true, eqb-false, leb-true}
 use Rattle.std.proofs.lemmas.List.{take-append-drop, append_cancel_left, append-nil, length-take}
 use Rattle.xml_model.specs.Chars.{is_space, is_blank, is_ncname, is_name_start, in_ranges}
 use Rattle.xpath_tokens.specs.declared.Token.{Token}
-use Rattle.xpath_tokens.specs.Tokens.{IsWord, symbol, name, any_in, literal, number, variable, plain, prefixed, whole, pointed, behind_point, are_digits, is_decimal_digit, is_quote, is_symbol, is_single, is_pair, IsLongest, IsToken, Splits, done, next, closes_operand, behind_space}
+use Rattle.xpath_tokens.specs.Tokens.{IsWord, symbol, name, any_in, literal, number, variable, plain, prefixed, whole, pointed, after_point, are_digits, is_decimal_digit, is_quote, is_symbol, is_single, is_pair, IsLongest, IsToken, Splits, done, next, closes_operand, after_space}
 use Rattle.std.proofs.Common.{Result, Err}
 use Rattle.std.specs.Result.{IsErrAnd}
 use Rattle.std.proofs.lemmas.Result.{err_from_is_err_and}
@@ -62,35 +62,35 @@ start_no_space : (c : ℕ) → is_ncname_start c ≡ true → is_space c ≡ fal
 unfolding is_name_start in_ranges
 start_no_space c h = no_space is_ncname_start refl refl refl refl c h
 
-kept : (c : ℕ) (cs : List ℕ) → is_space c ≡ false → behind_space (c ∷ cs) ≡ c ∷ cs
-kept c cs h = ap (λ b. cond b (behind_space cs) (c ∷ cs)) h
+kept : (c : ℕ) (cs : List ℕ) → is_space c ≡ false → after_space (c ∷ cs) ≡ c ∷ cs
+kept c cs h = ap (λ b. cond b (after_space cs) (c ∷ cs)) h
 
-ncname_kept : (w vs : List ℕ) → is_ncname w ≡ true → behind_space (w ++ vs) ≡ w ++ vs
+ncname_kept : (w vs : List ℕ) → is_ncname w ≡ true → after_space (w ++ vs) ≡ w ++ vs
 ncname_kept [] vs h = absurd (ncname_nil h)
 ncname_kept (c ∷ cs) vs h = kept c (cs ++ vs) (start_no_space c (and_parts (is_ncname_start c) (list_all is_ncname_char cs) (sym (ncname_cons c cs) ∙ h)).0)
 
-digits_kept : (w vs : List ℕ) → are_digits w ≡ true → behind_space (w ++ vs) ≡ w ++ vs
+digits_kept : (w vs : List ℕ) → are_digits w ≡ true → after_space (w ++ vs) ≡ w ++ vs
 digits_kept [] vs h = absurd cc
 digits_kept (c ∷ cs) vs h = kept c (cs ++ vs) (no_space is_decimal_digit refl refl refl refl c (and_parts (is_decimal_digit c) (list_all is_decimal_digit cs) h).0)
 
-dot_kept : (vs : List ℕ) → behind_space (46 ∷ vs) ≡ 46 ∷ vs
+dot_kept : (vs : List ℕ) → after_space (46 ∷ vs) ≡ 46 ∷ vs
 dot_kept vs = kept 46 vs (no_space (λ c. c == 46) refl refl refl refl 46 refl)
 
-symbol_kept : (w vs : List ℕ) → is_symbol w ≡ true → behind_space (w ++ vs) ≡ w ++ vs
+symbol_kept : (w vs : List ℕ) → is_symbol w ≡ true → after_space (w ++ vs) ≡ w ++ vs
 symbol_kept [] vs h = absurd cc
 symbol_kept (c ∷ []) vs h = kept c vs (no_space is_single refl refl refl refl c h)
 symbol_kept (c ∷ d ∷ []) vs h = kept c (d ∷ vs) (no_space (λ x. is_pair x d) refl refl refl refl c h)
 symbol_kept (c ∷ d ∷ e ∷ w) vs h = absurd cc
 
-word_kept : {w : List ℕ} (vs : List ℕ) → IsWord w → behind_space (w ++ vs) ≡ w ++ vs
+word_kept : {w : List ℕ} (vs : List ℕ) → IsWord w → after_space (w ++ vs) ≡ w ++ vs
 word_kept {w} vs (symbol h) = symbol_kept w vs h
 word_kept {w} vs (name (plain h)) = ncname_kept w vs h
-word_kept vs (name (prefixed p n h k)) = ap behind_space (append_assoc p (58 ∷ n) vs) ∙ ncname_kept p (58 ∷ (n ++ vs)) h ∙ sym (append_assoc p (58 ∷ n) vs)
-word_kept vs (any_in p h) = ap behind_space (append_assoc p (58 ∷ 42 ∷ []) vs) ∙ ncname_kept p (58 ∷ 42 ∷ vs) h ∙ sym (append_assoc p (58 ∷ 42 ∷ []) vs)
+word_kept vs (name (prefixed p n h k)) = ap after_space (append_assoc p (58 ∷ n) vs) ∙ ncname_kept p (58 ∷ (n ++ vs)) h ∙ sym (append_assoc p (58 ∷ n) vs)
+word_kept vs (any_in p h) = ap after_space (append_assoc p (58 ∷ 42 ∷ []) vs) ∙ ncname_kept p (58 ∷ 42 ∷ vs) h ∙ sym (append_assoc p (58 ∷ 42 ∷ []) vs)
 word_kept vs (literal q t h k) = kept q ((t ++ q ∷ []) ++ vs) (no_space is_quote refl refl refl refl q h)
 word_kept {w} vs (number (whole h)) = digits_kept w vs h
-word_kept vs (number (pointed ds es h k)) = ap behind_space (append_assoc ds (46 ∷ es) vs) ∙ digits_kept ds (46 ∷ (es ++ vs)) h ∙ sym (append_assoc ds (46 ∷ es) vs)
-word_kept vs (number (behind_point {es} h)) = dot_kept (es ++ vs)
+word_kept vs (number (pointed ds es h k)) = ap after_space (append_assoc ds (46 ∷ es) vs) ∙ digits_kept ds (46 ∷ (es ++ vs)) h ∙ sym (append_assoc ds (46 ∷ es) vs)
+word_kept vs (number (after_point {es} h)) = dot_kept (es ++ vs)
 word_kept vs (variable {w} q) = kept 36 (w ++ vs) (no_space (λ c. c == 36) refl refl refl refl 36 refl)
 
 word_some : {w : List ℕ} → IsWord w → w ≢ []
@@ -101,7 +101,7 @@ word_some (any_in p h) e = let l = ap length e ∙ refl in let m = length-append
 word_some (literal q t h k) e = cc
 word_some (number (whole h)) e = let k = ap are_digits e in cc
 word_some (number (pointed ds es h k)) e = let l = ap length e ∙ refl in let m = length-append ds (46 ∷ es) in omega (arith, l, m)
-word_some (number (behind_point h)) e = cc
+word_some (number (after_point h)) e = cc
 word_some (variable q) e = cc
 
 -- white space before a text
@@ -109,12 +109,12 @@ blank_nil : is_blank [] ≡ true
 unfolding is_blank
 blank_nil = refl
 
-blank_none : (cs : List ℕ) → is_blank cs ≡ true → behind_space cs ≡ []
+blank_none : (cs : List ℕ) → is_blank cs ≡ true → after_space cs ≡ []
 unfolding is_blank
 blank_none [] h = refl
 blank_none (c ∷ cs) h = let p = and_parts (is_space c) (list_all is_space cs) h in rw (p.0) (blank_none cs p.1)
 
-blank_skip : (space cs : List ℕ) → is_blank space ≡ true → behind_space cs ≡ cs → behind_space (space ++ cs) ≡ cs
+blank_skip : (space cs : List ℕ) → is_blank space ≡ true → after_space cs ≡ cs → after_space (space ++ cs) ≡ cs
 unfolding is_blank
 blank_skip [] cs h k = k
 blank_skip (c ∷ space) cs h k = let p = and_parts (is_space c) (list_all is_space space) h in rw (p.0) (blank_skip space cs p.1 k)
@@ -131,28 +131,28 @@ blank_cons c cs h k = rw h k
 pub record Blank (cs : List ℕ) : Type 0 where
   pub space : List ℕ
   pub blank : is_blank space ≡ true
-  pub whole : cs ≡ space ++ behind_space cs
+  pub whole : cs ≡ space ++ after_space cs
 
 blank_split : (cs : List ℕ) → Blank cs
 blank_split [] = record { space = []; blank = blank_nil; whole = refl }
 blank_split (c ∷ cs) = this (blank_split cs) (is_space c) refl
   where
     this : Blank cs → (b : Bool) → is_space c ≡ b → Blank (c ∷ cs)
-    this i true e = record { space = c ∷ i.space; blank = blank_cons c i.space e i.blank; whole = ap (λ x. c ∷ x) i.whole ∙ ap (λ x. (c ∷ i.space) ++ x) (ap (λ b. cond b (behind_space cs) (c ∷ cs)) (sym e)) }
-    this i false e = record { space = []; blank = blank_nil; whole = ap (λ b. cond b (behind_space cs) (c ∷ cs)) (sym e) }
+    this i true e = record { space = c ∷ i.space; blank = blank_cons c i.space e i.blank; whole = ap (λ x. c ∷ x) i.whole ∙ ap (λ x. (c ∷ i.space) ++ x) (ap (λ b. cond b (after_space cs) (c ∷ cs)) (sym e)) }
+    this i false e = record { space = []; blank = blank_nil; whole = ap (λ b. cond b (after_space cs) (c ∷ cs)) (sym e) }
 
-behind_twice : (cs : List ℕ) → behind_space (behind_space cs) ≡ behind_space cs
-behind_twice [] = refl
-behind_twice (c ∷ cs) = this (behind_twice cs) (is_space c) refl
+after_twice : (cs : List ℕ) → after_space (after_space cs) ≡ after_space cs
+after_twice [] = refl
+after_twice (c ∷ cs) = this (after_twice cs) (is_space c) refl
   where
-    this : behind_space (behind_space cs) ≡ behind_space cs → (b : Bool) → is_space c ≡ b → behind_space (cond b (behind_space cs) (c ∷ cs)) ≡ cond b (behind_space cs) (c ∷ cs)
+    this : after_space (after_space cs) ≡ after_space cs → (b : Bool) → is_space c ≡ b → after_space (cond b (after_space cs) (c ∷ cs)) ≡ cond b (after_space cs) (c ∷ cs)
     this i true e = i
     this i false e = kept c cs e
 
--- what a split is behind the white space at the front
+-- what a split is after the white space at the start
 pub data Canonical (after : Bool) (cs : List ℕ) : List Token → Type 0 where
-  ended : behind_space cs ≡ [] → Canonical after cs []
-  starts : (w rest : List ℕ) {t : Token} {ts : List Token} → behind_space cs ≡ w ++ rest → IsWord w → IsLongest w rest → IsToken after rest w t → Splits (closes_operand t) rest ts → Canonical after cs (t ∷ ts)
+  ended : after_space cs ≡ [] → Canonical after cs []
+  starts : (w rest : List ℕ) {t : Token} {ts : List Token} → after_space cs ≡ w ++ rest → IsWord w → IsLongest w rest → IsToken after rest w t → Splits (closes_operand t) rest ts → Canonical after cs (t ∷ ts)
 
 pub canonical : {after : Bool} {cs : List ℕ} {ts : List Token} → Splits after cs ts → Canonical after cs ts
 canonical {cs = cs} (done h) = ended (blank_none cs h)
@@ -163,13 +163,13 @@ unskip_at {cs = cs} before b (done h) = done (blank-append before cs b h)
 unskip_at {after} before b (next space w rest {t} {ts} blank is longest tok d) =
     subst (λ x. Splits after x (t ∷ ts)) (append_assoc before space (w ++ rest)) (next (before ++ space) w rest (blank-append before space b blank) is longest tok d)
 
-pub unskip : {after : Bool} (cs : List ℕ) {ts : List Token} → Splits after (behind_space cs) ts → Splits after cs ts
+pub unskip : {after : Bool} (cs : List ℕ) {ts : List Token} → Splits after (after_space cs) ts → Splits after cs ts
 unskip {after} cs {ts} d = let b = blank_split cs in subst (λ x. Splits after x ts) (sym b.whole) (unskip_at b.space b.blank d)
 
-pub skip : {after : Bool} {cs : List ℕ} {ts : List Token} → Splits after cs ts → Splits after (behind_space cs) ts
+pub skip : {after : Bool} {cs : List ℕ} {ts : List Token} → Splits after cs ts → Splits after (after_space cs) ts
 skip {after} {cs} d = this (canonical d)
   where
-    this : {ts : List Token} → Canonical after cs ts → Splits after (behind_space cs) ts
+    this : {ts : List Token} → Canonical after cs ts → Splits after (after_space cs) ts
     this (ended h) = subst (λ x. Splits after x []) (sym h) (done blank_nil)
     this (starts w rest {t} {ts} e is longest tok d) = subst (λ x. Splits after x (t ∷ ts)) (sym e) (next [] w rest blank_nil is longest tok d)
 
@@ -179,9 +179,9 @@ none_list [] h = refl
 none_list (c ∷ cs) h = absurd (omega arith)
 
 pub is_longest : (cs : List ℕ) → word_length cs ≤ length cs → IsLongest (take (word_length cs) cs) (drop (word_length cs) cs)
-is_longest cs h beyond behind e w =
-    let n = no_longer behind w in
-    let s : (take (word_length cs) cs ++ beyond) ++ behind ≡ cs = append_assoc (take (word_length cs) cs) beyond behind ∙ ap (λ x. take (word_length cs) cs ++ x) (sym e) ∙ take-append-drop (word_length cs) cs in
+is_longest cs h beyond after e w =
+    let n = no_longer after w in
+    let s : (take (word_length cs) cs ++ beyond) ++ after ≡ cs = append_assoc (take (word_length cs) cs) beyond after ∙ ap (λ x. take (word_length cs) cs ++ x) (sym e) ∙ take-append-drop (word_length cs) cs in
     let m : length (take (word_length cs) cs ++ beyond) ≤ word_length cs = subst (λ x. length (take (word_length cs) cs ++ beyond) ≤ word_length x) s n in
     let l = length-append (take (word_length cs) cs) beyond in
     let t = length-take (word_length cs) cs in
@@ -251,13 +251,13 @@ one_split {after} (next space w rest {t} {ts} blank is longest tok d) e = this (
 pub record Lexed (text : List ℕ) (found : List Token) (after : Bool) (rest : List ℕ) : Type 0 where
   pub sound : (ts : List Token) → Splits after rest ts → Splits false text (found ++ ts)
   pub only : (us : List Token) → Splits false text us → (ts : List Token) × (us ≡ found ++ ts) × Splits after rest ts
-  pub trimmed : behind_space rest ≡ rest
+  pub trimmed : after_space rest ≡ rest
 
-pub lexed_begin : (text : List ℕ) → Lexed text [] false (behind_space text)
+pub lexed_begin : (text : List ℕ) → Lexed text [] false (after_space text)
 lexed_begin text = record {
   sound = λ ts d. unskip text d;
   only = λ us d. (us, refl, skip d);
-  trimmed = behind_twice text;
+  trimmed = after_twice text;
 }
 
 -- the first token of what is left
@@ -269,7 +269,7 @@ pub record First (after : Bool) (rest : List ℕ) (ts : List Token) : Type 0 whe
   pub split : Splits (closes_operand token) (drop (word_length rest) rest) others
   pub some : word_length rest ≢ 0
 
-pub first_token : {after : Bool} {rest : List ℕ} {ts : List Token} → behind_space rest ≡ rest → rest ≢ [] → word_length rest ≤ length rest → Splits after rest ts → First after rest ts
+pub first_token : {after : Bool} {rest : List ℕ} {ts : List Token} → after_space rest ≡ rest → rest ≢ [] → word_length rest ≤ length rest → Splits after rest ts → First after rest ts
 first_token {after} {rest} trimmed some within d = this (canonical d)
   where
     this : {ts : List Token} → Canonical after rest ts → First after rest ts
@@ -291,7 +291,7 @@ first_token {after} {rest} trimmed some within d = this (canonical d)
           some = positive;
         }
 
-pub lexed_on : {text : List ℕ} {found : List Token} {after : Bool} {rest : List ℕ} (t : Token) → Lexed text found after rest → rest ≢ [] → word_length rest ≢ 0 → word_length rest ≤ length rest → token_of after (take (word_length rest) rest) (drop (word_length rest) rest) ≡ Some t → Lexed text (found ++ t ∷ []) (closes_operand t) (behind_space (drop (word_length rest) rest))
+pub lexed_on : {text : List ℕ} {found : List Token} {after : Bool} {rest : List ℕ} (t : Token) → Lexed text found after rest → rest ≢ [] → word_length rest ≢ 0 → word_length rest ≤ length rest → token_of after (take (word_length rest) rest) (drop (word_length rest) rest) ≡ Some t → Lexed text (found ++ t ∷ []) (closes_operand t) (after_space (drop (word_length rest) rest))
 lexed_on {text} {found} {after} {rest} t l some n within tok = record {
   sound = λ ts d. subst (Splits false text) (sym (append_assoc found (t ∷ []) ts)) (l.sound (t ∷ ts) (word_next rest n within tok (unskip (drop (word_length rest) rest) d)));
   only = λ us d.
@@ -301,9 +301,9 @@ lexed_on {text} {found} {after} {rest} t l some n within tok = record {
       let e : f.token ≡ t = cc in (
         f.others,
         x.1 ∙ ap (λ z. found ++ z) (f.whole ∙ ap (λ z. z ∷ f.others) e) ∙ sym (append_assoc found (t ∷ []) f.others),
-        subst (λ z. Splits (closes_operand z) (behind_space (drop (word_length rest) rest)) f.others) e (skip f.split),
+        subst (λ z. Splits (closes_operand z) (after_space (drop (word_length rest) rest)) f.others) e (skip f.split),
       );
-  trimmed = behind_twice (drop (word_length rest) rest);
+  trimmed = after_twice (drop (word_length rest) rest);
 }
 
 pub lexed_no_word : {text : List ℕ} {found : List Token} {after : Bool} {rest : List ℕ} → Lexed text found after rest → rest ≢ [] → word_length rest ≡ 0 → (ts : List Token) → Splits false text ts → ⊥

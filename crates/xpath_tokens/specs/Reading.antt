@@ -1,4 +1,4 @@
--- Which token a word is, as the working functions find it: by the word's first characters and what stands around it.
+-- Which token a word is, as the working functions find it: by the word's first characters and what is around it.
 use Rattle.std.specs.Prelude.{ℕ, Bool, true, false, cond, ◌||◌, List, [], ◌∷◌, ◌==◌, ◌-◌, length, take, drop, Option, Some, None, codes, option_map}
 use Rattle.std.specs.List.{list_any}
 use Rattle.std.specs.Str.{bytes_eq}
@@ -11,12 +11,12 @@ use Rattle.xpath_tokens.specs.declared.Token.{Token}
 use Rattle.xpath_tokens.specs.declared.Token.TheVariants.{Any, AnyIn, Named, Kind, Arithmetic, Function, AxisName, Literal, Number, Variable}
 use Rattle.xpath_tokens.specs.Tokens.{is_symbol, is_quote, is_decimal_digit, find_named, delimiters, operator_signs, operator_names, node_types, axis_names, before_open, before_colons}
 
--- what stands before a name, and behind it, white space aside
+-- what is before a name, and after it, white space aside
 pub data Place : Type 0 where
-  behind_operand at_open at_colons elsewhere : Place
+  after_operand at_open at_colons elsewhere : Place
 
 abbrev pub place : Bool → List ℕ → Place
-place after rest = cond after behind_operand (cond (before_open rest) at_open (cond (before_colons rest) at_colons elsewhere))
+place after rest = cond after after_operand (cond (before_open rest) at_open (cond (before_colons rest) at_colons elsewhere))
 
 abbrev pub call_token : List ℕ → Option NodeType → Token
 call_token w (Some k) = Kind k
@@ -29,7 +29,7 @@ abbrev pub axis_token : List ℕ → Option Token
 axis_token w = cond (has_colon w) (Some (named_token w)) (option_map AxisName (find_named axis_names w))
 
 abbrev pub name_token : List ℕ → Place → Option Token
-name_token w behind_operand = find_named operator_names w
+name_token w after_operand = find_named operator_names w
 name_token w at_open = Some (call_token w (find_named node_types w))
 name_token w at_colons = axis_token w
 name_token w elsewhere = Some (named_token w)

@@ -43,11 +43,11 @@ abbrev pub are_digits : List ℕ → Bool
 are_digits [] = false
 are_digits (c ∷ cs) = list_all is_decimal_digit (c ∷ cs)
 
--- digits, digits with a point behind or within, or a point and digits (XPath 1.0, productions 30 and 31)
+-- digits, digits with a point after or within, or a point and digits (XPath 1.0, productions 30 and 31)
 pub data IsNumber : List ℕ → Type 0 where
   whole : {ds : List ℕ} → are_digits ds ≡ true → IsNumber ds
   pointed : (ds es : List ℕ) → are_digits ds ≡ true → list_all is_decimal_digit es ≡ true → IsNumber (ds ++ 46 ∷ es)
-  behind_point : {es : List ℕ} → are_digits es ≡ true → IsNumber (46 ∷ es)
+  after_point : {es : List ℕ} → are_digits es ≡ true → IsNumber (46 ∷ es)
 
 abbrev pub is_quote : ℕ → Bool
 is_quote c = c == 34 || c == 39
@@ -62,9 +62,9 @@ pub data IsWord : List ℕ → Type 0 where
   number : {w : List ℕ} → IsNumber w → IsWord w
   variable : {w : List ℕ} → IsQName w → IsWord (36 ∷ w)
 
--- a word is as long as it can be: none goes on into what stands behind it
+-- a word is as long as it can be: none goes on into what is after it
 abbrev pub IsLongest : List ℕ → List ℕ → Type 0
-IsLongest w rest = (beyond behind : List ℕ) → rest ≡ beyond ++ behind → IsWord (w ++ beyond) → beyond ≡ []
+IsLongest w rest = (beyond after : List ℕ) → rest ≡ beyond ++ after → IsWord (w ++ beyond) → beyond ≡ []
 
 -- Which token a word is.
 
@@ -120,7 +120,7 @@ axis_names =
     ∷ (codes "descendant-or-self", Known axis.DescendantOrSelf) ∷ (codes "ancestor-or-self", Known axis.AncestorOrSelf)
     ∷ (codes "namespace", Namespace) ∷ []
 
--- what stands behind a word, white space aside
+-- what is after a word, white space aside
 abbrev pub starts_open : List ℕ → Bool
 starts_open (c ∷ cs) = c == 40
 starts_open [] = false
@@ -129,19 +129,19 @@ abbrev pub starts_colons : List ℕ → Bool
 starts_colons (c ∷ d ∷ cs) = c == 58 && d == 58
 starts_colons _ = false
 
--- what stands behind the white space at the front
-abbrev pub behind_space : List ℕ → List ℕ
-behind_space [] = []
-behind_space (c ∷ cs) = cond (is_space c) (behind_space cs) (c ∷ cs)
+-- what is after the white space at the start
+abbrev pub after_space : List ℕ → List ℕ
+after_space [] = []
+after_space (c ∷ cs) = cond (is_space c) (after_space cs) (c ∷ cs)
 
 abbrev pub before_open : List ℕ → Bool
-before_open rest = starts_open (behind_space rest)
+before_open rest = starts_open (after_space rest)
 
 abbrev pub before_colons : List ℕ → Bool
-before_colons rest = starts_colons (behind_space rest)
+before_colons rest = starts_colons (after_space rest)
 
--- the token that a word is, behind an operand or not, and before the rest: a case for each class of tokens (XPath 1.0,
--- section 3.7). Behind an operand * is an operator, and a name is one or no token. Elsewhere a name before ( is a node
+-- the token that a word is, after an operand or not, and before the rest: a case for each class of tokens (XPath 1.0,
+-- section 3.7). After an operand * is an operator, and a name is one or no token. Elsewhere a name before ( is a node
 -- type or a function's name, a name without a colon before :: is an axis name, and any other name is a name test, as * is.
 -- A prefix with :* is a name test everywhere
 pub data IsToken (after : Bool) (rest : List ℕ) : List ℕ → Token → Type 0 where
@@ -160,8 +160,8 @@ pub data IsToken (after : Bool) (rest : List ℕ) : List ℕ → Token → Type 
   is_number : {w : List ℕ} → IsNumber w → IsToken after rest w (Number w)
   is_variable : {n : List ℕ} → IsQName n → IsToken after rest (36 ∷ n) (Variable n)
 
--- a text splits into tokens, behind an operand or not: white space, a word as long as it can be, and what is left
--- behind the token that it is
+-- a text splits into tokens, after an operand or not: white space, a word as long as it can be, and what is left
+-- after the token that it is
 pub data Splits : Bool → List ℕ → List Token → Type 0 where
   done : {after : Bool} {space : List ℕ} → is_blank space ≡ true → Splits after space []
   next : {after : Bool} (space w rest : List ℕ) {t : Token} {ts : List Token} → is_blank space ≡ true → IsWord w → IsLongest w rest → IsToken after rest w t → Splits (closes_operand t) rest ts → Splits after (space ++ (w ++ rest)) (t ∷ ts)

@@ -1,4 +1,4 @@
--- How long the words of each kind are at the front of a text: what the working functions compute.
+-- How long the words of each kind are at the start of a text: what the working functions compute.
 use Rattle.std.specs.Prelude.{◌≡◌, ℕ, suc, ◌+◌, max, Bool, cond, not, ◌&&◌, ◌==◌, nat_lt, List, [], ◌∷◌, length, drop, Option, Some, None, Result, Ok, Err}
 use Rattle.xml_model.specs.Chars.{is_name_start, is_name_char}
 use Rattle.xpath_tokens.specs.declared.Token.{Token}
@@ -6,7 +6,7 @@ use Rattle.xpath_tokens.specs.declared.Fault.{Fault}
 use Rattle.xpath_tokens.specs.declared.Fault.TheVariants.{Syntax, NoMemory}
 use Rattle.xpath_tokens.specs.Tokens.{is_single, is_pair, is_quote, is_decimal_digit}
 
--- how many characters at the front pass a test
+-- how many characters at the start pass a test
 abbrev pub run : (ℕ → Bool) → List ℕ → ℕ
 run p [] = 0
 run p (c ∷ cs) = cond (p c) (suc (run p cs)) 0
@@ -33,7 +33,7 @@ symbol_length [] = 0
 symbol_length (c ∷ []) = cond (is_single c) 1 0
 symbol_length (c ∷ d ∷ cs) = cond (is_pair c d) 2 (cond (is_single c) 1 0)
 
--- a name of n characters, with what a colon and another name of m characters behind it add
+-- a name of n characters, with what a colon and another name of m characters after it add
 abbrev pub plus_local : ℕ → ℕ → ℕ
 plus_local n m = cond (m == 0) n (n + 1 + m)
 
@@ -57,7 +57,7 @@ star_length n cs = cond (n == 0) 0 (colon_star n cs)
 abbrev pub any_in_length : List ℕ → ℕ
 any_in_length cs = star_length (ncname_length cs) (drop (ncname_length cs) cs)
 
--- n digits, with a point and the m digits behind it
+-- n digits, with a point and the m digits after it
 abbrev pub with_point : ℕ → ℕ → ℕ
 with_point n m = cond (n == 0 && m == 0) 0 (n + 1 + m)
 
@@ -68,7 +68,7 @@ point_length n (c ∷ cs) = cond (c == 46) (with_point n (run is_decimal_digit c
 abbrev pub number_length : List ℕ → ℕ
 number_length cs = point_length (run is_decimal_digit cs) (drop (run is_decimal_digit cs) cs)
 
--- a quote with n characters behind it before the next one, of the m that stand behind it
+-- a quote with n characters after it before the next one, of the m that are after it
 abbrev pub closed_length : ℕ → ℕ → ℕ
 closed_length n m = cond (nat_lt n m) (n + 2) 0
 

@@ -6,13 +6,13 @@ ghost use Rattle.xpath_tokens.specs.declared.Token.{Token};
 ghost use Rattle.xpath_tokens.specs.declared.Token.TheVariants.{AnyIn};
 ghost use Rattle.xpath_tokens.specs.declared.Fault.TheVariants.{Syntax};
 ghost use Rattle.xml_model.specs.Chars.{prefix_of, local_of, has_colon};
-ghost use Rattle.xpath_tokens.specs.Tokens.{is_symbol, find_named, delimiters, operator_signs, operator_names, node_types, axis_names, behind_space, closes_operand, starts_open, starts_colons, Splits};
+ghost use Rattle.xpath_tokens.specs.Tokens.{is_symbol, find_named, delimiters, operator_signs, operator_names, node_types, axis_names, after_space, closes_operand, starts_open, starts_colons, Splits};
 ghost use Rattle.xpath_tokens.specs.Reading.{fixed_token, place, name_token, kind_of, symbol_token, star_token, token_of, without_last, has_star};
 ghost use Rattle.xpath_tokens.specs.Words.{IsFound};
 
 use crate::text::{equals, text_of};
 use crate::words::{
-    behind, is_digit, is_pair, is_quote, is_single, run_before, space_run, word_length,
+    after, is_digit, is_pair, is_quote, is_single, run_before, space_run, word_length,
 };
 use crate::{Comparison, Fault, NodeType, Operator, StepAxis, Token};
 use std::alloc::{AllocError, Global};
@@ -187,13 +187,13 @@ fn is_symbol(word: &[char]) -> bool
     }
 }
 
-/// What stands behind the white space at the front.
-#[tactic(auto, using(crate::proofs::Spaces::behind_space_run))]
-fn behind_space(chars: &[char]) -> &[char]
-    ensures rest { result.now ≡ behind_space chars.now }
+/// What is after the white space at the start.
+#[tactic(auto, using(crate::proofs::Spaces::after_space_run))]
+fn after_space(chars: &[char]) -> &[char]
+    ensures rest { result.now ≡ after_space chars.now }
     ensures within { length result.now ≤ length chars.now }
 {
-    behind(chars, space_run(chars))
+    after(chars, space_run(chars))
 }
 
 /// Whether a name has a colon.
@@ -204,7 +204,7 @@ fn has_colon(word: &[char]) -> bool
     run_before(':', word) < word.len()
 }
 
-/// The prefix of a name, empty where there is no colon, and the part behind it.
+/// The prefix of a name, empty where there is no colon, and the part after it.
 fn name_parts<'a>(word: &'a [char]) -> (&'a [char], &'a [char])
     ensures prefix { result.0.now ≡ prefix_of word.now }
     ensures local { result.1.now ≡ local_of word.now }
@@ -228,7 +228,7 @@ fn without_last<'a>(chars: &'a [char]) -> &'a [char]
     }
 }
 
-/// Whether a `*` stands among the characters.
+/// Whether a `*` is among the characters.
 fn has_star(word: &[char]) -> bool
     ensures { result ≡ has_star word.now }
 {
@@ -255,7 +255,7 @@ fn starts_colons(chars: &[char]) -> bool
     }
 }
 
-/// The token that `*` is: an operator behind an operand, and else a name test (XPath 1.0, section 3.7).
+/// The token that `*` is: an operator after an operand, and else a name test (XPath 1.0, section 3.7).
 fn star_token(after: bool) -> Token
     ensures { result ≡ star_token after }
 {
@@ -273,7 +273,7 @@ fn name_token(alloc: Global, after: bool, word: &[char], rest: &[char]) -> Resul
     if after {
         return operator_name(word).ok_or(Fault::Syntax);
     }
-    let rest = behind_space(rest);
+    let rest = after_space(rest);
     if starts_open(rest) {
         return match node_type(word) {
             Some(kind) => Ok(Token::Kind(kind)),
@@ -307,7 +307,7 @@ pub enum WordKind {
     Symbol,
     /// A text between quotes.
     Literal,
-    /// A name behind `$`.
+    /// A name after `$`.
     Variable,
     /// Digits, with a point or without.
     Number,
@@ -352,7 +352,7 @@ fn tail(chars: &[char]) -> &[char]
     }
 }
 
-/// The token that a symbol is, behind an operand or not; None where a word is no symbol.
+/// The token that a symbol is, after an operand or not; None where a word is no symbol.
 fn symbol_token(after: bool, word: &[char]) -> Option<Token>
     ensures { result ≡ symbol_token after word.now }
 {
@@ -363,7 +363,7 @@ fn symbol_token(after: bool, word: &[char]) -> Option<Token>
     }
 }
 
-/// The token that a word is, behind an operand or not, and before the rest.
+/// The token that a word is, after an operand or not, and before the rest.
 fn token(alloc: Global, after: bool, word: &[char], rest: &[char]) -> Result<Token, Fault>
     ensures { IsFound (token_of after word.now rest.now) result }
 {
@@ -384,7 +384,7 @@ fn tokens(alloc: Global, text: &[char]) -> Result<Vec<Token>, Fault>
 {
     let mut found = Vec::new(alloc);
     let mut after = false;
-    let mut rest = behind_space(text);
+    let mut rest = after_space(text);
     while !rest.is_empty() {
         let count = word_length(rest);
         if count == 0 {
@@ -394,7 +394,7 @@ fn tokens(alloc: Global, text: &[char]) -> Result<Vec<Token>, Fault>
         let next = token(alloc, after, word, back)?;
         after = closes_operand(&next);
         found.push(next)?;
-        rest = behind_space(back);
+        rest = after_space(back);
     }
     Ok(found)
 }

@@ -115,11 +115,11 @@ pub enum Token {
     Function(Text),
     /// An axis name before `::`.
     AxisName(StepAxis),
-    /// What stands between the quotes.
+    /// What is between the quotes.
     Literal(Text),
     /// A number as it is spelled.
     Number(Text),
-    /// A name behind `$`, as it is written.
+    /// A name after `$`, as it is written.
     Variable(Text),
 }
 

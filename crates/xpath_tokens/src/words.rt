@@ -1,8 +1,8 @@
-//! How long the words at the front of a text are.
+//! How long the words at the start of a text are.
 
 ghost use Rattle.std.specs.Prelude.{◌≡◌, ◌+◌, ◌≤◌, length, drop};
 ghost use Rattle.xml_model.specs.Chars.{is_space};
-ghost use Rattle.xpath_tokens.specs.Tokens.{is_single, is_pair, is_quote, is_decimal_digit, behind_space};
+ghost use Rattle.xpath_tokens.specs.Tokens.{is_single, is_pair, is_quote, is_decimal_digit, after_space};
 ghost use Rattle.xpath_tokens.specs.Words.{run, is_ncname_start, is_ncname_char, not_colon, is_other, ncname_length, symbol_length, qname_length, any_in_length, number_length, literal_length, variable_length, word_length};
 
 use xml_chars::{is_name_char, is_name_start};
@@ -36,14 +36,14 @@ pub fn is_ncname_start(c: char) -> bool
     c != ':' && is_name_start(c)
 }
 
-/// Whether the character can stand in a name without a colon (Namespaces in XML 1.0, production 4).
+/// Whether the character can be in a name without a colon (Namespaces in XML 1.0, production 4).
 pub fn is_ncname_char(c: char) -> bool
     ensures { result ≡ is_ncname_char c }
 {
     c != ':' && is_name_char(c)
 }
 
-/// How many characters at the front can stand in a name without a colon.
+/// How many characters at the start can be in a name without a colon.
 fn ncname_run(chars: &[char]) -> usize
     ensures count { result ≡ run is_ncname_char chars.now }
     ensures within { result ≤ length chars.now }
@@ -55,7 +55,7 @@ fn ncname_run(chars: &[char]) -> usize
     count
 }
 
-/// How many digits stand at the front (XPath 1.0, production 31).
+/// How many digits are at the start (XPath 1.0, production 31).
 fn digit_run(chars: &[char]) -> usize
     ensures count { result ≡ run is_decimal_digit chars.now }
     ensures within { result ≤ length chars.now }
@@ -67,7 +67,7 @@ fn digit_run(chars: &[char]) -> usize
     count
 }
 
-/// How many characters stand before the first `stop`: all of them where there is none.
+/// How many characters are before the first `stop`: all of them where there is none.
 pub fn run_before(stop: char, chars: &[char]) -> usize
     ensures count { result ≡ run (is_other stop) chars.now }
     ensures within { result ≤ length chars.now }
@@ -79,7 +79,7 @@ pub fn run_before(stop: char, chars: &[char]) -> usize
     count
 }
 
-/// How many characters of white space stand at the front (XPath 1.0, production 39).
+/// How many characters of white space are at the start (XPath 1.0, production 39).
 pub fn space_run(chars: &[char]) -> usize
     ensures count { result ≡ run is_space chars.now }
     ensures within { result ≤ length chars.now }
@@ -91,7 +91,7 @@ pub fn space_run(chars: &[char]) -> usize
     count
 }
 
-/// How long the name without a colon at the front is (Namespaces in XML 1.0, production 4); 0 where there is none.
+/// How long the name without a colon at the start is (Namespaces in XML 1.0, production 4); 0 where there is none.
 fn ncname_length(chars: &[char]) -> usize
     ensures count { result ≡ ncname_length chars.now }
     ensures within { result ≤ length chars.now }
@@ -130,7 +130,7 @@ pub fn is_pair(c: char, d: char) -> bool
         || ((c == '!' || c == '<' || c == '>') && d == '=')
 }
 
-/// How long the symbol at the front is (XPath 1.0, productions 28, 32 and 34); 0 where there is none.
+/// How long the symbol at the start is (XPath 1.0, productions 28, 32 and 34); 0 where there is none.
 pub fn symbol_length(chars: &[char]) -> usize
     ensures count { result ≡ symbol_length chars.now }
     ensures within { result ≤ length chars.now }
@@ -150,15 +150,15 @@ pub fn symbol_length(chars: &[char]) -> usize
     }
 }
 
-/// What stands behind as many characters.
-pub fn behind(chars: &[char], count: usize) -> &[char]
+/// What is after as many characters.
+pub fn after(chars: &[char], count: usize) -> &[char]
     requires { count ≤ length chars.now }
     ensures { result.now ≡ drop count chars.now }
 {
     &chars[count..]
 }
 
-/// How long the name at the front is, with a prefix where it has one (Namespaces in XML 1.0, production 7); 0 where there
+/// How long the name at the start is, with a prefix where it has one (Namespaces in XML 1.0, production 7); 0 where there
 /// is none.
 fn qname_length(chars: &[char]) -> usize
     ensures count { result ≡ qname_length chars.now }
@@ -168,7 +168,7 @@ fn qname_length(chars: &[char]) -> usize
     if count == 0 {
         return 0;
     }
-    match behind(chars, count) {
+    match after(chars, count) {
         [':', rest @ ..] => {
             let more = ncname_length(rest);
             if more == 0 { count } else { count + 1 + more }
@@ -177,7 +177,7 @@ fn qname_length(chars: &[char]) -> usize
     }
 }
 
-/// How long the prefix with `:*` at the front is (XPath 1.0, production 37); 0 where there is none.
+/// How long the prefix with `:*` at the start is (XPath 1.0, production 37); 0 where there is none.
 fn any_in_length(chars: &[char]) -> usize
     ensures count { result ≡ any_in_length chars.now }
     ensures within { result ≤ length chars.now }
@@ -186,19 +186,19 @@ fn any_in_length(chars: &[char]) -> usize
     if count == 0 {
         return 0;
     }
-    match behind(chars, count) {
+    match after(chars, count) {
         [':', '*', ..] => count + 2,
         _ => 0,
     }
 }
 
-/// How long the number at the front is (XPath 1.0, production 30); 0 where there is none.
+/// How long the number at the start is (XPath 1.0, production 30); 0 where there is none.
 fn number_length(chars: &[char]) -> usize
     ensures count { result ≡ number_length chars.now }
     ensures within { result ≤ length chars.now }
 {
     let count = digit_run(chars);
-    match behind(chars, count) {
+    match after(chars, count) {
         ['.', rest @ ..] => {
             let more = digit_run(rest);
             if count == 0 && more == 0 {
@@ -211,7 +211,7 @@ fn number_length(chars: &[char]) -> usize
     }
 }
 
-/// How long the literal at the front is, with its quotes (XPath 1.0, production 29); 0 where there is none.
+/// How long the literal at the start is, with its quotes (XPath 1.0, production 29); 0 where there is none.
 fn literal_length(chars: &[char]) -> usize
     ensures count { result ≡ literal_length chars.now }
     ensures within { result ≤ length chars.now }
@@ -228,7 +228,7 @@ fn literal_length(chars: &[char]) -> usize
     }
 }
 
-/// How long the variable reference at the front is (XPath 1.0, production 36); 0 where there is none.
+/// How long the variable reference at the start is (XPath 1.0, production 36); 0 where there is none.
 fn variable_length(chars: &[char]) -> usize
     ensures count { result ≡ variable_length chars.now }
     ensures within { result ≤ length chars.now }
@@ -242,7 +242,7 @@ fn variable_length(chars: &[char]) -> usize
     }
 }
 
-/// How long the longest word at the front is (XPath 1.0, production 28); 0 where there is none.
+/// How long the longest word at the start is (XPath 1.0, production 28); 0 where there is none.
 pub fn word_length(chars: &[char]) -> usize
     ensures count { result ≡ word_length chars.now }
     ensures within { result ≤ length chars.now }

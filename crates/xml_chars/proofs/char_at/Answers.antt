@@ -2,14 +2,14 @@ use Rattle.std.proofs.Common.{ap, ◌∙◌, ◌≡◌, List, ℕ, ◌∷◌, []
 use Rattle.std.specs.Str.{IsUtf8}
 use Rattle.std.proofs.lemmas.List.{length-drop}
 use Rattle.xml_chars.proofs.Runs.{char_some, char_none}
-use Rattle.xml_chars.proofs.StandLemmas.{read_to, no_chars}
+use Rattle.xml_chars.proofs.HoldLemmas.{read_to, no_chars}
 use Rattle.xml_chars.proofs.char_at.Goals as goal
 
 pub returns-clause-char : goal.returns-clause-char
 returns-clause-char c =
     let v : IsUtf8 c.in_ok-c.rest.now = search rules in
     let t = read_to c.args.bytes.now c.text_at.result.now c.in_ok-c.rest.now c.args.at (c.in_ok-c.c ∷ []) c.requires.place.0 c.text_at.ensures c.text_at.utf8 v (char_some _ _ _ c.in_ok-c.ensures.read) in
-    record { there = t.stands; end = t.end }
+    record { there = t.holds; end = t.end }
 
 pub returns-clause-place : goal.returns-clause-place
 returns-clause-place c =

@@ -1,7 +1,7 @@
 use Rattle.std.proofs.Common.{◌≤◌, List, ℕ, length, sym, ap, subst, refl, ◌∙◌, arith}
 use Rattle.std.proofs.lemmas.Result.{err_from_is_err_and}
 use Rattle.xml_model.specs.Items.{Attribute}
-use Rattle.xml_model.specs.Records.{attributes_tokens}
+use Rattle.xml_model.specs.Records.{attributes_records}
 use Rattle.vtd_builder.specs.declared.tags.AttributeCut.{AttributeCut}
 use Rattle.vtd_builder.specs.Offered.{CanOffer}
 use Rattle.vtd_builder.specs.Found.{HasPlaces, attribute_found}
@@ -12,7 +12,7 @@ use Rattle.vtd_builder.proofs.offers.offer_attributes.Given as given
 use Rattle.vtd_builder.proofs.offers.offer_attributes.Goals as goal
 use Rattle.vtd_builder.proofs.offers.offer_attributes.Goals.{In-loop-cut}
 
-turn : (g : given.Over) (c : In-loop-cut g) (xs : List Attribute) (space close : List ℕ) → AttributesAt c.args.bytes.now c.args.at xs space close → CanOffer c.args.count (attributes_tokens c.args.depth c.args.at xs)
+turn : (g : given.Over) (c : In-loop-cut g) (xs : List Attribute) (space close : List ℕ) → AttributesAt c.args.bytes.now c.args.at xs space close → CanOffer c.args.count (attributes_records c.args.depth c.args.at xs)
     → Turn c.args.bytes.now c.args.at c.args.depth xs space close (g.R.RecordSink.refuses c.args.into.now) (g.R.RecordSink.taken c.args.into.now) c.args.count c.loop-cut.name (g.R.RecordSink.refuses c.loop-cut.into) (g.R.RecordSink.taken c.loop-cut.into) c.loop-cut.count
 turn g c xs space close k can =
     turn_of c.args.bytes.now c.args.at c.args.depth xs space close _ _ c.args.count c.loop-cut.name _ _ c.loop-cut.count (c.loop-cut.invariant.0.each xs space close k can) (sym c.closes_tag.ensures ∙ c.loop-cut-test.true)

@@ -2,7 +2,7 @@ use Rattle.std.proofs.Common.{◌≡◌, ℕ, true, map, sym, ap, subst, ◌∙�
 use Rattle.std.proofs.lemmas.Result.{err_from_is_err_and}
 use Rattle.xml_model.specs.Items.{Item, begins_at}
 use Rattle.xml_model.specs.Records.{word}
-use Rattle.xml_acceptance.specs.Machine.{item_tokens}
+use Rattle.xml_acceptance.specs.Machine.{item_records}
 use Rattle.vtd_builder.specs.Offered.{CanOffer, offer}
 use Rattle.xml_items.specs.declared.Item.{Item as ItemShown}
 use Rattle.vtd_builder.specs.Found.{ShowsItem}
@@ -24,7 +24,7 @@ pub offer_marked-requires-clause-item : goal.offer_marked-requires-clause-item
 offer_marked-requires-clause-item g c =
     let t = c.requires.item in
     let here = (goal.at.offer_marked-requires-clause-item g c).In-Ok-Some in
-    (t.0, shown g here t.0 t.1.begins, subst (λ (p : ℕ). CanOffer c.args.count (item_tokens c.args.level p t.0)) (sym (start g here)) t.1.can)
+    (t.0, shown g here t.0 t.1.begins, subst (λ (p : ℕ). CanOffer c.args.count (item_records c.args.level p t.0)) (sym (start g here)) t.1.can)
 
 pub offer_marked-requires-clause-kind : goal.offer_marked-requires-clause-kind
 offer_marked-requires-clause-kind g c =
@@ -37,12 +37,12 @@ returns-in_err-count-clause-outcome g c = λ i k.
     let p = err_from_is_err_and c.from_residual.result c.from_residual.ensures.1 in
     let here = (goal.at.returns-in_err-count-clause-outcome g c).In-Ok-Some in
     rw (p.1, p.2)
-    (c.in_err-count.ensures.outcome i (shown g here i k.begins) ∙ ap (λ (p : ℕ). offer (g.R.RecordSink.refuses c.args.into.now) (g.R.RecordSink.taken c.args.into.now) c.args.count (map word (item_tokens c.args.level p i))) (start g here))
+    (c.in_err-count.ensures.outcome i (shown g here i k.begins) ∙ ap (λ (p : ℕ). offer (g.R.RecordSink.refuses c.args.into.now) (g.R.RecordSink.taken c.args.into.now) c.args.count (map word (item_records c.args.level p i))) (start g here))
 
 pub returns-clause-outcome : goal.returns-clause-outcome
 returns-clause-outcome g c = λ i k.
     let here = (goal.at.returns-clause-outcome g c).In-Ok-Some in
-    c.in_ok-count.ensures.outcome i (shown g here i k.begins) ∙ ap (λ (p : ℕ). offer (g.R.RecordSink.refuses c.args.into.now) (g.R.RecordSink.taken c.args.into.now) c.args.count (map word (item_tokens c.args.level p i))) (start g here)
+    c.in_ok-count.ensures.outcome i (shown g here i k.begins) ∙ ap (λ (p : ℕ). offer (g.R.RecordSink.refuses c.args.into.now) (g.R.RecordSink.taken c.args.into.now) c.args.count (map word (item_records c.args.level p i))) (start g here)
 
 pub returns-clause-passed : goal.returns-clause-passed
 returns-clause-passed g c = λ i k.

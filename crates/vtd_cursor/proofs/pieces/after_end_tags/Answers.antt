@@ -4,7 +4,7 @@ use Rattle.vtd_cursor.proofs.pieces.after_end_tags.Goals as goal
 
 pub tag_at-at-requires-clause-tag : goal.tag_at-at-requires-clause-tag
 tag_at-at-requires-clause-tag c =
-    let left = tags_left _ c.args.count c.loop-i.i c.loop-i.at c.requires.tags.to c.loop-i-test.true (c.loop-i.invariant c.requires.tags.to c.requires.tags.stand) in
+    let left = tags_left _ c.args.count c.loop-i.i c.loop-i.at c.requires.tags.to c.loop-i-test.true (c.loop-i.invariant c.requires.tags.to c.requires.tags.hold) in
     end_tag_there _ c.loop-i.at left.0
 
 pub loop-i-preserved : goal.loop-i-preserved

@@ -16,7 +16,7 @@ pub after_end_tags-requires-clause-tags : goal.after_end_tags-requires-clause-ta
 after_end_tags-requires-clause-tags g c =
     let h = c.requires.ending in
     let last = ending_last _ h.rs c.args.level h.stop c.args.last h.is in
-    record { to = h.stop; stand = end_tags_at _ h.is.opened h.is.place h.stop c.args.level c.last_piece-piece.result.opened c.last_piece-piece.result.end (c.last_piece-piece.ensures.opened h.rs h.shows c.args.level h.is.place h.is.opened last) (c.last_piece-piece.ensures.end h.rs h.shows c.args.level h.is.place h.is.opened last) h.is.tags }
+    record { to = h.stop; hold = end_tags_at _ h.is.opened h.is.place h.stop c.args.level c.last_piece-piece.result.opened c.last_piece-piece.result.end (c.last_piece-piece.ensures.opened h.rs h.shows c.args.level h.is.place h.is.opened last) (c.last_piece-piece.ensures.end h.rs h.shows c.args.level h.is.place h.is.opened last) h.is.tags }
 
 pub returns : goal.returns
 returns g c = λ rs s stop is.

@@ -25,4 +25,4 @@ returns-in-Element g c =
 
 pub returns-in_default : goal.returns-in_default
 returns-in_default g c =
-    last_found _ _ c.words-words.ensures.table.few c.args.node c.requires.below c.in_default.not-Element c.end_of-last.result c.end_of-last.ensures c.parts_at-in_default.result (rw c.words-words.ensures.value at c.parts_at-in_default.ensures.parts) c.token_end.result c.token_end.ensures
+    last_found _ _ c.words-words.ensures.table.few c.args.node c.requires.below c.in_default.not-Element c.end_of-last.result c.end_of-last.ensures c.parts_at-in_default.result (rw c.words-words.ensures.value at c.parts_at-in_default.ensures.parts) c.record_end.result c.record_end.ensures

@@ -8,13 +8,13 @@ loop-level-init g c = λ nest s hs h o m p e. all_left _ c.args.open_tags.now hs
 pub returns-then-is_some-clause-found : goal.returns-then-is_some-clause-found
 returns-then-is_some-clause-found g c = λ nest s hs h o m p e.
     step_found _ c.args.open_tags.now hs p (c.loop-level.level - 1) c.declaration_in-found.result
-    (step_back c.args.bytes.now _ c.requires.few nest s c.args.open_tags.now hs p c.loop-level.level c.declaration_in-found.result c.loop-level-test.true (c.loop-level.invariant nest s hs h o m p e) (λ rs k at t stand. c.declaration_in-found.ensures.found rs k at t stand p e))
+    (step_back c.args.bytes.now _ c.requires.few nest s c.args.open_tags.now hs p c.loop-level.level c.declaration_in-found.result c.loop-level-test.true (c.loop-level.invariant nest s hs h o m p e) (λ rs k at t hold. c.declaration_in-found.ensures.found rs k at t hold p e))
     (sym c.is_some.ensures ∙ c.if-is_some.true)
 
 pub loop-level-preserved : goal.loop-level-preserved
 loop-level-preserved g c = λ nest s hs h o m p e.
     step_missing _ c.args.open_tags.now hs p (c.loop-level.level - 1) c.declaration_in-found.result
-    (step_back c.args.bytes.now _ c.requires.few nest s c.args.open_tags.now hs p c.loop-level.level c.declaration_in-found.result c.loop-level-test.true (c.loop-level.invariant nest s hs h o m p e) (λ rs k at t stand. c.declaration_in-found.ensures.found rs k at t stand p e))
+    (step_back c.args.bytes.now _ c.requires.few nest s c.args.open_tags.now hs p c.loop-level.level c.declaration_in-found.result c.loop-level-test.true (c.loop-level.invariant nest s hs h o m p e) (λ rs k at t hold. c.declaration_in-found.ensures.found rs k at t hold p e))
     (sym c.is_some.ensures ∙ c.if-is_some.false)
 
 pub returns-clause-found : goal.returns-clause-found

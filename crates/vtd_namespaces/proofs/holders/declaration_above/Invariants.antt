@@ -2,7 +2,7 @@ use Rattle.std.proofs.Common.{◌≡◌, ℕ, List}
 use Rattle.std.specs.Prelude.{encode_utf8_all}
 use Rattle.xml_model.specs.Nest.{Forest}
 use Rattle.xml_model.specs.Tree.{Holder}
-use Rattle.xml_model.specs.Laws.{holder_place}
+use Rattle.xml_model.specs.Laws.{holder_index}
 use Rattle.vtd_words.specs.Table.{IsNestOf, nodes_of}
 use Rattle.vtd_namespaces.specs.Scope.{Chain}
 use Rattle.vtd_namespaces.specs.NodeNames.{IsElementAt}
@@ -12,7 +12,7 @@ use Rattle.vtd_namespaces.proofs.holders.declaration_above.Given as goal
 abbrev pub invariant-loop-at : goal.invariant-loop-at
 invariant-loop-at g l = record {
   element : (l.at ≡ 0 → ⊥) → IsElementAt l.table.bytes (g.W.Words.lists l.table.words) l.at;
-  above : (nest : Forest) → IsNestOf l.table.bytes (g.W.Words.lists l.table.words) nest → (hs : List Holder) → Chain (nodes_of l.table.bytes nest) hs → holder_place hs ≡ l.tag → (p : List ℕ) → l.prefix ≡ encode_utf8_all p →
+  above : (nest : Forest) → IsNestOf l.table.bytes (g.W.Words.lists l.table.words) nest → (hs : List Holder) → Chain (nodes_of l.table.bytes nest) hs → holder_index hs ≡ l.tag → (p : List ℕ) → l.prefix ≡ encode_utf8_all p →
       LeftAbove (nodes_of l.table.bytes nest) hs p l.at;
 }
 

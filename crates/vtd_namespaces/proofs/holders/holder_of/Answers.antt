@@ -1,5 +1,5 @@
 use Rattle.std.proofs.Common.{◌≡◌, arith, refl}
-use Rattle.xml_model.specs.Laws.{holder_place}
+use Rattle.xml_model.specs.Laws.{holder_index}
 use Rattle.vtd_namespaces.proofs.HolderLemmas.{element_at, holder_found, holder_lower, holder_element}
 use Rattle.vtd_namespaces.proofs.holders.holder_of.Goals as goal
 
@@ -9,11 +9,11 @@ returns-in-Some-clause-found g c = λ nest s x xs k h. holder_found _ _ nest s x
 pub returns-in-Some-clause-lower : goal.returns-in-Some-clause-lower
 returns-in-Some-clause-lower g c =
     let e = element_at _ _ c.args.tag c.requires in
-    let same : c.in-Some.owner.at ≡ holder_place e.holders = holder_found _ _ e.nest e.shown e.own e.holders e.chain c.args.tag e.place _ c.in-Some.owner refl (c.in-Some.ensures.parent e.nest e.shown) in
-    omega (arith, same, holder_lower _ _ e.nest e.shown e.own e.holders e.chain, e.place)
+    let same : c.in-Some.owner.at ≡ holder_index e.holders = holder_found _ _ e.nest e.shown e.own e.holders e.chain c.args.tag e.index _ c.in-Some.owner refl (c.in-Some.ensures.parent e.nest e.shown) in
+    omega (arith, same, holder_lower _ _ e.nest e.shown e.own e.holders e.chain, e.index)
 
 pub returns-in-Some-clause-element : goal.returns-in-Some-clause-element
 returns-in-Some-clause-element g c = λ z.
     let e = element_at _ _ c.args.tag c.requires in
-    let same : c.in-Some.owner.at ≡ holder_place e.holders = holder_found _ _ e.nest e.shown e.own e.holders e.chain c.args.tag e.place _ c.in-Some.owner refl (c.in-Some.ensures.parent e.nest e.shown) in
+    let same : c.in-Some.owner.at ≡ holder_index e.holders = holder_found _ _ e.nest e.shown e.own e.holders e.chain c.args.tag e.index _ c.in-Some.owner refl (c.in-Some.ensures.parent e.nest e.shown) in
     holder_element _ _ e.nest e.shown e.holders e.chain.1 c.in-Some.owner.at same z

@@ -11,14 +11,14 @@ pub loop-parts-init : goal.loop-parts-init
 loop-parts-init g c = record {
   room = omega arith;
   bound = omega arith;
-  inspected = λ nest x xs s e at stand h. none_inspected c.args.scope.now.table.now.bytes (records nest (first_place c.args.scope.now.table.now.bytes)) c.args.first at (tags_in (x ∷ xs)) x.tag.attributes stand;
+  inspected = λ nest x xs s e at hold h. none_inspected c.args.scope.now.table.now.bytes (records nest (first_place c.args.scope.now.table.now.bytes)) c.args.first at (tags_in (x ∷ xs)) x.tag.attributes hold;
 }
 
 pub returns-then-attribute_offends : goal.returns-then-attribute_offends
-returns-then-attribute_offends g c = λ nest x xs s e at stand h.
+returns-then-attribute_offends g c = λ nest x xs s e at hold h.
     let here = rw c.words.ensures.value at c.in-Some.ensures.some in
     let rs = records nest (first_place c.args.scope.now.table.now.bytes) in
-    let n = next_inspected c.args.scope.now.table.now.bytes rs c.args.first c.loop-parts.number at (tags_in (x ∷ xs)) x.tag.attributes c.in-Some.parts (c.loop-parts.invariant.inspected nest x xs s e at stand h) (here rs (nest_shown _ _ nest s.few s.shown)) c.in-Some.ensures.kind in
+    let n = next_inspected c.args.scope.now.table.now.bytes rs c.args.first c.loop-parts.number at (tags_in (x ∷ xs)) x.tag.attributes c.in-Some.parts (c.loop-parts.invariant.inspected nest x xs s e at hold h) (here rs (nest_shown _ _ nest s.few s.shown)) c.in-Some.ensures.kind in
     n.hit (sym (c.attribute_offends.ensures nest x xs s e n.done n.left n.attribute n.split n.many n.fine (differ c.args.scope.now.table.now.bytes rs c.args.first c.loop-parts.number at (tags_in (x ∷ xs)) x.tag.attributes c.in-Some.parts n h) not_known) ∙ c.if-attribute_offends.true)
 
 pub loop-parts-preserved : goal.loop-parts-preserved
@@ -27,15 +27,15 @@ loop-parts-preserved g c =
     record {
       room = omega (arith, room);
       bound = omega (arith, c.in-Some.ensures.bound);
-      inspected = λ nest x xs s e at stand h.
+      inspected = λ nest x xs s e at hold h.
           let here = rw c.words.ensures.value at c.in-Some.ensures.some in
           let rs = records nest (first_place c.args.scope.now.table.now.bytes) in
-          let n = next_inspected c.args.scope.now.table.now.bytes rs c.args.first c.loop-parts.number at (tags_in (x ∷ xs)) x.tag.attributes c.in-Some.parts (c.loop-parts.invariant.inspected nest x xs s e at stand h) (here rs (nest_shown _ _ nest s.few s.shown)) c.in-Some.ensures.kind in
+          let n = next_inspected c.args.scope.now.table.now.bytes rs c.args.first c.loop-parts.number at (tags_in (x ∷ xs)) x.tag.attributes c.in-Some.parts (c.loop-parts.invariant.inspected nest x xs s e at hold h) (here rs (nest_shown _ _ nest s.few s.shown)) c.in-Some.ensures.kind in
           n.miss (sym (c.attribute_offends.ensures nest x xs s e n.done n.left n.attribute n.split n.many n.fine (differ c.args.scope.now.table.now.bytes rs c.args.first c.loop-parts.number at (tags_in (x ∷ xs)) x.tag.attributes c.in-Some.parts n h) not_known) ∙ c.if-attribute_offends.false);
     }
 
 pub returns : goal.returns
-returns g c = λ nest x xs s e at stand h.
+returns g c = λ nest x xs s e at hold h.
     let none = rw c.words.ensures.value at c.in_default.ensures.none in
     let rs = records nest (first_place c.args.scope.now.table.now.bytes) in
-    all_inspected c.args.scope.now.table.now.bytes rs c.args.first c.loop-parts.number at (tags_in (x ∷ xs)) x.tag.attributes (c.loop-parts.invariant.inspected nest x xs s e at stand h) (none rs (nest_shown _ _ nest s.few s.shown))
+    all_inspected c.args.scope.now.table.now.bytes rs c.args.first c.loop-parts.number at (tags_in (x ∷ xs)) x.tag.attributes (c.loop-parts.invariant.inspected nest x xs s e at hold h) (none rs (nest_shown _ _ nest s.few s.shown))

@@ -12,19 +12,19 @@ pub loop-parts-init : goal.loop-parts-init
 loop-parts-init g c = record {
   room = omega arith;
   bound = omega arith;
-  inspected = λ nest x xs s e at stand h. none_inspected c.args.scope.now.table.now.bytes (records nest (first_place c.args.scope.now.table.now.bytes)) c.args.first at (tags_in (x ∷ xs)) x.tag.attributes stand;
-  noted = λ nest x xs s e at stand h. tt;
+  inspected = λ nest x xs s e at hold h. none_inspected c.args.scope.now.table.now.bytes (records nest (first_place c.args.scope.now.table.now.bytes)) c.args.first at (tags_in (x ∷ xs)) x.tag.attributes hold;
+  noted = λ nest x xs s e at hold h. tt;
 }
 
 pub returns-then-attribute_offends : goal.returns-then-attribute_offends
-returns-then-attribute_offends g c = λ nest x xs s e at stand h.
+returns-then-attribute_offends g c = λ nest x xs s e at hold h.
     let here = rw c.words.ensures.value at c.in-Some.ensures.some in
     let rs = records nest (first_place c.args.scope.now.table.now.bytes) in
-    let n = next_inspected c.args.scope.now.table.now.bytes rs c.args.first c.loop-parts.number at (tags_in (x ∷ xs)) x.tag.attributes c.in-Some.parts (c.loop-parts.invariant.inspected nest x xs s e at stand h) (here rs (nest_shown _ _ nest s.few s.shown)) c.in-Some.ensures.kind in
+    let n = next_inspected c.args.scope.now.table.now.bytes rs c.args.first c.loop-parts.number at (tags_in (x ∷ xs)) x.tag.attributes c.in-Some.parts (c.loop-parts.invariant.inspected nest x xs s e at hold h) (here rs (nest_shown _ _ nest s.few s.shown)) c.in-Some.ensures.kind in
     let o = (attends _ _ _ _ nest x xs s c.args.first c.loop-parts.number e n.done n.left n.attribute n.split n.many c.in-Some.parts here).other in
     n.hit
     (sym (c.attribute_offends.ensures nest x xs s e n.done n.left n.attribute n.split n.many n.fine (differ c.args.scope.now.table.now.bytes rs c.args.first c.loop-parts.number at (tags_in (x ∷ xs)) x.tag.attributes c.in-Some.parts n h)
-    (λ k some. known_new (tags_in (x ∷ xs)) c.loop-parts.filter.slots x.tag.attributes n.done n.left n.attribute c.loop-parts.number n.split n.many (c.loop-parts.invariant.noted nest x xs s e at stand h)
+    (λ k some. known_new (tags_in (x ∷ xs)) c.loop-parts.filter.slots x.tag.attributes n.done n.left n.attribute c.loop-parts.number n.split n.many (c.loop-parts.invariant.noted nest x xs s e at hold h)
     (c.note_attribute-is_new.ensures.new nest (x ∷ xs) s n.attribute o.token (known_record _ c.in-Some.parts n.attribute o) k) some))
     ∙ c.if-attribute_offends.true)
 
@@ -34,27 +34,27 @@ loop-parts-preserved g c =
     record {
       room = omega (arith, room);
       bound = omega (arith, c.in-Some.ensures.bound);
-      inspected = λ nest x xs s e at stand h.
+      inspected = λ nest x xs s e at hold h.
           let here = rw c.words.ensures.value at c.in-Some.ensures.some in
           let rs = records nest (first_place c.args.scope.now.table.now.bytes) in
-          let n = next_inspected c.args.scope.now.table.now.bytes rs c.args.first c.loop-parts.number at (tags_in (x ∷ xs)) x.tag.attributes c.in-Some.parts (c.loop-parts.invariant.inspected nest x xs s e at stand h) (here rs (nest_shown _ _ nest s.few s.shown)) c.in-Some.ensures.kind in
+          let n = next_inspected c.args.scope.now.table.now.bytes rs c.args.first c.loop-parts.number at (tags_in (x ∷ xs)) x.tag.attributes c.in-Some.parts (c.loop-parts.invariant.inspected nest x xs s e at hold h) (here rs (nest_shown _ _ nest s.few s.shown)) c.in-Some.ensures.kind in
           let o = (attends _ _ _ _ nest x xs s c.args.first c.loop-parts.number e n.done n.left n.attribute n.split n.many c.in-Some.parts here).other in
           n.miss
           (sym (c.attribute_offends.ensures nest x xs s e n.done n.left n.attribute n.split n.many n.fine (differ c.args.scope.now.table.now.bytes rs c.args.first c.loop-parts.number at (tags_in (x ∷ xs)) x.tag.attributes c.in-Some.parts n h)
-          (λ k some. known_new (tags_in (x ∷ xs)) c.loop-parts.filter.slots x.tag.attributes n.done n.left n.attribute c.loop-parts.number n.split n.many (c.loop-parts.invariant.noted nest x xs s e at stand h)
+          (λ k some. known_new (tags_in (x ∷ xs)) c.loop-parts.filter.slots x.tag.attributes n.done n.left n.attribute c.loop-parts.number n.split n.many (c.loop-parts.invariant.noted nest x xs s e at hold h)
           (c.note_attribute-is_new.ensures.new nest (x ∷ xs) s n.attribute o.token (known_record _ c.in-Some.parts n.attribute o) k) some))
           ∙ c.if-attribute_offends.false);
-      noted = λ nest x xs s e at stand h.
+      noted = λ nest x xs s e at hold h.
           let here = rw c.words.ensures.value at c.in-Some.ensures.some in
           let rs = records nest (first_place c.args.scope.now.table.now.bytes) in
-          let n = next_inspected c.args.scope.now.table.now.bytes rs c.args.first c.loop-parts.number at (tags_in (x ∷ xs)) x.tag.attributes c.in-Some.parts (c.loop-parts.invariant.inspected nest x xs s e at stand h) (here rs (nest_shown _ _ nest s.few s.shown)) c.in-Some.ensures.kind in
+          let n = next_inspected c.args.scope.now.table.now.bytes rs c.args.first c.loop-parts.number at (tags_in (x ∷ xs)) x.tag.attributes c.in-Some.parts (c.loop-parts.invariant.inspected nest x xs s e at hold h) (here rs (nest_shown _ _ nest s.few s.shown)) c.in-Some.ensures.kind in
           let o = (attends _ _ _ _ nest x xs s c.args.first c.loop-parts.number e n.done n.left n.attribute n.split n.many c.in-Some.parts here).other in
-          noted_more (tags_in (x ∷ xs)) c.loop-parts.filter.slots c.note_attribute-is_new.new.filter.slots x.tag.attributes n.done n.left n.attribute c.loop-parts.number n.split n.many c.note_attribute-is_new.ensures.kept (c.loop-parts.invariant.noted nest x xs s e at stand h)
+          noted_more (tags_in (x ∷ xs)) c.loop-parts.filter.slots c.note_attribute-is_new.new.filter.slots x.tag.attributes n.done n.left n.attribute c.loop-parts.number n.split n.many c.note_attribute-is_new.ensures.kept (c.loop-parts.invariant.noted nest x xs s e at hold h)
           (c.note_attribute-is_new.ensures.noted nest (x ∷ xs) s n.attribute o.token (known_record _ c.in-Some.parts n.attribute o));
     }
 
 pub returns : goal.returns
-returns g c = λ nest x xs s e at stand h.
+returns g c = λ nest x xs s e at hold h.
     let none = rw c.words.ensures.value at c.in_default.ensures.none in
     let rs = records nest (first_place c.args.scope.now.table.now.bytes) in
-    all_inspected c.args.scope.now.table.now.bytes rs c.args.first c.loop-parts.number at (tags_in (x ∷ xs)) x.tag.attributes (c.loop-parts.invariant.inspected nest x xs s e at stand h) (none rs (nest_shown _ _ nest s.few s.shown))
+    all_inspected c.args.scope.now.table.now.bytes rs c.args.first c.loop-parts.number at (tags_in (x ∷ xs)) x.tag.attributes (c.loop-parts.invariant.inspected nest x xs s e at hold h) (none rs (nest_shown _ _ nest s.few s.shown))

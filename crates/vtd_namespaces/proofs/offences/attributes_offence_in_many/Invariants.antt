@@ -5,7 +5,7 @@ use Rattle.xml_model.specs.Records.{records}
 use Rattle.xml_model.specs.Tree.{Holder}
 use Rattle.std.specs.List.{AllByRecursion}
 use Rattle.xml_model.specs.Accepted.{repeated}
-use Rattle.vtd_namespaces.specs.Standing.{AttributesStand}
+use Rattle.vtd_namespaces.specs.NameRecords.{AreAttributeRecords}
 use Rattle.vtd_namespaces.specs.Scope.{tags_in}
 use Rattle.vtd_namespaces.specs.Uris.{IsScope}
 use Rattle.vtd_namespaces.specs.Offences.{IsNoted}
@@ -16,11 +16,11 @@ abbrev pub invariant-loop-parts : goal.invariant-loop-parts
 invariant-loop-parts g l = record {
   room : l.first + 2 * l.number ≤ length (g.W.Words.lists l.scope.table.now.words).records;
   bound : l.first + 2 * l.number < 2 ^ 32;
-  inspected : (nest : Forest) (x : Holder) (xs : List Holder) → IsScope l.scope.table.now.bytes (g.W.Words.lists l.scope.table.now.words) l.scope.open_tags.now l.scope.depth nest (x ∷ xs) → l.first ≡ x.place + 1 →
-      (at : ℕ) → AttributesStand l.scope.table.now.bytes (records nest (first_place l.scope.table.now.bytes)) l.first at x.tag.attributes → repeated at [] x.tag.attributes ≡ [] →
+  inspected : (nest : Forest) (x : Holder) (xs : List Holder) → IsScope l.scope.table.now.bytes (g.W.Words.lists l.scope.table.now.words) l.scope.open_tags.now l.scope.depth nest (x ∷ xs) → l.first ≡ x.index + 1 →
+      (at : ℕ) → AreAttributeRecords l.scope.table.now.bytes (records nest (first_place l.scope.table.now.bytes)) l.first at x.tag.attributes → repeated at [] x.tag.attributes ≡ [] →
       Inspected l.scope.table.now.bytes (records nest (first_place l.scope.table.now.bytes)) l.first l.number at (tags_in (x ∷ xs)) x.tag.attributes;
-  noted : (nest : Forest) (x : Holder) (xs : List Holder) → IsScope l.scope.table.now.bytes (g.W.Words.lists l.scope.table.now.words) l.scope.open_tags.now l.scope.depth nest (x ∷ xs) → l.first ≡ x.place + 1 →
-      (at : ℕ) → AttributesStand l.scope.table.now.bytes (records nest (first_place l.scope.table.now.bytes)) l.first at x.tag.attributes → repeated at [] x.tag.attributes ≡ [] →
+  noted : (nest : Forest) (x : Holder) (xs : List Holder) → IsScope l.scope.table.now.bytes (g.W.Words.lists l.scope.table.now.words) l.scope.open_tags.now l.scope.depth nest (x ∷ xs) → l.first ≡ x.index + 1 →
+      (at : ℕ) → AreAttributeRecords l.scope.table.now.bytes (records nest (first_place l.scope.table.now.bytes)) l.first at x.tag.attributes → repeated at [] x.tag.attributes ≡ [] →
       AllByRecursion (IsNoted (tags_in (x ∷ xs)) l.filter.slots) (take l.number x.tag.attributes);
 }
 

@@ -12,5 +12,5 @@ use Rattle.vtd_namespaces.proofs.offences.has_twin.Given as goal
 
 abbrev pub invariant-loop-number : goal.invariant-loop-number
 invariant-loop-number g l =
-    (nest : Forest) (x : Holder) (xs : List Holder) → IsScope l.scope.table.now.bytes (g.W.Words.lists l.scope.table.now.words) l.scope.open_tags.now l.scope.depth nest (x ∷ xs) → l.first ≡ x.place + 1 → l.count ≤ length x.tag.attributes →
+    (nest : Forest) (x : Holder) (xs : List Holder) → IsScope l.scope.table.now.bytes (g.W.Words.lists l.scope.table.now.words) l.scope.open_tags.now l.scope.depth nest (x ∷ xs) → l.first ≡ x.index + 1 → l.count ≤ length x.tag.attributes →
     (a : Attribute) → IsWritten l.name l.prefix_len a → is_some (attribute_uri (prefix_of a.name) (tags_in (x ∷ xs))) ≡ true → list_any (is_twin (tags_in (x ∷ xs)) a) (take l.number x.tag.attributes) ≡ false

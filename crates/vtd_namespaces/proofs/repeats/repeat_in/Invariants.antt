@@ -1,8 +1,8 @@
 use Rattle.std.proofs.Common.{ℕ, ◌+◌, ◌-◌, ◌*◌, ◌<◌, ◌≤◌, ◌^◌, List, length}
 use Rattle.xml_model.specs.Items.{Attribute}
-use Rattle.xml_model.specs.Records.{Token}
+use Rattle.xml_model.specs.Records.{Record}
 use Rattle.vtd_words.specs.Table.{Shows}
-use Rattle.vtd_namespaces.specs.Standing.{AttributesStand}
+use Rattle.vtd_namespaces.specs.NameRecords.{AreAttributeRecords}
 use Rattle.vtd_namespaces.proofs.RepeatLemmas.{Passed}
 use Rattle.vtd_namespaces.proofs.repeats.repeat_in.Given as goal
 
@@ -10,7 +10,7 @@ abbrev pub invariant-loop-parts : goal.invariant-loop-parts
 invariant-loop-parts g l = record {
   room : l.first + 2 * l.earlier ≤ length (g.W.Words.lists l.words).records;
   bound : l.first + 2 * l.earlier < 2 ^ 32;
-  passed : (rs : List Token) → Shows (g.W.Words.lists l.words).records rs → (at : ℕ) (others : List Attribute) → AttributesStand l.bytes rs l.first at others → Passed l.bytes rs l.first l.earlier at others;
+  passed : (rs : List Record) → Shows (g.W.Words.lists l.words).records rs → (at : ℕ) (others : List Attribute) → AreAttributeRecords l.bytes rs l.first at others → Passed l.bytes rs l.first l.earlier at others;
 }
 
 abbrev pub decreases-loop-parts : goal.decreases-loop-parts

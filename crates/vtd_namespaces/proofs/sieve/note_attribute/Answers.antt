@@ -1,6 +1,6 @@
 use Rattle.std.proofs.Common.{◌∙◌, ap}
-use Rattle.vtd_words.specs.Packed.{token_of}
-use Rattle.vtd_namespaces.specs.Standing.{slice_of}
+use Rattle.vtd_words.specs.Packed.{record_of}
+use Rattle.vtd_namespaces.specs.NameRecords.{slice_of}
 use Rattle.vtd_namespaces.proofs.RepeatLemmas.{not_not}
 use Rattle.vtd_namespaces.proofs.SieveLemmas.{no_declaration, no_prefix}
 use Rattle.vtd_namespaces.proofs.sieve.note_attribute.Goals as goal
@@ -15,8 +15,8 @@ returns-then-parts-eq3-clause-noted g c = λ nest hs s a t r d p.
 
 pub returns-clause-new : goal.returns-clause-new
 returns-clause-new g c = λ nest hs s a t r k.
-    not_not c.note_name.result _ (c.note_name.ensures.new nest hs s a (record { bytes = c.slice_of.ensures ∙ ap (λ b. slice_of b (token_of c.args.parts)) c.bytes.ensures.value ∙ r.slice; prefix_size = r.prefix; named = r.named })) k
+    not_not c.note_name.result _ (c.note_name.ensures.new nest hs s a (record { bytes = c.slice_of.ensures ∙ ap (λ b. slice_of b (record_of c.args.parts)) c.bytes.ensures.value ∙ r.slice; prefix_size = r.prefix; named = r.named })) k
 
 pub returns-clause-noted : goal.returns-clause-noted
 returns-clause-noted g c = λ nest hs s a t r d p.
-    c.note_name.ensures.noted nest hs s a (record { bytes = c.slice_of.ensures ∙ ap (λ b. slice_of b (token_of c.args.parts)) c.bytes.ensures.value ∙ r.slice; prefix_size = r.prefix; named = r.named })
+    c.note_name.ensures.noted nest hs s a (record { bytes = c.slice_of.ensures ∙ ap (λ b. slice_of b (record_of c.args.parts)) c.bytes.ensures.value ∙ r.slice; prefix_size = r.prefix; named = r.named })

@@ -5,29 +5,29 @@ use Rattle.vtd_program.specs.Meaning.{document_name}
 use Rattle.vtd_program.proofs.running.run.Goals as goal
 
 pub returns-in_default-clause-meaning : goal.returns-in_default-clause-meaning
-returns-in_default-clause-meaning g c = λ contents left taken told files from to errs.
-    ran_usage _ contents left taken told _ _ _ _ _ _ c.end_with.result (sym c.in_default.ensures) from to errs c.end_with.ensures
+returns-in_default-clause-meaning g c = λ contents left taken known files from to errs.
+    ran_usage _ contents left taken known _ _ _ _ _ _ c.end_with.result (sym c.in_default.ensures) from to errs c.end_with.ensures
 
 pub returns-in-Ok-clause-meaning : goal.returns-in-Ok-clause-meaning
-returns-in-Ok-clause-meaning g c = λ contents left taken told files from to errs.
+returns-in-Ok-clause-meaning g c = λ contents left taken known files from to errs.
     let r = reads_ok _ contents c.in-Some.name.now c.in-Ok.doc files c.in-Ok.ensures.reads in
-    ran_script _ c.in-Some.name.now contents c.in-Ok.doc left taken told _ _ _ c.run_script.result (sym c.in-Some.ensures) r.0 r.1 r.2 errs (λ nest shown. c.run_script.ensures.runs nest shown left taken from to)
+    ran_script _ c.in-Some.name.now contents c.in-Ok.doc left taken known _ _ _ c.run_script.result (sym c.in-Some.ensures) r.0 r.1 r.2 errs (λ nest shown. c.run_script.ensures.runs nest shown left taken from to)
 
 pub returns-in-Err-Failed-clause-meaning : goal.returns-in-Err-Failed-clause-meaning
-returns-in-Err-Failed-clause-meaning g c = λ contents left taken told files from to errs. ran_empty _ contents left taken told _ _ _ _ from to errs tt
+returns-in-Err-Failed-clause-meaning g c = λ contents left taken known files from to errs. ran_empty _ contents left taken known _ _ _ _ from to errs tt
 
 pub returns-in-Err-NoMemory-clause-meaning : goal.returns-in-Err-NoMemory-clause-meaning
-returns-in-Err-NoMemory-clause-meaning g c = λ contents left taken told files from to errs. ran_empty _ contents left taken told _ _ _ _ from to errs tt
+returns-in-Err-NoMemory-clause-meaning g c = λ contents left taken known files from to errs. ran_empty _ contents left taken known _ _ _ _ from to errs tt
 
 pub returns-in-Err-Long-clause-meaning : goal.returns-in-Err-Long-clause-meaning
-returns-in-Err-Long-clause-meaning g c = λ contents left taken told files from to errs.
+returns-in-Err-Long-clause-meaning g c = λ contents left taken known files from to errs.
     let r = reads_long _ contents c.in-Some.name.now c.in-Err-Long.field-0 files c.in-Err-Long.field-0-is c.in-Err-Long.ensures.reads in
-    ran_refused _ contents (codes "file-long") left taken told _ _ _ _ _ _ c.end_with-in-Err-Long.result (made_long (map (string_bytes {Z = Global}) c.args.words.now) c.in-Some.name.now r.0 contents left (sym c.in-Some.ensures) r.1 r.2) (ran_long (map (string_bytes {Z = Global}) c.args.words.now) c.in-Some.name.now r.0 contents left (sym c.in-Some.ensures) r.1 r.2) from to errs c.end_with-in-Err-Long.ensures
+    ran_refused _ contents (codes "file-long") left taken known _ _ _ _ _ _ c.end_with-in-Err-Long.result (made_long (map (string_bytes {Z = Global}) c.args.words.now) c.in-Some.name.now r.0 contents left (sym c.in-Some.ensures) r.1 r.2) (ran_long (map (string_bytes {Z = Global}) c.args.words.now) c.in-Some.name.now r.0 contents left (sym c.in-Some.ensures) r.1 r.2) from to errs c.end_with-in-Err-Long.ensures
 
 pub returns-in-Err-Unfit-clause-meaning : goal.returns-in-Err-Unfit-clause-meaning
-returns-in-Err-Unfit-clause-meaning g c = λ contents left taken told files from to errs.
+returns-in-Err-Unfit-clause-meaning g c = λ contents left taken known files from to errs.
     let r = reads_unfit _ contents c.in-Some.name.now c.in-Err-Unfit.field-0 c.in-Err-Unfit.fault files c.in-Err-Unfit.field-0-is c.in-Err-Unfit.ensures.reads in
-    ran_unfit_line _ contents c.in-Err-Unfit.fault left taken told _ _ _ _ _ _ c.end_unfit.result
+    ran_unfit_line _ contents c.in-Err-Unfit.fault left taken known _ _ _ _ _ _ c.end_unfit.result
     (made_unfit (map (string_bytes {Z = Global}) c.args.words.now) c.in-Some.name.now r.0 contents left (sym c.in-Some.ensures) r.1 r.2 c.in-Err-Unfit.fault r.3)
     (ran_unfit (map (string_bytes {Z = Global}) c.args.words.now) c.in-Some.name.now r.0 contents left (sym c.in-Some.ensures) r.1 r.2 c.in-Err-Unfit.fault r.3) from to errs c.end_unfit.ensures
 
@@ -65,25 +65,25 @@ pub returns-in-Err-Unfit-clause-some_meaning : goal.returns-in-Err-Unfit-clause-
 returns-in-Err-Unfit-clause-some_meaning g c = λ contents left. no_run_without_meaning (document_name (map (string_bytes {Z = Global}) c.args.words.now)) contents left
 
 pub returns-in_default-clause-exact : goal.returns-in_default-clause-exact
-returns-in_default-clause-exact g c = λ contents left taken told files from to errs noread nowrite noerr nofile.
-    ran_sent _ contents left taken told _ _ _ _ _ _ _ _ _ c.end_with.result (returns-in_default-clause-meaning g c contents left taken told files from to errs) c.end_with.ensures noerr tt
+returns-in_default-clause-exact g c = λ contents left taken known files from to errs noread nowrite noerr nofile.
+    ran_sent _ contents left taken known _ _ _ _ _ _ _ _ _ c.end_with.result (returns-in_default-clause-meaning g c contents left taken known files from to errs) c.end_with.ensures noerr tt
 
 pub returns-in-Ok-clause-exact : goal.returns-in-Ok-clause-exact
-returns-in-Ok-clause-exact g c = λ contents left taken told files from to errs noread nowrite noerr nofile.
-    ran_through _ contents left taken told _ _ _ c.run_script.result (returns-in-Ok-clause-meaning g c contents left taken told files from to errs)
+returns-in-Ok-clause-exact g c = λ contents left taken known files from to errs noread nowrite noerr nofile.
+    ran_through _ contents left taken known _ _ _ c.run_script.result (returns-in-Ok-clause-meaning g c contents left taken known files from to errs)
     (λ e. noread (c.run_script.ensures.read_fault e)) (λ e. nowrite (c.run_script.ensures.write_fault e)) c.run_script.ensures.no_file_fault
 
 pub returns-in-Err-Failed-clause-exact : goal.returns-in-Err-Failed-clause-exact
-returns-in-Err-Failed-clause-exact g c = λ contents left taken told files from to errs noread nowrite noerr nofile.
-    inr (ran_missing _ c.in-Some.name.now _ contents left taken told _ _ _ _ _ _ _ (sym c.in-Some.ensures) files (failed_alone _ _ _ _ _ c.in-Err-Failed.field-0 c.in-Err-Failed.field-0-is c.in-Err-Failed.ensures.cause) nofile from to errs)
+returns-in-Err-Failed-clause-exact g c = λ contents left taken known files from to errs noread nowrite noerr nofile.
+    inr (ran_missing _ c.in-Some.name.now _ contents left taken known _ _ _ _ _ _ _ (sym c.in-Some.ensures) files (failed_alone _ _ _ _ _ c.in-Err-Failed.field-0 c.in-Err-Failed.field-0-is c.in-Err-Failed.ensures.cause) nofile from to errs)
 
 pub returns-in-Err-NoMemory-clause-exact : goal.returns-in-Err-NoMemory-clause-exact
-returns-in-Err-NoMemory-clause-exact g c = λ contents left taken told files from to errs noread nowrite noerr nofile. inl refl
+returns-in-Err-NoMemory-clause-exact g c = λ contents left taken known files from to errs noread nowrite noerr nofile. inl refl
 
 pub returns-in-Err-Long-clause-exact : goal.returns-in-Err-Long-clause-exact
-returns-in-Err-Long-clause-exact g c = λ contents left taken told files from to errs noread nowrite noerr nofile.
-    ran_sent _ contents left taken told _ _ _ _ _ _ _ _ _ c.end_with-in-Err-Long.result (returns-in-Err-Long-clause-meaning g c contents left taken told files from to errs) c.end_with-in-Err-Long.ensures nowrite tt
+returns-in-Err-Long-clause-exact g c = λ contents left taken known files from to errs noread nowrite noerr nofile.
+    ran_sent _ contents left taken known _ _ _ _ _ _ _ _ _ c.end_with-in-Err-Long.result (returns-in-Err-Long-clause-meaning g c contents left taken known files from to errs) c.end_with-in-Err-Long.ensures nowrite tt
 
 pub returns-in-Err-Unfit-clause-exact : goal.returns-in-Err-Unfit-clause-exact
-returns-in-Err-Unfit-clause-exact g c = λ contents left taken told files from to errs noread nowrite noerr nofile.
-    ran_unfit_sent _ contents left taken told _ _ _ _ _ _ _ _ c.end_unfit.result (returns-in-Err-Unfit-clause-meaning g c contents left taken told files from to errs) c.end_unfit.ensures nowrite
+returns-in-Err-Unfit-clause-exact g c = λ contents left taken known files from to errs noread nowrite noerr nofile.
+    ran_unfit_sent _ contents left taken known _ _ _ _ _ _ _ _ c.end_unfit.result (returns-in-Err-Unfit-clause-meaning g c contents left taken known files from to errs) c.end_unfit.ensures nowrite

@@ -5,10 +5,10 @@ use Rattle.xml_model.specs.Tree.{all}
 use Rattle.vtd_words.specs.Table.{IsNestOf}
 use Rattle.vtd_program.specs.Spans.{spans_of}
 use Rattle.vtd_program.specs.Listing.{elements}
-use Rattle.vtd_program.proofs.Elements.{element_spans, from_place}
+use Rattle.vtd_program.proofs.Elements.{element_spans, from_index}
 use Rattle.vtd_program.proofs.spans.spans_of.Given as goal
 
--- the spans so far stand before those of the elements that are left
+-- the spans so far are before those of the elements that are left
 abbrev pub invariant-loop-at : goal.invariant-loop-at
 invariant-loop-at g l = (nest : Forest) → IsNestOf l.nav.bytes (g.W.Words.lists l.nav.words) nest →
-    l.spans.items ++ element_spans (from_place l.at (all nest (first_place l.nav.bytes))) ≡ spans_of (elements nest (first_place l.nav.bytes))
+    l.spans.items ++ element_spans (from_index l.at (all nest (first_place l.nav.bytes))) ≡ spans_of (elements nest (first_place l.nav.bytes))

@@ -11,11 +11,11 @@ value name ps = record { space = codes " "; name = name; left = []; right = []; 
 abbrev attributes : List Attribute
 attributes = value (codes "b") (decimal (codes "10") ∷ literal 10 ∷ literal 13 ∷ literal 10 ∷ []) ∷ value (codes "xmlns:p") (literal 117 ∷ entity (codes "amp") ∷ literal 118 ∷ []) ∷ []
 
-abbrev behind_b : Forest
-behind_b = words (codes "w") (single (Leaf.instruction (record { target = codes "t"; space = codes " "; content = 100 ∷ 13 ∷ [] })) (elem (codes "c") (single (cdata []) done) (elem (codes "d") (single (cdata []) (words (codes "x") done)) done)))
+abbrev after_b : Forest
+after_b = words (codes "w") (single (Leaf.instruction (record { target = codes "t"; space = codes " "; content = 100 ∷ 13 ∷ [] })) (elem (codes "c") (single (cdata []) done) (elem (codes "d") (single (cdata []) (words (codes "x") done)) done)))
 
 abbrev from_b : Forest
-from_b = elem (codes "b") (single (text (literal 49 ∷ entity (codes "lt") ∷ literal 50 ∷ literal 13 ∷ literal 10 ∷ literal 51 ∷ [])) done) behind_b
+from_b = elem (codes "b") (single (text (literal 49 ∷ entity (codes "lt") ∷ literal 50 ∷ literal 13 ∷ literal 10 ∷ literal 51 ∷ [])) done) after_b
 
 abbrev inside : Forest
 inside = single (Leaf.comment (99 ∷ 13 ∷ 10 ∷ [])) (words (codes "x") (single (cdata (codes "&y")) (words (122 ∷ 13 ∷ []) (single (cdata (10 ∷ [])) from_b))))

@@ -15,7 +15,7 @@ loop-c-init g c = record {
 
 pub loop-c-preserved : goal.loop-c-preserved
 loop-c-preserved g c = record {
-  same = c.loop-c.invariant.same ∙ go_on c.loop-c.one c.next.new.self (chars c.next_plain-in-Some-next.result.now) c.next_plain-in-Some-next.new.self (chars c.loop-c.rest.now) (chars c.in-Some-after_both.behind.now) c.in-Some-next.c c.in-Some-next.ensures.steps c.next_plain-in-Some-next.ensures c.in-Some-after_both.ensures;
+  same = c.loop-c.invariant.same ∙ go_on c.loop-c.one c.next.new.self (chars c.next_plain-in-Some-next.result.now) c.next_plain-in-Some-next.new.self (chars c.loop-c.rest.now) (chars c.in-Some-after_both.after.now) c.in-Some-next.c c.in-Some-next.ensures.steps c.next_plain-in-Some-next.ensures c.in-Some-after_both.ensures;
   text = search rules;
 }
 

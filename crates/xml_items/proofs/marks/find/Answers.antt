@@ -20,7 +20,7 @@ pub loop-rest-preserved : goal.loop-rest-preserved
 loop-rest-preserved c = record {
   same = ap (skip (until c.args.mark.now)) c.after_other-rest-in-loop-rest.ensures.rest
       ∙ sym (until_run c.args.mark.now c.args.first (chars c.in_ok-after.after.now) c.requires.first.1 c.requires.first.2)
-      ∙ sym (until_more c.args.mark.now (chars c.loop-rest.rest.now) (chars c.in_ok-after.after.now) _ (char_some _ _ _ c.in_ok-after.ensures.read) (sym c.stands.ensures ∙ c.loop-rest-test.true))
+      ∙ sym (until_more c.args.mark.now (chars c.loop-rest.rest.now) (chars c.in_ok-after.after.now) _ (char_some _ _ _ c.in_ok-after.ensures.read) (sym c.holds.ensures ∙ c.loop-rest-test.true))
       ∙ c.loop-rest.invariant.same;
   shorter = omega (arith, c.in_ok-after.ensures.shorter);
   utf8 = c.after_other-rest-in-loop-rest.utf8;
@@ -28,4 +28,4 @@ loop-rest-preserved c = record {
 
 pub returns-clause-read : goal.returns-clause-read
 returns-clause-read c =
-    sym (until_done c.args.mark.now (chars c.loop-rest.rest.now) c.requires.first.1 (sym c.stands.ensures ∙ c.loop-rest-test.false)) ∙ c.loop-rest.invariant.same
+    sym (until_done c.args.mark.now (chars c.loop-rest.rest.now) c.requires.first.1 (sym c.holds.ensures ∙ c.loop-rest-test.false)) ∙ c.loop-rest.invariant.same

@@ -5,9 +5,9 @@ use Rattle.xpath_grammar.proofs.build.applied.Given as goal
 
 abbrev pub invariant-loop-token : goal.invariant-loop-token
 invariant-loop-token l = record {
-  binary : AreBinary l.behind.items;
-  same : applied (tree_of l.left) l.behind.items ≡ applied (tree_of l.initial.left) l.initial.behind.items;
+  binary : AreBinary l.after.items;
+  same : applied (tree_of l.left) l.after.items ≡ applied (tree_of l.initial.left) l.initial.after.items;
 }
 
 abbrev pub decreases-loop-token : goal.decreases-loop-token
-decreases-loop-token l = vec_len l.behind
+decreases-loop-token l = vec_len l.after

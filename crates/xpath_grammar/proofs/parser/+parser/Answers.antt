@@ -5,7 +5,7 @@ use Rattle.xpath_grammar.specs.declared.expr.Exprs.{Exprs}
 use Rattle.xpath_grammar.specs.Grammar.{Derives, OrExpr, UnaryExpr, UnionExpr, PathExpr, FilterExpr, PrimaryExpr, Arguments, RelativeLocationPath, StepPart, Predicates, path_location, location_relative}
 use Rattle.xpath_grammar.specs.Cutting.{symbol, operand, form, as_expr, as_exprs, as_walk, as_step, ArgumentLevel, RelativeLevel}
 use Rattle.xpath_grammar.specs.Tree.{tree_of, trees_of}
-use Rattle.xpath_grammar.specs.Shape.{test_of, behind_test, IsStepTest}
+use Rattle.xpath_grammar.specs.Shape.{test_of, after_test, IsStepTest}
 use Rattle.xpath_grammar.specs.Grammar.{expr, exprs}
 use Rattle.xpath_grammar.specs.Cutting.{applied, AreBinary}
 use Rattle.xpath_grammar.proofs.Remaining.{Remaining}
@@ -16,12 +16,12 @@ use Rattle.xpath_grammar.proofs.parser.+parser.Goals as goal
 
 pub unary-returns-in_err-part : goal.unary-returns-in_err-part
 unary-returns-in_err-part t c =
-    refuses_at UnaryExpr UnionExpr as_expr as_expr c.args.tokens.now c.behind_minuses-count.result.1.now c.in_err-part.field-0.0 c.from_residual.result c.from_residual.ensures.1 c.in_err-part.ensures (λ e d. rw c.behind_minuses-count.ensures.rest (unary_rest e d))
+    refuses_at UnaryExpr UnionExpr as_expr as_expr c.args.tokens.now c.after_minuses-count.result.1.now c.in_err-part.field-0.0 c.from_residual.result c.from_residual.ensures.1 c.in_err-part.ensures (λ e d. rw c.after_minuses-count.ensures.rest (unary_rest e d))
 
 pub unary-returns : goal.unary-returns
 unary-returns t c =
-    let part = rw c.behind_minuses-count.ensures.rest at c.in_ok-part.ensures in
-    makes UnaryExpr as_expr c.args.tokens.now c.negated_times.result _ c.negated_times.ensures (λ x h. rw (h, c.behind_minuses-count.ensures.count) (unary_made c.args.tokens.now part))
+    let part = rw c.after_minuses-count.ensures.rest at c.in_ok-part.ensures in
+    makes UnaryExpr as_expr c.args.tokens.now c.negated_times.result _ c.negated_times.ensures (λ x h. rw (h, c.after_minuses-count.ensures.count) (unary_made c.args.tokens.now part))
 
 pub path-returns-in_err-steps-in-Absolute : goal.path-returns-in_err-steps-in-Absolute
 path-returns-in_err-steps-in-Absolute t c =
@@ -56,7 +56,7 @@ from_filter-parts_at-requires t c = first_inside c.in-Some.ensures
 
 pub from_filter-returns-in_err-start-in-Some : goal.from_filter-returns-in_err-start-in-Some
 from_filter-returns-in_err-start-in-Some t c =
-    refuses_at {Y = Expr} PathExpr FilterExpr as_expr as_expr c.args.tokens.now c.parts_at.result.front.now c.in_err-start-in-Some.field-0.0 c.from_residual.result c.from_residual.ensures.1 (filter_err _ _ c.in_err-start-in-Some.ensures) (λ e d. let p = from_parts c.requires c.in-Some.ensures e d in (p.start, rw c.parts_at.ensures.front p.left))
+    refuses_at {Y = Expr} PathExpr FilterExpr as_expr as_expr c.args.tokens.now c.parts_at.result.prefix.now c.in_err-start-in-Some.field-0.0 c.from_residual.result c.from_residual.ensures.1 (filter_err _ _ c.in_err-start-in-Some.ensures) (λ e d. let p = from_parts c.requires c.in-Some.ensures e d in (p.start, rw c.parts_at.ensures.prefix p.left))
 
 pub from_filter-returns-in_err-steps-in-Some : goal.from_filter-returns-in_err-steps-in-Some
 from_filter-returns-in_err-steps-in-Some t c =
@@ -68,7 +68,7 @@ from_filter-returns-in-None t c =
 
 pub from_filter-returns-in_ok-steps-in-Some-2 : goal.from_filter-returns-in_ok-steps-in-Some-2
 from_filter-returns-in_ok-steps-in-Some-2 t c =
-    let left = rw c.parts_at.ensures.front at c.in_ok-start-in-Some.ensures in
+    let left = rw c.parts_at.ensures.prefix at c.in_ok-start-in-Some.ensures in
     let right = rw c.parts_at.ensures.back at c.in_ok-steps-in-Some.ensures in
     makes PathExpr as_expr c.args.tokens.now c.from.result _ c.from.ensures (λ x h. from_made c.parts_at.result.token.now c.in-Some.ensures c.parts_at.ensures.token left right c.in_ok-steps-in-Some-2.ensures h)
 
@@ -132,7 +132,7 @@ pub arguments-loop-i-preserved : goal.arguments-loop-i-preserved
 arguments-loop-i-preserved t c =
     let p = cuts_pop _ _ c.loop-i.invariant.cuts c.in-Some.ensures.items in
     let part = rw c.parts_at.ensures.back at c.in_ok-part.ensures in
-    rw c.parts_at.ensures.front (record {
+    rw c.parts_at.ensures.prefix (record {
       remaining = arguments_on c.loop-i.invariant.remaining p.last part c.in_ok-all.ensures;
       cuts = p.others;
     })
@@ -168,7 +168,7 @@ pub predicates-loop-i-preserved : goal.predicates-loop-i-preserved
 predicates-loop-i-preserved t c =
     let p = cuts_pop _ _ c.loop-i.invariant.cuts c.in-Some.ensures.items in
     let w = sym c.parts_at.ensures.back ∙ c.in-Some-unsquared.ensures in
-    rw c.parts_at.ensures.front (record {
+    rw c.parts_at.ensures.prefix (record {
       remaining = predicates_on c.loop-i.invariant.remaining p.last w c.in_ok-part.ensures c.in_ok-all.ensures;
       cuts = p.others;
     })
@@ -198,8 +198,8 @@ pub relative-loop-i-preserved : goal.relative-loop-i-preserved
 relative-loop-i-preserved t c =
     let p = cuts_pop _ _ c.loop-i.invariant.cuts c.in-Some.ensures.items in
     let part = rw c.parts_at.ensures.back at c.in_ok-part.ensures in
-    rw c.parts_at.ensures.front (record {
-      remaining = relative_on c.parts_at.result.token.now c.loop-i.invariant.remaining p.last c.parts_at.ensures.token part c.in_ok-behind.ensures c.in_ok-all.ensures;
+    rw c.parts_at.ensures.prefix (record {
+      remaining = relative_on c.parts_at.result.token.now c.loop-i.invariant.remaining p.last c.parts_at.ensures.token part c.in_ok-after.ensures c.in_ok-all.ensures;
       cuts = p.others;
     })
 
@@ -221,21 +221,21 @@ step-returns-in_err-test t c =
 
 pub step-returns-in_err-predicates : goal.step-returns-in_err-predicates
 step-returns-in_err-predicates t c =
-    let behind = c.behind_test.ensures.rest ∙ ap behind_test c.axis_part-axis.ensures.rest in
-    refuses_at StepPart Predicates as_step as_exprs c.args.tokens.now c.behind_test.result.now c.in_err-predicates.field-0.0 c.from_residual-in_err-predicates.result c.from_residual-in_err-predicates.ensures.1 c.in_err-predicates.ensures (λ e d. rw behind (step_rest (sym c.dot_axis.ensures ∙ c.in_default.is) e d))
+    let after = c.after_test.ensures.rest ∙ ap after_test c.axis_part-axis.ensures.rest in
+    refuses_at StepPart Predicates as_step as_exprs c.args.tokens.now c.after_test.result.now c.in_err-predicates.field-0.0 c.from_residual-in_err-predicates.result c.from_residual-in_err-predicates.ensures.1 c.in_err-predicates.ensures (λ e d. rw after (step_rest (sym c.dot_axis.ensures ∙ c.in_default.is) e d))
 
 pub step-returns : goal.step-returns
 step-returns t c =
-    let behind = c.behind_test.ensures.rest ∙ ap behind_test c.axis_part-axis.ensures.rest in
+    let after = c.after_test.ensures.rest ∙ ap after_test c.axis_part-axis.ensures.rest in
     let is_test = subst (λ z. test_of z ≡ Some c.in_ok-test.test) c.axis_part-axis.ensures.rest c.in_ok-test.ensures in
-    let part = subst (λ z. Derives Predicates z (exprs (trees_of c.in_ok-predicates.predicates))) behind c.in_ok-predicates.ensures in
+    let part = subst (λ z. Derives Predicates z (exprs (trees_of c.in_ok-predicates.predicates))) after c.in_ok-predicates.ensures in
     rw c.axis_part-axis.ensures.axis (step_made c.args.tokens.now is_test part)
 
 pub chain-loop-i-init : goal.chain-loop-i-init
 chain-loop-i-init t c =
     record {
-      remaining = subst (λ z. Remaining (symbol (form c.args.level)) expr (λ a. applied a z) c.args.tokens.now c.args.tokens.now) (sym c.new-behind.ensures.items) (chain_begin (symbol (form c.args.level)) c.args.tokens.now);
-      binary = subst AreBinary (sym c.new-behind.ensures.items) tt;
+      remaining = subst (λ z. Remaining (symbol (form c.args.level)) expr (λ a. applied a z) c.args.tokens.now c.args.tokens.now) (sym c.new-after.ensures.items) (chain_begin (symbol (form c.args.level)) c.args.tokens.now);
+      binary = subst AreBinary (sym c.new-after.ensures.items) tt;
       cuts = rw (← c.rank.ensures) c.in_ok-cuts.ensures;
     }
 
@@ -247,8 +247,8 @@ chain-loop-i-preserved t c =
     let p = cuts_pop _ _ c.loop-i.invariant.cuts c.in-Some.ensures.items in
     let part = rw c.parts_at.ensures.back at c.in_ok-part.ensures in
     let items = c.in_ok-push.ensures.items in
-    rw c.parts_at.ensures.front (record {
-      remaining = subst (λ z. Remaining (symbol (form c.args.level)) expr (λ a. applied a z) c.args.tokens.now (take c.in-Some.i c.loop-i.rest.now)) (sym items) (chain_on c.args.level c.loop-i.behind.items _ c.loop-i.invariant.remaining p.last c.parts_at.ensures.token part);
+    rw c.parts_at.ensures.prefix (record {
+      remaining = subst (λ z. Remaining (symbol (form c.args.level)) expr (λ a. applied a z) c.args.tokens.now (take c.in-Some.i c.loop-i.rest.now)) (sym items) (chain_on c.args.level c.loop-i.after.items _ c.loop-i.invariant.remaining p.last c.parts_at.ensures.token part);
       binary = subst AreBinary (sym items) (AreBinary-push _ _ c.loop-i.invariant.binary (chain_binary c.args.level _ p.last c.parts_at.ensures.token));
       cuts = p.others;
     })

@@ -67,8 +67,8 @@ decreases-relative-loop-i l = vec_len l.cuts
 
 abbrev pub invariant-chain-loop-i : goal.invariant-chain-loop-i
 invariant-chain-loop-i l = record {
-  remaining : Remaining (symbol (form l.level)) expr (λ a. applied a l.behind.items) l.tokens l.rest;
-  binary : AreBinary l.behind.items;
+  remaining : Remaining (symbol (form l.level)) expr (λ a. applied a l.after.items) l.tokens l.rest;
+  binary : AreBinary l.after.items;
   cuts : AreCuts (rank_of (form l.level)) l.rest l.cuts.items;
 }
 

@@ -27,7 +27,7 @@ expr_fault-loop-part-preserved t c =
 pub list_fault-loop-rest-preserved : goal.list_fault-loop-rest-preserved
 list_fault-loop-rest-preserved t c =
     let bs = c.args.bindings.now in
-    let o = list_on bs c.loop-rest.needed (tree_of c.in-More.first.value) (trees_of c.in-More.behind.value) (trees_of c.loop-rest.rest.now) (ap trees_of c.in-More.is) (c.wanted_fault-fault.ensures ∙ ap (λ e. first_in bs (wanted c.loop-rest.needed (tree_of e) (marks (tree_of e)))) c.deref.ensures) c.is_some.ensures c.if-is_some.false in
+    let o = list_on bs c.loop-rest.needed (tree_of c.in-More.first.value) (trees_of c.in-More.after.value) (trees_of c.loop-rest.rest.now) (ap trees_of c.in-More.is) (c.wanted_fault-fault.ensures ∙ ap (λ e. first_in bs (wanted c.loop-rest.needed (tree_of e) (marks (tree_of e)))) c.deref.ensures) c.is_some.ensures c.if-is_some.false in
     let m = c.loop-rest.invariant.smaller in
     let n = o.smaller in
     rw (c.deref-rest.ensures) (record { same = c.loop-rest.invariant.same ∙ o.same; smaller = omega (arith, m, n) })
@@ -39,7 +39,7 @@ steps_fault-returns-then-is_some t c =
     let own = c.earlier-own.ensures ∙ ap (λ x. or_else x c.test_fault.result) (c.axis_fault.ensures ∙ ap (λ x. axis_fault x.axis) c.deref.ensures) ∙ ap (or_else (axis_fault s.axis)) (c.test_fault.ensures ∙ ap (λ x. test_fault bs x.test) c.deref-in-More.ensures) in
     let list = c.list_fault.ensures ∙ ap (λ x. first_in bs (list_marks false (trees_of x.predicates))) c.deref-in-More-2.ensures in
     let both = c.earlier-fault.ensures ∙ ap (λ x. or_else x c.list_fault.result) own ∙ ap (or_else (or_else (axis_fault s.axis) (test_fault bs s.test))) list in
-    steps_there bs s.axis s.test (trees_of s.predicates) (walk_of c.in-More.behind.value) (walk_of c.loop-rest.rest.now) (ap walk_of c.in-More.is) both c.is_some.ensures c.if-is_some.true ∙ sym c.loop-rest.invariant.same
+    steps_there bs s.axis s.test (trees_of s.predicates) (walk_of c.in-More.after.value) (walk_of c.loop-rest.rest.now) (ap walk_of c.in-More.is) both c.is_some.ensures c.if-is_some.true ∙ sym c.loop-rest.invariant.same
 
 pub steps_fault-loop-rest-preserved : goal.steps_fault-loop-rest-preserved
 steps_fault-loop-rest-preserved t c =
@@ -48,7 +48,7 @@ steps_fault-loop-rest-preserved t c =
     let own = c.earlier-own.ensures ∙ ap (λ x. or_else x c.test_fault.result) (c.axis_fault.ensures ∙ ap (λ x. axis_fault x.axis) c.deref.ensures) ∙ ap (or_else (axis_fault s.axis)) (c.test_fault.ensures ∙ ap (λ x. test_fault bs x.test) c.deref-in-More.ensures) in
     let list = c.list_fault.ensures ∙ ap (λ x. first_in bs (list_marks false (trees_of x.predicates))) c.deref-in-More-2.ensures in
     let both = c.earlier-fault.ensures ∙ ap (λ x. or_else x c.list_fault.result) own ∙ ap (or_else (or_else (axis_fault s.axis) (test_fault bs s.test))) list in
-    let o = steps_on bs s.axis s.test (trees_of s.predicates) (walk_of c.in-More.behind.value) (walk_of c.loop-rest.rest.now) (ap walk_of c.in-More.is) both c.is_some.ensures c.if-is_some.false in
+    let o = steps_on bs s.axis s.test (trees_of s.predicates) (walk_of c.in-More.after.value) (walk_of c.loop-rest.rest.now) (ap walk_of c.in-More.is) both c.is_some.ensures c.if-is_some.false in
     let m = c.loop-rest.invariant.smaller in
     let n = o.smaller in
     rw (c.deref-rest.ensures) (record { same = c.loop-rest.invariant.same ∙ o.same; smaller = omega (arith, m, n) })

@@ -21,10 +21,10 @@ abbrev pub decreases-steps_fault : goal.decreases-steps_fault
 decreases-steps_fault l = 4 * step_weight (walk_of l.steps.now) + 2
 
 abbrev pub invariant-expr_fault-loop-part : goal.invariant-expr_fault-loop-part
-invariant-expr_fault-loop-part l = Descends l.bindings (tree_of l.expr) (tree_of l.front) l.found
+invariant-expr_fault-loop-part l = Descends l.bindings (tree_of l.expr) (tree_of l.prefix) l.found
 
 abbrev pub decreases-expr_fault-loop-part : goal.decreases-expr_fault-loop-part
-decreases-expr_fault-loop-part l = weight (tree_of l.front)
+decreases-expr_fault-loop-part l = weight (tree_of l.prefix)
 
 abbrev pub invariant-list_fault-loop-rest : goal.invariant-list_fault-loop-rest
 invariant-list_fault-loop-rest l = record {

@@ -1,6 +1,6 @@
 use Rattle.std.proofs.Common.{arith, refl, take}
 use Rattle.std.proofs.lemmas.List.{take_all}
-use Rattle.xpath_grammar.proofs.Going.{goes_on, is_other, front_more, cut_here}
+use Rattle.xpath_grammar.proofs.Going.{goes_on, is_other, prefix_more, cut_here}
 use Rattle.xpath_grammar.proofs.Clean.{Free-append}
 use Rattle.xpath_grammar.proofs.scan.first_operator.Goals as goal
 
@@ -14,8 +14,8 @@ loop-i-preserved c =
     let t = c.index-tokens-i.result in
     let s = c.loop-i.invariant.scanned in
     record {
-      scanned = rw (c.behind-depth.ensures, c.ends-after.ensures) (goes_on ts i t c.loop-i-test.true c.index-tokens-i.is s);
-      free = rw (front_more ts i t c.loop-i-test.true c.index-tokens-i.is) (Free-append c.args.wanted 0 _ (take i ts) _ c.loop-i.invariant.free (is_other c.args.wanted (take i ts) t s (λ h. let yes = c.is_cut.ensures.1 h in let no = c.if-is_cut.false in cc), tt));
+      scanned = rw (c.depth_after-depth.ensures, c.ends-after.ensures) (goes_on ts i t c.loop-i-test.true c.index-tokens-i.is s);
+      free = rw (prefix_more ts i t c.loop-i-test.true c.index-tokens-i.is) (Free-append c.args.wanted 0 _ (take i ts) _ c.loop-i.invariant.free (is_other c.args.wanted (take i ts) t s (λ h. let yes = c.is_cut.ensures.1 h in let no = c.if-is_cut.false in cc), tt));
     }
 
 pub returns : goal.returns

@@ -16,7 +16,7 @@ loop-i-preserved c =
     let inside = c.loop-i-test.true in
     let s = c.loop-i.invariant.scanned in
     record {
-      scanned = rw (c.behind-depth.ensures, c.ends-after.ensures) (goes_on ts i t inside c.index-tokens-i.is s);
+      scanned = rw (c.depth_after-depth.ensures, c.ends-after.ensures) (goes_on ts i t inside c.index-tokens-i.is s);
       cuts = elim c.if-is_cut.branch [
         | then-is_cut+in_ok-push w ↦
             let h = c.is_cut.ensures.0 w.if-is_cut.true in

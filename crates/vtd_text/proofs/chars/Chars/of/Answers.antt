@@ -14,19 +14,19 @@ returns-in-Root g c = λ nest s e w.
     let f = rw (c.bytes-bytes.ensures.value, c.words-words.ensures.value) at c.of_row.ensures in
     row_gives _ _ c.words-words.ensures.table.few c.args.node.kind c.args.node.at c.end_of.result c.of_row.result (has_row c.args.node.kind c.in-Root.is) f nest s e w (c.end_of.ensures nest s e w)
 
-pub behind-requires : goal.behind-requires
-behind-requires g c = rw c.words-words.ensures.value (record_within _ _ c.words-words.ensures.table.few c.args.node 1 _ (attribute_record c.args.node.kind c.in-Attribute.is) c.requires)
+pub after-requires : goal.after-requires
+after-requires g c = rw c.words-words.ensures.value (record_within _ _ c.words-words.ensures.table.few c.args.node 1 _ (attribute_record c.args.node.kind c.in-Attribute.is) c.requires)
 
 pub of_record-requires-clause-within : goal.of_record-requires-clause-within
-of_record-requires-clause-within g c = rw (c.words-words.ensures.value, c.behind.ensures) (record_within _ _ c.words-words.ensures.table.few c.args.node 1 _ (attribute_record c.args.node.kind c.in-Attribute.is) c.requires)
+of_record-requires-clause-within g c = rw (c.words-words.ensures.value, c.after.ensures) (record_within _ _ c.words-words.ensures.table.few c.args.node 1 _ (attribute_record c.args.node.kind c.in-Attribute.is) c.requires)
 
 pub of_record-requires-clause-record : goal.of_record-requires-clause-record
 of_record-requires-clause-record g c =
-    rw (c.bytes-bytes.ensures.value, c.words-words.ensures.value, c.behind.ensures) (record_of _ _ c.words-words.ensures.table.few c.args.node 1 _ (attribute_record c.args.node.kind c.in-Attribute.is) c.requires)
+    rw (c.bytes-bytes.ensures.value, c.words-words.ensures.value, c.after.ensures) (record_of _ _ c.words-words.ensures.table.few c.args.node 1 _ (attribute_record c.args.node.kind c.in-Attribute.is) c.requires)
 
 pub returns-in-Attribute : goal.returns-in-Attribute
 returns-in-Attribute g c = λ nest s e w.
-    let f = rw (c.bytes-bytes.ensures.value, c.words-words.ensures.value, c.behind.ensures) at c.of_record.ensures in
+    let f = rw (c.bytes-bytes.ensures.value, c.words-words.ensures.value, c.after.ensures) at c.of_record.ensures in
     record_gives _ _ c.words-words.ensures.table.few c.args.node.kind c.args.node.at 1 _ c.of_record.result (attribute_record c.args.node.kind c.in-Attribute.is) f nest s e w
 
 pub of_record-requires-in-Comment-clause-within : goal.of_record-requires-in-Comment-clause-within
@@ -42,18 +42,18 @@ returns-in-Comment g c = λ nest s e w.
     let f = rw (c.bytes-bytes.ensures.value, c.words-words.ensures.value, ← add-zero c.args.node.at) at c.of_record-in-Comment.ensures in
     record_gives _ _ c.words-words.ensures.table.few c.args.node.kind c.args.node.at 0 _ c.of_record-in-Comment.result (comment_record c.args.node.kind c.in-Comment.is) f nest s e w
 
-pub behind-requires-in-Instruction : goal.behind-requires-in-Instruction
-behind-requires-in-Instruction g c = rw c.words-words.ensures.value (record_within _ _ c.words-words.ensures.table.few c.args.node 1 _ (instruction_record c.args.node.kind c.in-Instruction.is) c.requires)
+pub after-requires-in-Instruction : goal.after-requires-in-Instruction
+after-requires-in-Instruction g c = rw c.words-words.ensures.value (record_within _ _ c.words-words.ensures.table.few c.args.node 1 _ (instruction_record c.args.node.kind c.in-Instruction.is) c.requires)
 
 pub of_record-requires-in-Instruction-clause-within : goal.of_record-requires-in-Instruction-clause-within
 of_record-requires-in-Instruction-clause-within g c =
-    rw (c.words-words.ensures.value, c.behind-in-Instruction.ensures) (record_within _ _ c.words-words.ensures.table.few c.args.node 1 _ (instruction_record c.args.node.kind c.in-Instruction.is) c.requires)
+    rw (c.words-words.ensures.value, c.after-in-Instruction.ensures) (record_within _ _ c.words-words.ensures.table.few c.args.node 1 _ (instruction_record c.args.node.kind c.in-Instruction.is) c.requires)
 
 pub of_record-requires-in-Instruction-clause-record : goal.of_record-requires-in-Instruction-clause-record
 of_record-requires-in-Instruction-clause-record g c =
-    rw (c.bytes-bytes.ensures.value, c.words-words.ensures.value, c.behind-in-Instruction.ensures) (record_of _ _ c.words-words.ensures.table.few c.args.node 1 _ (instruction_record c.args.node.kind c.in-Instruction.is) c.requires)
+    rw (c.bytes-bytes.ensures.value, c.words-words.ensures.value, c.after-in-Instruction.ensures) (record_of _ _ c.words-words.ensures.table.few c.args.node 1 _ (instruction_record c.args.node.kind c.in-Instruction.is) c.requires)
 
 pub returns-in-Instruction : goal.returns-in-Instruction
 returns-in-Instruction g c = λ nest s e w.
-    let f = rw (c.bytes-bytes.ensures.value, c.words-words.ensures.value, c.behind-in-Instruction.ensures) at c.of_record-in-Instruction.ensures in
+    let f = rw (c.bytes-bytes.ensures.value, c.words-words.ensures.value, c.after-in-Instruction.ensures) at c.of_record-in-Instruction.ensures in
     record_gives _ _ c.words-words.ensures.table.few c.args.node.kind c.args.node.at 1 _ c.of_record-in-Instruction.result (instruction_record c.args.node.kind c.in-Instruction.is) f nest s e w

@@ -1,5 +1,5 @@
 use Rattle.std.proofs.Common.{◌-◌, ◌≡◌, ℕ, List}
-use Rattle.xml_model.specs.Records.{Token}
+use Rattle.xml_model.specs.Records.{Record}
 use Rattle.vtd_words.specs.Table.{Shows}
 use Rattle.vtd_text.specs.Joined.{IsLeft, BetweenTokens}
 use Rattle.vtd_text.proofs.row.Row.next.Given as goal
@@ -9,7 +9,7 @@ invariant-loop-self g l = record {
   bytes : l.self.bytes ≡ l.fn.self.bytes;
   words : l.self.words ≡ l.fn.self.words;
   past : l.self.past ≡ l.fn.self.past;
-  left : (rs : List Token) → Shows (g.W.Words.lists l.fn.self.words.now).records rs → (content : List ℕ) → IsLeft l.fn.self.bytes.now rs l.fn.self.token.rule l.fn.self.token.text.now l.fn.self.at l.fn.self.past content → BetweenTokens l.fn.self.bytes.now rs l.self.token.rule l.self.token.text.now l.self.at l.fn.self.past content;
+  left : (rs : List Record) → Shows (g.W.Words.lists l.fn.self.words.now).records rs → (content : List ℕ) → IsLeft l.fn.self.bytes.now rs l.fn.self.token.rule l.fn.self.token.text.now l.fn.self.at l.fn.self.past content → BetweenTokens l.fn.self.bytes.now rs l.self.token.rule l.self.token.text.now l.self.at l.fn.self.past content;
 }
 
 abbrev pub decreases-loop-self : goal.decreases-loop-self

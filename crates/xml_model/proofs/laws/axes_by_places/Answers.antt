@@ -1,5 +1,0 @@
-use Rattle.xml_model.proofs.NodeLaws.{axis_of_two}
-use Rattle.xml_model.proofs.laws.axes_by_places.Goals as goal
-
-pub returns : goal.returns
-returns c = axis_of_two

@@ -1,5 +1,0 @@
-use Rattle.xml_model.proofs.NodeLaws.{begins_at_record}
-use Rattle.xml_model.proofs.laws.begins_by_scan_tells.Goals as goal
-
-pub returns : goal.returns
-returns c = begins_at_record

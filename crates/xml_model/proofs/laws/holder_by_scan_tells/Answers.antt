@@ -1,5 +1,0 @@
-use Rattle.xml_model.proofs.NodeLaws.{holder_of_node}
-use Rattle.xml_model.proofs.laws.holder_by_scan_tells.Goals as goal
-
-pub returns : goal.returns
-returns c = holder_of_node

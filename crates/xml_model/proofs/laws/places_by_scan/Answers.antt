@@ -1,5 +1,0 @@
-use Rattle.xml_model.proofs.NodeLaws.{starts_of_nodes}
-use Rattle.xml_model.proofs.laws.places_by_scan.Goals as goal
-
-pub returns : goal.returns
-returns c = starts_of_nodes
