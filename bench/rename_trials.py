@@ -240,7 +240,7 @@ def index_names(code, crate, path):
 
     code = re.sub(r"((?:[A-Za-z_][\w'-]*\.)*[A-Za-z_][\w'-]*)\.place(?![\w'-])", field, code)
     if path not in INDEX_KEPT:
-        code = re.sub(r"(?<=\))\.place(?![\w'-])", ".index", code)
+        code = re.sub(r"(?<=[)0-9])\.place(?![\w'-])", ".index", code)
     if path not in LABELS_KEPT and not any(it in code for it in LINES_KEPT.get(path, ())):
         code = re.sub(r"(?<=[{;( ])place(?= = )", "index", code)
         code = re.sub(r"^(\s*(?:pub )?)place(?= : )", r"\1index", code)

@@ -123,8 +123,8 @@ held_kind bytes lists nest s z y c d r h =
     let a = parent_of_node nest first n y z d c in
     let b = parent_of_node nest first n y x.0 d x.1.there in
     let p = and_parts (not (is_root_thing y.what)) (z.index == holder_by_scan y.index (records nest first)) (sym a ∙ axis_of_two nest first n axes.Parent y z d c ∙ h) in
-    let q = and_parts (not (is_root_thing y.what)) (x.0.place == holder_by_scan y.index (records nest first)) (sym b ∙ axis_of_two nest first n axes.Parent y x.0 d x.1.there ∙ x.1.above) in
-    let same : z.index ≡ x.0.place = eqb-true z.index _ p.1 ∙ sym (eqb-true x.0.place _ q.1) in
+    let q = and_parts (not (is_root_thing y.what)) (x.0.index == holder_by_scan y.index (records nest first)) (sym b ∙ axis_of_two nest first n axes.Parent y x.0 d x.1.there ∙ x.1.above) in
+    let same : z.index ≡ x.0.index = eqb-true z.index _ p.1 ∙ sym (eqb-true x.0.index _ q.1) in
     let kind : kind_of z.what ≡ kind_of x.0.what = one_kind bytes lists nest s z x.0 c x.1.there same in
     elim x.1.kind [
       | inl root ↦ inl (kind ∙ root_kind x.0.what root)
