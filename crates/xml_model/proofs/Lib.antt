@@ -33,3 +33,12 @@ pub mod ExamplesFirst
 pub mod Starts
 pub mod Lacks
 pub mod Siblings
+pub mod Slots
+pub mod Filters
+pub mod Things
+pub mod Indexes
+pub mod TreeOrder
+pub mod Contexts
+pub mod Inside
+pub mod AttributeRuns
+pub mod Depths

@@ -3,6 +3,8 @@
 use Rattle.std.specs.Prelude.{◌≡◌, ℕ, suc, ◌+◌, ◌<◌, Bool, true, false, ◌&&◌, ◌||◌, List, [], ◌∷◌, ◌++◌, length, nat_lt, nat_le, filter, ◌==◌, Some, Contains}
 use Rattle.xml_model.specs.declared.Axis.{Axis}
 use Rattle.xml_model.specs.declared.Axis.TheVariants as axes
+use Rattle.xml_model.specs.declared.Kind.{Kind}
+use Rattle.xml_model.specs.declared.Kind.TheVariants as kinds
 use Rattle.xml_model.specs.Items.{Leaf, Item, begins_at, walk, end_of_items, first_place}
 use Rattle.xml_model.specs.Nest.{Forest}
 use Rattle.xml_model.specs.Records.{Record, document, records, depth_at, tag_records, attribute_records, run_records, leaf_records, forest_records, past_start}
@@ -51,6 +53,12 @@ abbrev pub is_child_thing : Thing → Bool
 is_child_thing (Thing.root first f) = false
 is_child_thing (Thing.attribute a) = false
 is_child_thing _ = true
+
+-- the kinds of what is a child where it is
+abbrev pub is_child_kind : Kind → Bool
+is_child_kind kinds.Root = false
+is_child_kind kinds.Attribute = false
+is_child_kind _ = true
 
 -- an attribute
 abbrev pub is_attribute_thing : Thing → Bool

@@ -1,6 +1,6 @@
 -- What the records alone show: levels, where a node's records end, what holds it, and which records begin a node. All of it is this project's
 -- own. The laws of module `laws` tie it to the tree.
-use Rattle.std.specs.Prelude.{◌≡◌, ℕ, zero, suc, ◌+◌, Bool, true, false, cond, not, ◌&&◌, ◌||◌, List, [], ◌∷◌, ◌++◌, length, take, drop, leb, nat_lt, ◌==◌, Option, Some, None}
+use Rattle.std.specs.Prelude.{◌≡◌, ℕ, zero, suc, ◌+◌, ◌<◌, ◌≤◌, Bool, true, false, cond, not, ◌&&◌, ◌||◌, List, [], ◌∷◌, ◌++◌, length, take, drop, leb, nat_le, nat_lt, ◌==◌, Option, Some, None}
 use Rattle.std.specs.List.{AllByRecursion, slice_index_or}
 use Rattle.xml_model.specs.declared.Kind.{Kind}
 use Rattle.xml_model.specs.declared.Kind.TheVariants as kinds
@@ -18,6 +18,20 @@ level_of r = cond (r.token == kind_number token.StartTag) r.depth (cond (r.depth
 -- the record with an index
 abbrev pub record_at : ℕ → List Record → Record
 record_at n rs = slice_index_or rs n document
+
+-- whether a record is at a level or deeper
+abbrev pub is_within : ℕ → Record → Bool
+is_within level r = nat_le level (level_of r)
+
+-- whether a record is a part of an attribute or a declaration at a level
+abbrev pub is_attribute_part : ℕ → Record → Bool
+is_attribute_part level r =
+    (r.token == kind_number token.AttributeName || r.token == kind_number token.NamespaceName || r.token == kind_number token.Value)
+    && level_of r == level
+
+-- the records from one index up to another pass a test
+abbrev pub Passes : (Record → Bool) → List Record → ℕ → ℕ → Type 0
+Passes pass rs from to = (k : ℕ) → from ≤ k → k < to → pass (record_at k rs) ≡ true
 
 -- Ends.
 

@@ -1,7 +1,7 @@
 //! Laws over the definitions. Each function does nothing; its contract is the law, which the check proves. Other crates
 //! cite the lemmas of `proofs/NodeLaws.antt`, which say the same. `first` is the place of the first item.
 
-ghost use Rattle.std.specs.Prelude.{◌≡◌, ℕ, List, true, false, map, not, ◌&&◌, ◌==◌, ◌≤◌, is_some, IsUtf8};
+ghost use Rattle.std.specs.Prelude.{◌≡◌, ℕ, List, true, false, map, not, ◌&&◌, ◌==◌, ◌≤◌, is_some, length, take, IsUtf8};
 ghost use Rattle.std.specs.List.{list_all};
 ghost use Rattle.std.specs.List.Sorted.{IsStrictlyIncreasing};
 ghost use Rattle.std.specs.Option.{option_map};
@@ -14,6 +14,8 @@ ghost use Rattle.xml_model.specs.Records.{records};
 ghost use Rattle.xml_model.specs.Tree.{Entry, all, at_index, axis_list, kind_of, on_axis};
 ghost use Rattle.xml_model.specs.Scan.{begins_by_scan, end_by_scan, holder_by_scan, kind_by_scan, past_by_scan, starts_by_scan, EndsAt};
 ghost use Rattle.xml_model.specs.Accepted.{Accepted, AcceptedTo, IsDocument, IsRefusal};
+ghost use Rattle.xml_model.specs.Levels.{at_depth, tags_from};
+ghost use Rattle.xml_model.specs.Slots.{holder_indexes, slots_after};
 ghost use Rattle.xml_model.specs.Laws.{by_indexes, holder_index, is_root_thing, list_by_indexes, FirstRecordShows, HasParent, IsNode, OneItem, IndexesDecide, HasRecords, SiblingsDecide};
 
 /// A list of items is the print of at most one nest.
@@ -58,6 +60,12 @@ pub fn one_refusal()
 /// Along the tree, in document order, the places rise strictly.
 pub fn indexes_rise()
     ensures { (nest : Forest) (first : ℕ) → IsStrictlyIncreasing (map (λ e. e.index) (all nest first)) }
+{}
+
+/// At most one node begins at an index, so a kind and an index stand for at most one.
+pub fn one_node()
+    ensures { (nest : Forest) (first : ℕ) (x y : Entry) → IsNode nest first x → IsNode nest first y →
+        x.index ≡ y.index → x ≡ y }
 {}
 
 /// The records of a node are a part of all records, which begins at its place.
@@ -123,6 +131,14 @@ pub fn holder_by_scan_decides()
         (e : Entry) → IsNode nest first e → holder_by_scan e.index (records nest first) ≡ holder_index e.holders }
 {}
 
+/// Where each starting tag that is passed is put into the slot of its depth, the slots below the level of the next record have
+/// the elements that hold what it begins, the outermost first.
+pub fn holders_by_slots()
+    ensures { (slots : List ℕ) → 255 ≤ length slots → (nest : Forest) (first : ℕ) → is_nest nest ≡ true →
+        (e : Entry) → IsNode nest first e →
+        take (length e.holders) (slots_after 0 slots (take e.index (records nest first))) ≡ holder_indexes e.holders }
+{}
+
 /// Every node but the root has a parent.
 pub fn parent_exists()
     ensures { (nest : Forest) (first : ℕ) → is_nest nest ≡ true →
@@ -146,4 +162,10 @@ pub fn begins_by_scan_decides()
 pub fn kind_by_scan_decides()
     ensures { (nest : Forest) (first : ℕ) → is_nest nest ≡ true → list_all meets (flat nest) ≡ true →
         (n : ℕ) → option_map (λ e. kind_of e.what) (at_index n (all nest first)) ≡ kind_by_scan n (records nest first) }
+{}
+
+/// The elements of a depth, by the tree, are the starting tags of that depth, by the records.
+pub fn elements_of_depth()
+    ensures { (nest : Forest) (first : ℕ) → is_nest nest ≡ true → list_all meets (flat nest) ≡ true →
+        (depth : ℕ) → map (λ e. e.index) (at_depth depth (all nest first)) ≡ tags_from depth 0 (records nest first) }
 {}
