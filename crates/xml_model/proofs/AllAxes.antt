@@ -120,7 +120,7 @@ not_later (s ∷ u ∷ p) [] h = nothing s
 not_later (s ∷ u ∷ p) (t ∷ q) h = under_more s u p t q ∙ ap (λ b. step_eq s t && b) (not_later (u ∷ p) q h) ∙ and_no (step_eq s t)
 
 -- a child is not the root
-child_first : (w : Thing) (b : Bool) → ((not (is_root_thing w) && b) && is_child_thing w) ≡ (is_child_thing w && b)
+pub child_first : (w : Thing) (b : Bool) → ((not (is_root_thing w) && b) && is_child_thing w) ≡ (is_child_thing w && b)
 child_first (Thing.root first f) b = refl
 child_first (Thing.attribute a) b = and_no b
 child_first (Thing.element t inside) b = and_yes b

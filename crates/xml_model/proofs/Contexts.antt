@@ -9,6 +9,7 @@ use Rattle.xml_model.specs.declared.Axis.TheVariants as axes
 use Rattle.xml_model.specs.Nest.{Forest, is_nest}
 use Rattle.xml_model.specs.Tree.{Thing, Entry, all}
 use Rattle.xml_model.specs.Laws.{by_indexes, holder_index, is_child_thing, is_root_thing, is_under, IsNode}
+use Rattle.xml_model.proofs.AllAxes.{child_first}
 use Rattle.xml_model.proofs.Each.{each_at, each_more, contains_here, contains_next}
 use Rattle.xml_model.proofs.NodeLaws.{axis_of_two, parent_of_node, holder_of_node}
 use Rattle.xml_model.specs.Contexts.{union_list, AreContexts, Rises, least_past, greatest_index, outermost, new_ancestors}
@@ -269,14 +270,6 @@ following_on bound es c d cs f a = by (nat_lt d.index c.past) refl
 
 -- Children and parents: by the index of what holds a node.
 
-held_first : (w : Thing) (b : Bool) → ((not (is_root_thing w) && b) && is_child_thing w) ≡ (is_child_thing w && b)
-held_first (Thing.root first f) b = refl
-held_first (Thing.attribute a) b = and_no b
-held_first (Thing.element t inside) b = and_yes b
-held_first (Thing.text xs) b = and_yes b
-held_first (Thing.comment cs) b = and_yes b
-held_first (Thing.instruction i) b = and_yes b
-
 parent_by_holder : (nest : Forest) (first : ℕ) → is_nest nest ≡ true → (x y : Entry) → IsNode nest first x → IsNode nest first y →
     by_indexes axes.Parent y x ≡ (not (is_root_thing y.what) && x.index == holder_index y.holders)
 parent_by_holder nest first n x y c d =
@@ -286,7 +279,7 @@ parent_by_holder nest first n x y c d =
 pub child_by_holder : (nest : Forest) (first : ℕ) → is_nest nest ≡ true → (x y : Entry) → IsNode nest first x → IsNode nest first y →
     by_indexes axes.Child x y ≡ (is_child_thing y.what && x.index == holder_index y.holders)
 child_by_holder nest first n x y c d = ap (λ b. b && is_child_thing y.what) (parent_by_holder nest first n x y c d)
-    ∙ held_first y.what (x.index == holder_index y.holders)
+    ∙ child_first y.what (x.index == holder_index y.holders)
 
 and_any : (P : Entry → Bool) (t : Bool) (cs : List Entry) → list_any (λ c. t && P c) cs ≡ (t && list_any P cs)
 and_any P true cs = refl

@@ -7,6 +7,8 @@ use Rattle.std.proofs.lemmas.Bool.{false≢true, and_parts, and_from, or_cases, 
 use Rattle.std.proofs.lemmas.List.{drop_more, drop_all, map-append}
 use Rattle.std.proofs.lemmas.Option.{none-some, same_Some}
 use Rattle.xml_model.proofs.Indexes.{index_found}
+use Rattle.xml_model.proofs.Inside.{tag_level}
+use Rattle.xml_model.proofs.Things.{element_token, is_element_kind, kind_element}
 use Rattle.xml_model.specs.declared.Kind.{Kind}
 use Rattle.xml_model.specs.declared.Kind.TheVariants as kinds
 use Rattle.xml_model.specs.Items.{meets}
@@ -55,41 +57,6 @@ element_found n es k = by (at_index n es) refl k
     by None h k = absurd (none-some _ k)
     by (Some e) h k = let f = index_found n es e h in record { entry = e; there = f.0; index = f.1; kind = same_Some _ _ k }
 
-is_element_kind : (w : Thing) → kind_of w ≡ kinds.Element → is_element w ≡ true
-is_element_kind (Thing.root first f) h = absurd cc
-is_element_kind (Thing.element t inside) h = refl
-is_element_kind (Thing.attribute a) h = absurd cc
-is_element_kind (Thing.text xs) h = absurd cc
-is_element_kind (Thing.comment cs) h = absurd cc
-is_element_kind (Thing.instruction i) h = absurd cc
-
-kind_element : (w : Thing) → is_element w ≡ true → kind_of w ≡ kinds.Element
-kind_element (Thing.root first f) h = absurd (false≢true h)
-kind_element (Thing.element t inside) h = refl
-kind_element (Thing.attribute a) h = absurd (false≢true h)
-kind_element (Thing.text xs) h = absurd (false≢true h)
-kind_element (Thing.comment cs) h = absurd (false≢true h)
-kind_element (Thing.instruction i) h = absurd (false≢true h)
-
--- the type of an element's first record
-element_token : (n : ℕ) → kind_of_token n ≡ Some kinds.Element → n ≡ 0
-element_token n h = by (n == 13) (n == 0) refl h
-  where
-    last : (c d e f : Bool) → ◌≡◌ {A = Option Kind} (cond c (Some kinds.Attribute)
-        (cond d (Some kinds.Text) (cond e (Some kinds.Comment) (cond f (Some kinds.Instruction) None)))) (Some kinds.Element) → ⊥
-    last true d e f k = cc
-    last false true e f k = cc
-    last false false true f k = cc
-    last false false false true k = cc
-    last false false false false k = cc
-
-    by : (a b : Bool) → (n == 0) ≡ b → cond a (Some kinds.Root) (cond b (Some kinds.Element)
-        (cond (n == 2) (Some kinds.Attribute) (cond (is_text_token n) (Some kinds.Text)
-        (cond (n == 6) (Some kinds.Comment) (cond (n == 7) (Some kinds.Instruction) None))))) ≡ Some kinds.Element → n ≡ 0
-    by true b e k = absurd cc
-    by false true e k = eqb-true n 0 e
-    by false false e k = absurd (last (n == 2) (is_text_token n) (n == 6) (n == 7) k)
-
 -- a starting tag begins a node
 tag_begins : (rs : List Record) (n : ℕ) → n < length rs → (record_at n rs).token ≡ 0 → begins_by_scan n rs ≡ true
 tag_begins rs zero l t = refl
@@ -101,9 +68,6 @@ tag_begins rs (suc n) l t =
 
 tag_kind : (rs : List Record) (n : ℕ) → n < length rs → (record_at n rs).token ≡ 0 → kind_by_scan n rs ≡ Some kinds.Element
 tag_kind rs n l t = ap (λ b. cond b (kind_of_token (record_at n rs).token) None) (tag_begins rs n l t) ∙ ap kind_of_token t
-
-tag_level : (r : Record) → r.token ≡ 0 → level_of r ≡ r.depth
-tag_level r t = ap (λ n. cond (n == 0) r.depth (cond (r.depth == 255) 0 (suc r.depth))) t
 
 module _ (nest : Forest) (first : ℕ) (nests : is_nest nest ≡ true) (m : list_all meets (flat nest) ≡ true) (k : ℕ) where
   Here : Entry → Bool

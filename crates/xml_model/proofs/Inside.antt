@@ -132,6 +132,9 @@ own_levels (Thing.text xs) l at rest b r e = each_more (λ x. is_run l x ≡ tru
 own_levels (Thing.comment cs) l at rest b r e = leaf_from l at (Leaf.comment cs) b
 own_levels (Thing.instruction i) l at rest b r e = leaf_from l at (Leaf.instruction i) b
 
+pub tag_level : (r : Record) → r.token ≡ 0 → level_of r ≡ r.depth
+tag_level r t = ap (λ n. cond (n == 0) r.depth (cond (r.depth == 255) 0 (suc r.depth))) t
+
 pub levels_shown : (nest : Forest) (first : ℕ) → is_nest nest ≡ true → (x : Entry) → Contains (all nest first) x →
     level_of (record_at x.index (records nest first)) ≡ length x.holders
 levels_shown nest first n x c = let f : FirstRecordShows (records nest first) x = first_record_of_node nest first n x c in f.level

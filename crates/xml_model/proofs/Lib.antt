@@ -31,12 +31,12 @@ pub mod OneRefusal
 pub mod ExamplesOne
 pub mod ExamplesFirst
 pub mod Starts
-pub mod Lacks
 pub mod Siblings
 pub mod Slots
 pub mod Filters
 pub mod Things
 pub mod Indexes
+pub mod FromIndex
 pub mod TreeOrder
 pub mod Contexts
 pub mod Inside

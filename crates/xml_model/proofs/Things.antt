@@ -4,6 +4,7 @@ use Rattle.std.proofs.lemmas.Bool.{false≢true, eqb-true}
 use Rattle.xml_model.specs.declared.Kind.{Kind}
 use Rattle.xml_model.specs.declared.Kind.TheVariants as kinds
 use Rattle.xml_model.specs.Items.{Attribute, Tag}
+use Rattle.xml_model.specs.Levels.{is_element}
 use Rattle.xml_model.specs.Nest.{Forest}
 use Rattle.xml_model.specs.Tree.{Thing, kind_of}
 use Rattle.xml_model.specs.Scan.{kind_of_token, is_text_token}
@@ -120,3 +121,38 @@ thing_child kind b what k h = child_kind what ∙ ap is_child_kind k ∙ h
 
 pub thing_kind : (kind other : Kind) (what : Thing) → kind_of what ≡ kind → (kind ≡ other → ⊥) → kind_of what ≡ other → ⊥
 thing_kind kind other what k h e = h (sym k ∙ e)
+
+pub is_element_kind : (w : Thing) → kind_of w ≡ kinds.Element → is_element w ≡ true
+is_element_kind (Thing.root first f) h = absurd cc
+is_element_kind (Thing.element t inside) h = refl
+is_element_kind (Thing.attribute a) h = absurd cc
+is_element_kind (Thing.text xs) h = absurd cc
+is_element_kind (Thing.comment cs) h = absurd cc
+is_element_kind (Thing.instruction i) h = absurd cc
+
+pub kind_element : (w : Thing) → is_element w ≡ true → kind_of w ≡ kinds.Element
+kind_element (Thing.root first f) h = absurd (false≢true h)
+kind_element (Thing.element t inside) h = refl
+kind_element (Thing.attribute a) h = absurd (false≢true h)
+kind_element (Thing.text xs) h = absurd (false≢true h)
+kind_element (Thing.comment cs) h = absurd (false≢true h)
+kind_element (Thing.instruction i) h = absurd (false≢true h)
+
+-- the type of an element's first record
+pub element_token : (n : ℕ) → kind_of_token n ≡ Some kinds.Element → n ≡ 0
+element_token n h = by (n == 13) (n == 0) refl h
+  where
+    last : (c d e f : Bool) → ◌≡◌ {A = Option Kind} (cond c (Some kinds.Attribute)
+        (cond d (Some kinds.Text) (cond e (Some kinds.Comment) (cond f (Some kinds.Instruction) None)))) (Some kinds.Element) → ⊥
+    last true d e f k = cc
+    last false true e f k = cc
+    last false false true f k = cc
+    last false false false true k = cc
+    last false false false false k = cc
+
+    by : (a b : Bool) → (n == 0) ≡ b → cond a (Some kinds.Root) (cond b (Some kinds.Element)
+        (cond (n == 2) (Some kinds.Attribute) (cond (is_text_token n) (Some kinds.Text)
+        (cond (n == 6) (Some kinds.Comment) (cond (n == 7) (Some kinds.Instruction) None))))) ≡ Some kinds.Element → n ≡ 0
+    by true b e k = absurd cc
+    by false true e k = eqb-true n 0 e
+    by false false e k = absurd (last (n == 2) (is_text_token n) (n == 6) (n == 7) k)

@@ -1,5 +1,5 @@
-//! Laws of axes over lists of context nodes: what a step from all of them finds, as one pass over the tree finds it. Each
-//! function does nothing; its contract is the law, which the check proves. Other crates cite the lemmas of
+//! Laws of axes over lists of context nodes: what a step from all of them finds, as one pass over the tree finds it.
+//! Each function does nothing; its contract is the law, which the check proves. Other crates cite the lemmas of
 //! `proofs/Contexts.antt`. `first` is the place of the first item.
 
 ghost use Rattle.std.specs.Prelude.{◌≡◌, ℕ, List, true, filter, length};
@@ -9,7 +9,8 @@ ghost use Rattle.xml_model.specs.Nest.{Forest, is_nest};
 ghost use Rattle.xml_model.specs.Records.{records};
 ghost use Rattle.xml_model.specs.Tree.{Entry, all};
 ghost use Rattle.xml_model.specs.Laws.{by_indexes};
-ghost use Rattle.xml_model.specs.Contexts.{greatest_index, is_child_from, is_child_of_any, is_child_up_to, is_parent_of_any, least_past};
+ghost use Rattle.xml_model.specs.Contexts.{greatest_index, is_child_from, is_child_of_any, is_child_up_to};
+ghost use Rattle.xml_model.specs.Contexts.{is_parent_of_any, least_past};
 ghost use Rattle.xml_model.specs.Contexts.{new_ancestors, new_ancestors_or_selves, outermost, union_list, AreContexts};
 
 /// What follows some context is each child that begins at the least end of the contexts or later.
