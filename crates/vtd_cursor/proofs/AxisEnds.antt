@@ -5,19 +5,10 @@ use Rattle.std.proofs.lemmas.Grind.{reverse_onto}
 use Rattle.xml_model.specs.Tree.{Entry}
 use Rattle.xml_model.specs.declared.Node.{Node}
 use Rattle.xml_model.proofs.Each.{Pairs, each_at, contains_here, contains_next}
+use Rattle.xml_model.specs.Contexts.{Rises}
+use Rattle.xml_model.proofs.Filters.{none_of}
 use Rattle.vtd_words.specs.Table.{node_of}
 use Rattle.vtd_cursor.specs.Moves.{first_of, last_of}
-
-abbrev pub Rises : List Entry → Type 0
-Rises es = Pairs (λ x y. x.index < y.index) es
-
-pub none_of : (P : Entry → Bool) (es : List Entry) → ((x : Entry) → Contains es x → P x ≡ true → ⊥) → filter P es ≡ []
-none_of P [] h = refl
-none_of P (x ∷ es) h = by (P x) refl (none_of P es (λ y c p. h y (contains_next x es y c) p))
-  where
-    by : (b : Bool) → P x ≡ b → filter P es ≡ [] → cond b (x ∷ filter P es) (filter P es) ≡ []
-    by true p k = absurd (h x (contains_here x es) p)
-    by false p k = k
 
 pub first_is : (P : Entry → Bool) (es : List Entry) → Rises es → (y : Entry) → Contains es y → P y ≡ true → ((x : Entry) → Contains es x → P x ≡ true → y.index ≤ x.index) → first_of (filter P es) ≡ Some (node_of y)
 first_is P [] r y c p l = absurd (omega (arith, c.1))

@@ -6,7 +6,7 @@ use Rattle.xml_model.specs.declared.Node.{Node}
 use Rattle.xml_model.specs.Items.{first_place}
 use Rattle.xml_model.specs.Nest.{Forest}
 use Rattle.xml_model.specs.Tree.{all, root_entry}
-use Rattle.xml_model.proofs.Each.{contains_here}
+use Rattle.xml_model.proofs.Each.{contains_here, each_left, each_right}
 use Rattle.vtd_words.specs.Lists.{Lists}
 use Rattle.vtd_words.specs.Table.{IsNodeOf}
 use Rattle.vtd_location.specs.Nav.{IsNav}
@@ -24,14 +24,6 @@ root_holds bytes lists n =
 -- beside any node of a document is its root
 pub root_beside : (bytes : List ℕ) (lists : Lists) (node : Node) → IsNodeOf bytes lists node → IsNodeOf bytes lists root_node
 root_beside bytes lists node n = record { nest = n.nest; shown = n.shown; entry = root_entry n.nest (first_place bytes); holds = (root_there n.nest (first_place bytes), refl, refl) }
-
-each_left : {X : Type 0} (P : X → Type 0) (xs ys : List X) → Each P (xs ++ ys) → Each P xs
-each_left P [] ys h = tt
-each_left P (x ∷ xs) ys h = (h.0, each_left P xs ys h.1)
-
-each_right : {X : Type 0} (P : X → Type 0) (xs ys : List X) → Each P (xs ++ ys) → Each P ys
-each_right P [] ys h = h
-each_right P (x ∷ xs) ys h = each_right P xs ys h.1
 
 -- what holds of saved nodes holds of the last and of those before it
 pub last_saved : {X Y : Type 0} (P : Y → Type 0) (f : X → Y) (old new : List X) (last : X) → old ≡ new ++ last ∷ [] → Each P (map f old) → P (f last) × Each P (map f new)

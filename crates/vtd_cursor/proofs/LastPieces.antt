@@ -10,23 +10,13 @@ use Rattle.xml_model.specs.Nest.{Forest, done, single, empty, element, is_conten
 use Rattle.xml_model.specs.Records.{Record, document, named, plain, declares, attributes_records, attributes_place, tag_records, leaf_records, forest_records, past_leaf, past_empty, past_start, past_forest, past_element}
 use Rattle.xml_model.specs.Tree.{one_if}
 use Rattle.xml_model.specs.Scan.{record_at}
+use Rattle.xml_model.proofs.Inside.{each_record, in_place}
 use Rattle.xml_model.proofs.Fits.{first_part, second_part}
 use Rattle.xml_chars.proofs.HoldLemmas.{size-append}
 use Rattle.xml_items.specs.Reading.{tag_item}
 use Rattle.vtd_cursor.specs.Endings.{record_end, ends_tag, EndTagAt, EndTags, IsNearestTag, IsLastPiece, in_leaf, in_tag, IsEnding}
 use Rattle.vtd_cursor.proofs.Placed.{Placed}
 use Rattle.vtd_cursor.proofs.Closing.{ElementCloses, by_itself, by_end_tag}
-
--- Records in their place.
-
-pub in_place : (whole prefix mine rest : List Record) (n : ℕ) → whole ≡ prefix ++ mine ++ rest → n < length mine → record_at (length prefix + n) whole ≡ record_at n mine
-in_place whole prefix mine rest n e h =
-    ap (λ xs. record_at (length prefix + n) xs) e ∙ get_or_append_left (prefix ++ mine) rest document (length prefix + n) (omega (arith, h, length-append prefix mine)) ∙ get_or-append-add prefix mine n document
-
-pub each_record : (P : Record → Type 0) (rs : List Record) (n : ℕ) → Each P rs → n < length rs → P (record_at n rs)
-each_record P [] n h k = absurd (omega arith)
-each_record P (r ∷ rs) zero h k = h.0
-each_record P (r ∷ rs) (suc n) h k = each_record P rs n h.1 (omega arith)
 
 -- The last record of a tag.
 

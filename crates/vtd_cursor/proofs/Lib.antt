@@ -9,6 +9,5 @@ pub mod TagLemmas
 pub mod SearchLemmas
 pub mod AxisEnds
 pub mod Families
-pub mod Kinship
 pub mod MoveLemmas
 pub mod CursorLemmas

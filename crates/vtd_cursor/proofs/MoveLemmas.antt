@@ -10,20 +10,21 @@ use Rattle.xml_model.specs.Items.{first_place}
 use Rattle.xml_model.specs.Nest.{Forest}
 use Rattle.xml_model.specs.Records.{Record, records}
 use Rattle.xml_model.specs.Tree.{Thing, Entry, Path, Identifies, before, steps, steps_under, step_eq, is_some_steps, kind_of, on_axis, axis_list}
-use Rattle.xml_model.specs.Scan.{level_of, record_at, holder_by_scan}
-use Rattle.xml_model.specs.Laws.{IndexesDecide, nodes_above, is_child_thing, is_attribute_thing, is_root_thing, is_under, is_one_under, same_parent, holder_index, by_indexes}
+use Rattle.xml_model.specs.Scan.{level_of, record_at, holder_by_scan, Passes, is_within, is_attribute_part}
+use Rattle.xml_model.specs.Laws.{IndexesDecide, nodes_above, is_child_thing, is_attribute_thing, is_root_thing, is_under, is_one_under, same_parent, holder_index, by_indexes, is_child_kind}
 use Rattle.xml_model.proofs.NodeLaws.{axis_of_two, places_of_two, siblings_of_child, parent_of_node}
 use Rattle.xml_model.proofs.Each.{each_at}
 use Rattle.xml_model.proofs.Axes.{formed, Formed}
 use Rattle.vtd_words.specs.Lists.{Lists}
 use Rattle.vtd_words.specs.Table.{IsNestOf, IsParent, node_of, nodes_of}
 use Rattle.vtd_cursor.specs.Moves.{first_of, last_of}
-use Rattle.vtd_cursor.specs.Searches.{IsWanted, Passes, FirstFrom, LastBefore, is_within, is_attribute_part, is_child_kind}
-use Rattle.vtd_cursor.proofs.AxisEnds.{none_of, first_is}
-use Rattle.vtd_cursor.proofs.Families.{Holds, Keeps, Meets, OneUnder, one_under_out, one_under_back, first_meets, last_meets, nested, child_no_root, attribute_no_root, above_held, above_root}
-use Rattle.vtd_cursor.proofs.Kinship.{root_first, root_kind, no_root_element, known, keeps, held_by, attributes_pass, element_holds, root_holds, holds_by_kind}
-use Rattle.vtd_cursor.proofs.SearchLemmas.{child_after, child_kind, one_kind, attribute_kind}
-use Rattle.vtd_cursor.proofs.TagLemmas.{attribute_of, attribute_held}
+use Rattle.vtd_cursor.specs.Searches.{IsWanted, FirstFrom, LastBefore}
+use Rattle.vtd_cursor.proofs.AxisEnds.{first_is}
+use Rattle.xml_model.proofs.Filters.{none_of}
+use Rattle.vtd_cursor.proofs.Families.{Meets, first_meets, last_meets}
+use Rattle.xml_model.proofs.Inside.{Holds, Keeps, OneUnder, one_under_out, one_under_back, nested, above_held, above_root, root_first, records_show, keeps, held_by, element_holds, root_holds, holds_by_kind, child_after, under_kind, later_after}
+use Rattle.xml_model.proofs.Things.{child_no_root, attribute_no_root, root_kind, no_root_element, child_kind, attribute_kind, kind_root}
+use Rattle.xml_model.proofs.AttributeRuns.{attributes_pass, attribute_held}
 
 within_low : (level : ℕ) (r : Record) → is_within level r ≡ true → level ≤ level_of r
 within_low level r h = leb-true level (level_of r) h
@@ -34,14 +35,6 @@ part_low level r h = omega (arith, eqb-true (level_of r) level (and_parts (r.tok
 -- records in a node pass
 inside_pass : (rs : List Record) (z : Entry) (level from to : ℕ) → Holds rs z level → z.index < from → to ≤ z.past → Passes (is_within level) rs from to
 inside_pass rs z level from to h a b = λ k low high. Rattle.std.proofs.lemmas.Bool.le-leb level (level_of (record_at k rs)) (h.inside k (omega (arith, a, low)) (omega (arith, b, high)))
-
-kind_root : (w : Thing) → kind_of w ≡ kinds.Root → is_root_thing w ≡ true
-kind_root (Thing.root first f) h = refl
-kind_root (Thing.element t inside) h = absurd cc
-kind_root (Thing.attribute a) h = absurd cc
-kind_root (Thing.text xs) h = absurd cc
-kind_root (Thing.comment cs) h = absurd cc
-kind_root (Thing.instruction i) h = absurd cc
 
 -- Tests.
 
@@ -62,30 +55,6 @@ under_meets P want es z level a r e = record {
 meets_suc : (P : Entry → Bool) (want : Thing → Bool) (es : List Entry) (z : Entry) (level from to n : ℕ) → from ≡ n → Meets P want es z level from to → Meets P want es z level n to
 meets_suc P want es z level from to n e m = subst (λ k. Meets P want es z level k to) e m
 
-some_under : (b : Bool) (o : Option Path) → is_some_steps (steps_under b o) ≡ true → is_some_steps o ≡ true
-some_under true o h = h
-some_under false o h = absurd (false≢true h)
-
--- a later child or attribute of the parent is after the end of its sibling
-later_after : (nest : Forest) (bytes : List ℕ) (lists : Lists) → IsNestOf bytes lists nest → (e y : Entry) → Contains (nodes_of bytes nest) e → Contains (nodes_of bytes nest) y → nodes_above e ≡ nodes_above y → e.index < y.index → e.past ≤ y.index
-later_after nest bytes lists s e y c d a l = elim (cases_lt y.index e.past) [
-  | inr after ↦ after
-  | inl inside ↦ absurd (
-      let first = first_place bytes in
-      let t : IndexesDecide e y = places_of_two nest first e y c d in
-      let under : is_under e y ≡ true = and_from _ _ (lt-ltb e.index y.index l) (lt-ltb y.index e.past inside) in
-      let f : Formed e = each_at Formed (nodes_of bytes nest) e (formed nest first) c in
-      let g : Formed y = each_at Formed (nodes_of bytes nest) y (formed nest first) d in
-      omega (arith, longer e.path y.path (t.under ∙ under), f.depth, g.depth, a)
-      )
-]
-  where
-    longer : (p q : Path) → is_some_steps (steps p q) ≡ true → length p < length q
-    longer [] [] h = absurd (false≢true h)
-    longer [] (t ∷ q) h = omega arith
-    longer (x ∷ p) [] h = absurd (false≢true h)
-    longer (x ∷ p) (t ∷ q) h = omega (arith, longer p q (some_under (step_eq x t) (steps p q) h))
-
 -- The children of a node.
 
 pub first_child_is : (bytes : List ℕ) (lists : Lists) (nest : Forest) → IsNestOf bytes lists nest → (z : Entry) → Contains (nodes_of bytes nest) z → (level from : ℕ) → Holds (records nest (first_place bytes)) z level → from ≡ suc z.index → (o : Option Node) →
@@ -98,7 +67,7 @@ first_child_is bytes lists nest s z c level from h e o f =
     let P : Entry → Bool = λ y. on_axis axes.Child z.path y.path in
     let m : Meets P is_child_thing es z level from z.past =
     meets_suc P is_child_thing es z level (suc z.index) z.past from (sym e) (under_meets P is_child_thing es z level h.above child_no_root (λ y d. axis_of_two nest first s.accepted.document.nests axes.Child z y c d)) in
-    first_meets P is_child_thing (is_within level) rs es z level from (known bytes lists nest s) h (omega (arith, e, h.some)) m (within_low level) (λ y d p. inside_pass rs z level from y.index h (omega (arith, e)) (omega (arith, (m.out y d p).2))) o f
+    first_meets P is_child_thing (is_within level) rs es z level from (records_show nest (first_place bytes) s.accepted.document.nests) h (omega (arith, e, h.some)) m (within_low level) (λ y d p. inside_pass rs z level from y.index h (omega (arith, e)) (omega (arith, (m.out y d p).2))) o f
 
 pub last_child_is : (bytes : List ℕ) (lists : Lists) (nest : Forest) → IsNestOf bytes lists nest → (z : Entry) → Contains (nodes_of bytes nest) z → (level end : ℕ) → Holds (records nest (first_place bytes)) z level → end ≡ z.past → (o : Option Node) →
     LastBefore (is_within level) is_child_thing level (records nest (first_place bytes)) (nodes_of bytes nest) end o → o ≡ last_of (axis_list axes.Child z.path (nodes_of bytes nest))
@@ -110,34 +79,16 @@ last_child_is bytes lists nest s z c level end h e o f =
     let P : Entry → Bool = λ y. on_axis axes.Child z.path y.path in
     let m : Meets P is_child_thing es z level (suc z.index) end =
     subst (λ n. Meets P is_child_thing es z level (suc z.index) n) (sym e) (under_meets P is_child_thing es z level h.above child_no_root (λ y d. axis_of_two nest first s.accepted.document.nests axes.Child z y c d)) in
-    last_meets P is_child_thing (is_within level) rs es z level end (known bytes lists nest s) h (omega (arith, e, h.some)) (omega (arith, e)) m (child_after bytes lists nest s) (within_low level)
+    last_meets P is_child_thing (is_within level) rs es z level end (records_show nest (first_place bytes) s.accepted.document.nests) h (omega (arith, e, h.some)) (omega (arith, e)) m (child_after nest (first_place bytes) s.accepted.document.nests) (within_low level)
     (λ y d p. inside_pass rs z level (suc y.index) end h (omega (arith, (m.out y d p).1)) (omega (arith, e))) o f
-
--- a node directly under another is so under one that holds it, which is of the same kind
-held_kind : (bytes : List ℕ) (lists : Lists) (nest : Forest) → IsNestOf bytes lists nest → (z y : Entry) → Contains (nodes_of bytes nest) z → Contains (nodes_of bytes nest) y → is_root_thing y.what ≡ false → is_one_under z y ≡ true →
-    (kind_of z.what ≡ kinds.Root) ⊎ (kind_of z.what ≡ kinds.Element)
-held_kind bytes lists nest s z y c d r h =
-    let first = first_place bytes in
-    let n = s.accepted.document.nests in
-    let x = held_by bytes lists nest s y d r in
-    let a = parent_of_node nest first n y z d c in
-    let b = parent_of_node nest first n y x.0 d x.1.there in
-    let p = and_parts (not (is_root_thing y.what)) (z.index == holder_by_scan y.index (records nest first)) (sym a ∙ axis_of_two nest first n axes.Parent y z d c ∙ h) in
-    let q = and_parts (not (is_root_thing y.what)) (x.0.index == holder_by_scan y.index (records nest first)) (sym b ∙ axis_of_two nest first n axes.Parent y x.0 d x.1.there ∙ x.1.above) in
-    let same : z.index ≡ x.0.index = eqb-true z.index _ p.1 ∙ sym (eqb-true x.0.index _ q.1) in
-    let kind : kind_of z.what ≡ kind_of x.0.what = one_kind bytes lists nest s z x.0 c x.1.there same in
-    elim x.1.kind [
-      | inl root ↦ inl (kind ∙ root_kind x.0.what root)
-      | inr tag ↦ inr (kind ∙ tag)
-    ]
 
 pub no_children : (bytes : List ℕ) (lists : Lists) (nest : Forest) → IsNestOf bytes lists nest → (z : Entry) → Contains (nodes_of bytes nest) z → (kind_of z.what ≡ kinds.Root → ⊥) → (kind_of z.what ≡ kinds.Element → ⊥) →
     axis_list axes.Child z.path (nodes_of bytes nest) ≡ []
 unfolding axis_list
 no_children bytes lists nest s z c k l = none_of (λ y. on_axis axes.Child z.path y.path) (nodes_of bytes nest) (λ y d p.
     let q = and_parts (is_one_under z y) (is_child_thing y.what) (sym (axis_of_two nest (first_place bytes) s.accepted.document.nests axes.Child z y c d) ∙ p) in
-    elim (held_kind bytes lists nest s z y c d (child_no_root y.what q.1) q.0) [
-      | inl root ↦ k root
+    elim (under_kind nest (first_place bytes) s.accepted.document.nests z y c d (and_parts (is_under z y) _ q.0).0) [
+      | inl root ↦ k (root_kind z.what root)
       | inr tag ↦ l tag
     ])
 
@@ -160,28 +111,28 @@ next_is bytes lists nest s e c w level from l b o f =
     let rs = records nest first in
     let es = nodes_of bytes nest in
     let r = child_no_root e.what w in
-    let x = held_by bytes lists nest s e c r in
+    let x = held_by nest (first_place bytes) s.accepted.document.nests e c r in
     let z = x.0 in
     let up : OneUnder z e (nodes_above z) = one_under_out z e (nodes_above z) refl r x.1.above in
     let same : nodes_above z ≡ level = omega (arith, up.held, l) in
     let h : Holds rs z level = subst (λ k. Holds rs z k) same x.1.holds in
     let child : on_axis axes.Child z.path e.path ≡ true = axis_of_two nest first n axes.Child z e x.1.there c ∙ and_from _ _ x.1.above w in
     let P : Entry → Bool = λ y. on_axis axes.FollowingSibling e.path y.path in
-    let keep : Keeps rs e = keeps bytes lists nest s e c r in
+    let keep : Keeps rs e = keeps nest (first_place bytes) s.accepted.document.nests e c r in
     let decide : (y : Entry) → Contains es y → P y ≡ (by_indexes axes.Child z y && nat_lt e.index y.index) = λ y d. (siblings_of_child nest first n z e y x.1.there c d child).following in
     let m : Meets P is_child_thing es z level from z.past = record {
       out = λ y d p.
           let q = and_parts (by_indexes axes.Child z y) (nat_lt e.index y.index) (sym (decide y d) ∙ p) in
           let t = and_parts (is_one_under z y) (is_child_thing y.what) q.0 in
           let u : OneUnder z y level = one_under_out z y level same (child_no_root y.what t.1) t.0 in
-          let after : e.past ≤ y.index = later_after nest bytes lists s e y c d (omega (arith, above_held e r, above_held y (child_no_root y.what t.1), l, u.held)) (ltb-true e.index y.index q.1) in
+          let after : e.past ≤ y.index = later_after nest first e y c d (omega (arith, above_held e r, above_held y (child_no_root y.what t.1), l, u.held)) (ltb-true e.index y.index q.1) in
           (record { held = u.held; wanted = t.1 }, omega (arith, b, after), u.before);
       back = λ y d k a t.
           decide y d ∙ and_from _ _ (and_from (is_one_under z y) (is_child_thing y.what) (one_under_back z y level same (child_no_root y.what k.wanted) (record { after = omega (arith, a, b, keep.some, up.after); before = t; held = k.held })) k.wanted)
           (lt-ltb e.index y.index (omega (arith, a, b, keep.some)));
     } in
     let ends : e.past ≤ z.past = nested rs z e level h keep (omega (arith, l)) up.before in
-    first_meets P is_child_thing (is_within level) rs es z level from (known bytes lists nest s) h (omega (arith, b, ends)) m (within_low level)
+    first_meets P is_child_thing (is_within level) rs es z level from (records_show nest (first_place bytes) s.accepted.document.nests) h (omega (arith, b, ends)) m (within_low level)
     (λ y d p. inside_pass rs z level from y.index h (omega (arith, b, keep.some, up.after)) (omega (arith, (m.out y d p).2))) o f
 
 pub previous_is : (bytes : List ℕ) (lists : Lists) (nest : Forest) → IsNestOf bytes lists nest → (e : Entry) → Contains (nodes_of bytes nest) e → is_child_thing e.what ≡ true → (level end : ℕ) → level ≡ length e.holders → end ≡ e.index → (o : Option Node) →
@@ -193,7 +144,7 @@ previous_is bytes lists nest s e c w level end l b o f =
     let rs = records nest first in
     let es = nodes_of bytes nest in
     let r = child_no_root e.what w in
-    let x = held_by bytes lists nest s e c r in
+    let x = held_by nest (first_place bytes) s.accepted.document.nests e c r in
     let z = x.0 in
     let up : OneUnder z e (nodes_above z) = one_under_out z e (nodes_above z) refl r x.1.above in
     let same : nodes_above z ≡ level = omega (arith, up.held, l) in
@@ -211,7 +162,7 @@ previous_is bytes lists nest s e c w level end l b o f =
           decide y d ∙ and_from _ _ (and_from (is_one_under z y) (is_child_thing y.what) (one_under_back z y level same (child_no_root y.what k.wanted) (record { after = a; before = omega (arith, t, b, up.before); held = k.held })) k.wanted)
           (lt-ltb y.index e.index (omega (arith, t, b)));
     } in
-    last_meets P is_child_thing (is_within level) rs es z level end (known bytes lists nest s) h (omega (arith, b, up.after)) (omega (arith, b, up.before)) m (child_after bytes lists nest s) (within_low level)
+    last_meets P is_child_thing (is_within level) rs es z level end (records_show nest (first_place bytes) s.accepted.document.nests) h (omega (arith, b, up.after)) (omega (arith, b, up.before)) m (child_after nest (first_place bytes) s.accepted.document.nests) (within_low level)
     (λ y d p. inside_pass rs z level (suc y.index) end h (omega (arith, (m.out y d p).1)) (omega (arith, b, up.before))) o f
 
 -- the root and attributes have no siblings
@@ -239,17 +190,17 @@ first_attribute_is bytes lists nest s z c k level from l e o f =
     let first = first_place bytes in
     let rs = records nest first in
     let es = nodes_of bytes nest in
-    let h : Holds rs z level = subst (λ n. Holds rs z n) (sym l) (element_holds bytes lists nest s z c k) in
+    let h : Holds rs z level = subst (λ n. Holds rs z n) (sym l) (element_holds nest (first_place bytes) s.accepted.document.nests z c k) in
     let P : Entry → Bool = λ y. on_axis axes.Attribute z.path y.path in
     let under : Meets P is_attribute_thing es z level (suc z.index) z.past = under_meets P is_attribute_thing es z level h.above attribute_no_root (λ y d. axis_of_two nest first s.accepted.document.nests axes.Attribute z y c d) in
     let m : Meets P is_attribute_thing es z level from z.past = meets_suc P is_attribute_thing es z level (suc z.index) z.past from (omega (arith, e)) under in
-    first_meets P is_attribute_thing (is_attribute_part level) rs es z level from (known bytes lists nest s) h (omega (arith, e, h.some)) m (part_low level)
+    first_meets P is_attribute_thing (is_attribute_part level) rs es z level from (records_show nest (first_place bytes) s.accepted.document.nests) h (omega (arith, e, h.some)) m (part_low level)
     (λ y d p. let q = under.out y d p in attribute_run bytes lists nest s z c k y d level from l e q.0 q.1 q.2) o f
   where
     attribute_run : (bytes : List ℕ) (lists : Lists) (nest : Forest) → IsNestOf bytes lists nest → (z : Entry) → Contains (nodes_of bytes nest) z → kind_of z.what ≡ kinds.Element → (y : Entry) → Contains (nodes_of bytes nest) y → (level from : ℕ) → level ≡ suc (length z.holders) → from ≡ z.index + 1 →
         IsWanted is_attribute_thing level y → suc z.index ≤ y.index → y.index < z.past → Passes (is_attribute_part level) (records nest (first_place bytes)) from y.index
     attribute_run bytes lists nest s z c k y d level from l e w a b = λ i low high.
-        let all : Passes (is_attribute_part (suc (length z.holders))) (records nest (first_place bytes)) (z.index + 1) y.index = attributes_pass bytes lists nest s z c k y d (record { held = w.held ∙ l; wanted = w.wanted }) (omega (arith, a)) b in
+        let all : Passes (is_attribute_part (suc (length z.holders))) (records nest (first_place bytes)) (z.index + 1) y.index = attributes_pass nest (first_place bytes) s.accepted.document.nests z c k y d (w.wanted) (w.held ∙ l) (omega (arith, a)) b in
         ap (λ n. is_attribute_part n (record_at i (records nest (first_place bytes)))) l ∙ all i (omega (arith, low, e)) high
 
 pub no_attributes : (bytes : List ℕ) (lists : Lists) (nest : Forest) → IsNestOf bytes lists nest → (z : Entry) → Contains (nodes_of bytes nest) z → (kind_of z.what ≡ kinds.Element → ⊥) → None ≡ first_of (axis_list axes.Attribute z.path (nodes_of bytes nest))
@@ -257,12 +208,11 @@ unfolding axis_list
 no_attributes bytes lists nest s z c k = sym (ap first_of (none_of (λ y. on_axis axes.Attribute z.path y.path) (nodes_of bytes nest) (λ y d p.
     let q = and_parts (is_one_under z y) (is_attribute_thing y.what) (sym (axis_of_two nest (first_place bytes) s.accepted.document.nests axes.Attribute z y c d) ∙ p) in
     let r = attribute_no_root y.what q.1 in
-    elim (held_kind bytes lists nest s z y c d r q.0) [
+    elim (under_kind nest (first_place bytes) s.accepted.document.nests z y c d (and_parts (is_under z y) _ q.0).0) [
       | inr tag ↦ k tag
       | inl root ↦
-          let x = attribute_of y.what (attribute_kind y.what q.1) in
-          let some : 0 < length y.holders = attribute_held bytes lists nest s y d x.0 x.1 in
-          let none : nodes_above z ≡ 0 = above_root z (kind_root z.what root) in
+          let some : 0 < length y.holders = attribute_held nest (first_place bytes) s.accepted.document.nests y d q.1 in
+          let none : nodes_above z ≡ 0 = above_root z root in
           let u : OneUnder z y 0 = one_under_out z y 0 none r q.0 in
           omega (arith, some, u.held)
     ])))
@@ -287,17 +237,16 @@ next_attribute_is bytes lists nest s e z c d k g level from l b o f =
     let r = attribute_no_root e.what p.1 in
     let up : OneUnder z e (nodes_above z) = one_under_out z e (nodes_above z) refl r p.0 in
     let same : nodes_above z ≡ level = omega (arith, up.held, l) in
-    let tag : kind_of z.what ≡ kinds.Element = elim (held_kind bytes lists nest s z e d c r p.0) [
+    let tag : kind_of z.what ≡ kinds.Element = elim (under_kind nest first n z e d c (and_parts (is_under z e) _ p.0).0) [
       | inr tag ↦ tag
       | inl root ↦
-          let x = attribute_of e.what k in
-          let some : 0 < length e.holders = attribute_held bytes lists nest s e c x.0 x.1 in
-          let none : nodes_above z ≡ 0 = above_root z (kind_root z.what root) in
+          let some : 0 < length e.holders = attribute_held nest first n e c p.1 in
+          let none : nodes_above z ≡ 0 = above_root z root in
           absurd (omega (arith, some, none, up.held))
     ] in
-    let h : Holds rs z level = subst (λ m. Holds rs z m) same (holds_by_kind bytes lists nest s z d (inr tag)) in
+    let h : Holds rs z level = subst (λ m. Holds rs z m) same (holds_by_kind nest (first_place bytes) s.accepted.document.nests z d (inr tag)) in
     let mine : level ≡ suc (length z.holders) = omega (arith, same, above_held z (no_root_element z.what tag)) in
-    let keep : Keeps rs e = keeps bytes lists nest s e c r in
+    let keep : Keeps rs e = keeps nest (first_place bytes) s.accepted.document.nests e c r in
     let P : Entry → Bool = λ y. on_axis axes.Attribute z.path y.path && before e.path y.path in
     let decide : (y : Entry) → Contains es y → P y ≡ ((is_one_under z y && is_attribute_thing y.what) && nat_lt e.index y.index) = λ y q.
     let t : IndexesDecide e y = places_of_two nest first e y c q in ap₂ (λ u v. u && v) (axis_of_two nest first n axes.Attribute z y d q) t.order in
@@ -306,7 +255,7 @@ next_attribute_is bytes lists nest s e z c d k g level from l b o f =
           let a = and_parts (is_one_under z y && is_attribute_thing y.what) (nat_lt e.index y.index) (sym (decide y q) ∙ i) in
           let t = and_parts (is_one_under z y) (is_attribute_thing y.what) a.0 in
           let u : OneUnder z y level = one_under_out z y level same (attribute_no_root y.what t.1) t.0 in
-          let after : e.past ≤ y.index = later_after nest bytes lists s e y c q (omega (arith, above_held e r, above_held y (attribute_no_root y.what t.1), l, u.held)) (ltb-true e.index y.index a.1) in
+          let after : e.past ≤ y.index = later_after nest first e y c q (omega (arith, above_held e r, above_held y (attribute_no_root y.what t.1), l, u.held)) (ltb-true e.index y.index a.1) in
           (record { held = u.held; wanted = t.1 }, omega (arith, b, after), u.before);
       back = λ y q w i t.
           decide y q ∙ and_from _ _ (and_from (is_one_under z y) (is_attribute_thing y.what) (one_under_back z y level same (attribute_no_root y.what w.wanted) (record { after = omega (arith, i, b, keep.some, up.after); before = t; held = w.held })) w.wanted)
@@ -315,9 +264,9 @@ next_attribute_is bytes lists nest s e z c d k g level from l b o f =
     let ends : e.past ≤ z.past = nested rs z e level h keep (omega (arith, l)) up.before in
     let passes : (y : Entry) → Contains es y → P y ≡ true → Passes (is_attribute_part level) rs from y.index = λ y q i j low high.
     let w = m.out y q i in
-    let all : Passes (is_attribute_part (suc (length z.holders))) rs (z.index + 1) y.index = attributes_pass bytes lists nest s z d tag y q (record { held = w.0.held ∙ mine; wanted = w.0.wanted }) (omega (arith, w.1, b, keep.some, up.after)) w.2 in
+    let all : Passes (is_attribute_part (suc (length z.holders))) rs (z.index + 1) y.index = attributes_pass nest (first_place bytes) s.accepted.document.nests z d tag y q (w.0.wanted) (w.0.held ∙ mine) (omega (arith, w.1, b, keep.some, up.after)) w.2 in
     ap (λ v. is_attribute_part v (record_at j rs)) mine ∙ all j (omega (arith, low, b, keep.some, up.after)) high in
-    first_meets P is_attribute_thing (is_attribute_part level) rs es z level from (known bytes lists nest s) h (omega (arith, b, ends)) m (part_low level) passes o f
+    first_meets P is_attribute_thing (is_attribute_part level) rs es z level from (records_show nest (first_place bytes) s.accepted.document.nests) h (omega (arith, b, ends)) m (part_low level) passes o f
     ∙ ap first_of (sym (filter_both (λ y. on_axis axes.Attribute z.path y.path) (λ y. before e.path y.path) es))
 
 -- The parent of a node.
@@ -341,7 +290,7 @@ parent_is bytes lists nest s e c owner p =
     let P : Entry → Bool = λ y. on_axis axes.Parent e.path y.path in
     let place : (x : Entry) → Contains es x → P x ≡ true → x.index ≡ holder_by_scan e.index rs = λ x d q.
     eqb-true x.index _ (and_parts (not (is_root_thing e.what)) (x.index == holder_by_scan e.index rs) (sym (parent_of_node nest first n e x c d) ∙ q)).1 in
-    let k = known bytes lists nest s in
+    let k = records_show nest (first_place bytes) s.accepted.document.nests in
     let same : owner ≡ node_of p.entry = owner_same owner p.entry p.holds.1 p.holds.2 in
     ap (λ v. Some v) same ∙ sym (first_is P es k.rises p.entry p.holds.0 p.above (λ x d q. omega (arith, place x d q, place p.entry p.holds.0 p.above)))
   where
@@ -359,29 +308,23 @@ pub root_first_child : (bytes : List ℕ) (lists : Lists) (nest : Forest) → Is
     FirstFrom (is_within 0) is_child_thing 0 (records nest (first_place bytes)) (nodes_of bytes nest) 1 o → o ≡ first_of (axis_list axes.Child e.path (nodes_of bytes nest))
 root_first_child bytes lists nest s kind at e w k o f =
     let r = kind_root e.what (w.1 ∙ k) in
-    first_child_is bytes lists nest s e w.0 0 1 (root_holds bytes lists nest s e w.0 r) (omega (arith, root_first bytes lists nest s e w.0 r)) o f
+    first_child_is bytes lists nest s e w.0 0 1 (root_holds nest (first_place bytes) s.accepted.document.nests e w.0 r) (omega (arith, root_first nest (first_place bytes) s.accepted.document.nests e w.0 r)) o f
 
 pub element_first_child : (bytes : List ℕ) (lists : Lists) (nest : Forest) → IsNestOf bytes lists nest → (kind : Kind) (at : ℕ) (e : Entry) → Identifies kind at e (nodes_of bytes nest) → kind ≡ kinds.Element → (level from : ℕ) → level ≡ length e.holders → from ≡ at + 1 → (o : Option Node) →
     FirstFrom (is_within (level + 1)) is_child_thing (level + 1) (records nest (first_place bytes)) (nodes_of bytes nest) from o → o ≡ first_of (axis_list axes.Child e.path (nodes_of bytes nest))
 element_first_child bytes lists nest s kind at e w k level from l b o f =
     let same : suc (length e.holders) ≡ level + 1 = omega (arith, l) in
-    first_child_is bytes lists nest s e w.0 (level + 1) from (subst (λ n. Holds (records nest (first_place bytes)) e n) same (element_holds bytes lists nest s e w.0 (w.1 ∙ k))) (omega (arith, b, w.2)) o f
+    first_child_is bytes lists nest s e w.0 (level + 1) from (subst (λ n. Holds (records nest (first_place bytes)) e n) same (element_holds nest (first_place bytes) s.accepted.document.nests e w.0 (w.1 ∙ k))) (omega (arith, b, w.2)) o f
 
 pub root_last_child : (bytes : List ℕ) (lists : Lists) (nest : Forest) → IsNestOf bytes lists nest → (kind : Kind) (at : ℕ) (e : Entry) → Identifies kind at e (nodes_of bytes nest) → kind ≡ kinds.Root → (end : ℕ) → end ≡ e.past → (o : Option Node) →
     LastBefore (is_within 0) is_child_thing 0 (records nest (first_place bytes)) (nodes_of bytes nest) end o → o ≡ last_of (axis_list axes.Child e.path (nodes_of bytes nest))
-root_last_child bytes lists nest s kind at e w k end b o f = last_child_is bytes lists nest s e w.0 0 end (root_holds bytes lists nest s e w.0 (kind_root e.what (w.1 ∙ k))) b o f
+root_last_child bytes lists nest s kind at e w k end b o f = last_child_is bytes lists nest s e w.0 0 end (root_holds nest (first_place bytes) s.accepted.document.nests e w.0 (kind_root e.what (w.1 ∙ k))) b o f
 
 pub element_last_child : (bytes : List ℕ) (lists : Lists) (nest : Forest) → IsNestOf bytes lists nest → (kind : Kind) (at : ℕ) (e : Entry) → Identifies kind at e (nodes_of bytes nest) → kind ≡ kinds.Element → (level end : ℕ) → level ≡ length e.holders → end ≡ e.past → (o : Option Node) →
     LastBefore (is_within (level + 1)) is_child_thing (level + 1) (records nest (first_place bytes)) (nodes_of bytes nest) end o → o ≡ last_of (axis_list axes.Child e.path (nodes_of bytes nest))
 element_last_child bytes lists nest s kind at e w k level end l b o f =
     let same : suc (length e.holders) ≡ level + 1 = omega (arith, l) in
-    last_child_is bytes lists nest s e w.0 (level + 1) end (subst (λ n. Holds (records nest (first_place bytes)) e n) same (element_holds bytes lists nest s e w.0 (w.1 ∙ k))) b o f
-
-pub thing_child : (kind : Kind) (b : Bool) (what : Thing) → kind_of what ≡ kind → is_child_kind kind ≡ b → is_child_thing what ≡ b
-thing_child kind b what k h = child_kind what ∙ ap is_child_kind k ∙ h
-
-pub thing_kind : (kind other : Kind) (what : Thing) → kind_of what ≡ kind → (kind ≡ other → ⊥) → kind_of what ≡ other → ⊥
-thing_kind kind other what k h e = h (sym k ∙ e)
+    last_child_is bytes lists nest s e w.0 (level + 1) end (subst (λ n. Holds (records nest (first_place bytes)) e n) same (element_holds nest (first_place bytes) s.accepted.document.nests e w.0 (w.1 ∙ k))) b o f
 
 pub attribute_alone : (bytes : List ℕ) (lists : Lists) (nest : Forest) → IsNestOf bytes lists nest → (e z : Entry) → Contains (nodes_of bytes nest) e → Contains (nodes_of bytes nest) z → on_axis axes.Attribute z.path e.path ≡ true → kind_of e.what ≡ kinds.Attribute
 attribute_alone bytes lists nest s e z c d p =

@@ -17,7 +17,8 @@ use Rattle.vtd_words.specs.Lists.{Lists}
 use Rattle.vtd_words.specs.Table.{IsNestOf, nodes_of}
 use Rattle.vtd_cursor.specs.Endings.{opening, record_end, IsEnding}
 use Rattle.vtd_cursor.proofs.Closing.{Closes, ClosesIn, TextCloses, all_close}
-use Rattle.vtd_cursor.proofs.LastPieces.{in_place, element_ending, cdata_size, comment_size, instruction_size}
+use Rattle.vtd_cursor.proofs.LastPieces.{element_ending, cdata_size, comment_size, instruction_size}
+use Rattle.xml_model.proofs.Inside.{in_place}
 
 abbrev pub Begins : List Record → ℕ → ℕ → Type 0
 Begins rs start index = (record_at index rs).offset ≡ start + opening (record_at index rs).token

@@ -10,56 +10,28 @@ use Rattle.xml_model.specs.Items.{first_place}
 use Rattle.xml_model.specs.Nest.{Forest}
 use Rattle.xml_model.specs.Records.{Record, records}
 use Rattle.xml_model.specs.Tree.{Thing, Entry, at_index, kind_of}
-use Rattle.xml_model.specs.Scan.{level_of, record_at, kind_of_token, is_text_token}
-use Rattle.xml_model.specs.Laws.{FirstRecordShows, is_attribute_thing, is_child_thing}
+use Rattle.xml_model.specs.Scan.{level_of, record_at, kind_of_token, is_text_token, is_within, is_attribute_part, Passes}
+use Rattle.xml_model.specs.Laws.{FirstRecordShows, is_attribute_thing, is_child_thing, is_child_kind}
 use Rattle.xml_model.proofs.NodeLaws.{first_record_of_node}
 use Rattle.vtd_words.specs.declared.packing.Parts.{Parts}
 use Rattle.vtd_words.specs.Lists.{Lists}
 use Rattle.vtd_words.specs.Packed.{record_of}
-use Rattle.vtd_cursor.proofs.SpanLemmas.{PartsAt}
-use Rattle.vtd_words.specs.Table.{IsNestOf, node_of, nodes_of}
+use Rattle.vtd_words.specs.Table.{ArePartsAt, IsNestOf, node_of, nodes_of}
 use Rattle.vtd_words.proofs.Fitting.{nest_shown}
 use Rattle.vtd_words.proofs.Shown.{shown_length}
-use Rattle.vtd_cursor.specs.Searches.{is_child_kind, is_within, is_attribute_part, IsWanted, Passes, NodeAt, NodeOfLevel, FirstFrom, LastBefore}
+use Rattle.xml_model.proofs.Indexes.{index_found, is_there, one_kind}
+use Rattle.xml_model.proofs.Things.{attribute_kind, attribute_thing, attribute_token, child_kind}
+use Rattle.xml_model.proofs.Inside.{levels_shown, child_after}
+use Rattle.vtd_cursor.specs.Searches.{IsWanted, NodeAt, NodeOfLevel, FirstFrom, LastBefore}
 
 -- Nodes by the index of their first record.
-
-has_place : (n : ℕ) (es : List Entry) (e : Entry) → Contains es e → e.index ≡ n → is_some (find (λ x. x.index == n) es) ≡ true
-has_place n [] e c h = absurd (omega (arith, c.1))
-has_place n (x ∷ es) e (zero, l, s) h = ap (λ b. is_some (cond b (Some x) (find (λ x. x.index == n) es))) (eq-eqb x.index n (ap (λ y. y.index) s ∙ h))
-has_place n (x ∷ es) e (suc k, l, s) h = either (x.index == n) (has_place n es e (k, omega (arith, l), s) h)
-  where
-    either : (b : Bool) → is_some (find (λ x. x.index == n) es) ≡ true → is_some (cond b (Some x) (find (λ x. x.index == n) es)) ≡ true
-    either true r = refl
-    either false r = r
-
-there : (n : ℕ) (es : List Entry) (e : Entry) → Contains es e → e.index ≡ n → is_some (at_index n es) ≡ true
-unfolding at_index
-there n es e c h = has_place n es e c h
-
-find_contains : (n : ℕ) (es : List Entry) (e : Entry) → find (λ x. x.index == n) es ≡ Some e → Contains es e × (e.index ≡ n)
-find_contains n [] e k = absurd (none-some _ k)
-find_contains n (x ∷ es) e k = by (x.index == n) refl k (λ g. find_contains n es e g)
-  where
-    by : (b : Bool) → (x.index == n) ≡ b → cond b (Some x) (find (λ x. x.index == n) es) ≡ Some e → (find (λ x. x.index == n) es ≡ Some e → Contains es e × (e.index ≡ n)) → Contains (x ∷ es) e × (e.index ≡ n)
-    by true t k rec =
-        let same : x ≡ e = cc in
-        let place : e.index ≡ n = ap (λ y. y.index) (sym same) ∙ eqb-true x.index n t in
-        ((0, (omega arith), same), place)
-    by false t k rec =
-        let r = rec k in
-        ((suc r.0.0, omega (arith, r.0.1), r.0.2), r.1)
-
-place_found : (n : ℕ) (es : List Entry) (e : Entry) → at_index n es ≡ Some e → Contains es e × (e.index ≡ n)
-unfolding at_index
-place_found n es e h = find_contains n es e h
 
 none_there : (o : Option Entry) → None ≡ option_map node_of o → is_some o ≡ true → ⊥
 none_there None h k = false≢true k
 none_there (Some e) h k = none-some _ h
 
 pub none_at : (want : Thing → Bool) (es : List Entry) (at : ℕ) → None ≡ option_map node_of (at_index at es) → NodeAt want es at None
-none_at want es at h = λ x c w p. none_there (at_index at es) h (there at es x c p)
+none_at want es at h = λ x c w p. none_there (at_index at es) h (is_there at es x c p)
 
 record NodeThere (es : List Entry) (at : ℕ) (node : Node) : Type 0 where
   entry : Entry
@@ -69,44 +41,7 @@ record NodeThere (es : List Entry) (at : ℕ) (node : Node) : Type 0 where
 
 some_there : (es : List Entry) (at : ℕ) (node : Node) (o : Option Entry) → at_index at es ≡ o → Some node ≡ option_map node_of o → NodeThere es at node
 some_there es at node None e h = absurd (none-some _ (sym h))
-some_there es at node (Some x) e h = let f = place_found at es x e in record { entry = x; contains = f.0; shown = cc; index = f.1 }
-
-kinds_same : (j k : Kind) → Some j ≡ Some k → j ≡ k
-kinds_same j k h = cc
-
--- two nodes at one place are of one kind
-pub one_kind : (bytes : List ℕ) (lists : Lists) (nest : Forest) → IsNestOf bytes lists nest → (x y : Entry) → Contains (nodes_of bytes nest) x → Contains (nodes_of bytes nest) y → x.index ≡ y.index → kind_of x.what ≡ kind_of y.what
-one_kind bytes lists nest s x y c d p =
-    let first = first_place bytes in
-    let rs = records nest first in
-    let n = s.accepted.document.nests in
-    let f : FirstRecordShows rs x = first_record_of_node nest first n x c in
-    let g : FirstRecordShows rs y = first_record_of_node nest first n y d in
-    kinds_same _ _ (sym f.kind ∙ ap (λ k. kind_of_token (record_at k rs).token) p ∙ g.kind)
-
-pub child_kind : (what : Thing) → is_child_thing what ≡ is_child_kind (kind_of what)
-child_kind (Thing.root first f) = refl
-child_kind (Thing.element t inside) = refl
-child_kind (Thing.attribute a) = refl
-child_kind (Thing.text xs) = refl
-child_kind (Thing.comment cs) = refl
-child_kind (Thing.instruction i) = refl
-
-attribute_yes : (what : Thing) → kind_of what ≡ kinds.Attribute → is_attribute_thing what ≡ true
-attribute_yes (Thing.root first f) h = absurd cc
-attribute_yes (Thing.element t inside) h = absurd cc
-attribute_yes (Thing.attribute a) h = refl
-attribute_yes (Thing.text xs) h = absurd cc
-attribute_yes (Thing.comment cs) h = absurd cc
-attribute_yes (Thing.instruction i) h = absurd cc
-
-pub attribute_kind : (what : Thing) → is_attribute_thing what ≡ true → kind_of what ≡ kinds.Attribute
-attribute_kind (Thing.root first f) h = absurd (false≢true h)
-attribute_kind (Thing.element t inside) h = absurd (false≢true h)
-attribute_kind (Thing.attribute a) h = refl
-attribute_kind (Thing.text xs) h = absurd (false≢true h)
-attribute_kind (Thing.comment cs) h = absurd (false≢true h)
-attribute_kind (Thing.instruction i) h = absurd (false≢true h)
+some_there es at node (Some x) e h = let f = index_found at es x e in record { entry = x; contains = f.0; shown = cc; index = f.1 }
 
 -- a node that was found is wanted, or it is not
 pub wanted_at : (want : Thing → Bool) (es : List Entry) (at : ℕ) (node : Node) → Some node ≡ option_map node_of (at_index at es) → ((what : Thing) → kind_of what ≡ node.kind → want what ≡ true) → NodeAt want es at (Some node)
@@ -119,7 +54,7 @@ pub unwanted_at : (bytes : List ℕ) (lists : Lists) (nest : Forest) → IsNestO
 unwanted_at bytes lists nest s want at node h w = λ x c t p.
     let es = nodes_of bytes nest in
     let n = some_there es at node (at_index at es) refl h in
-    w x.what (one_kind bytes lists nest s x n.entry c n.contains (p ∙ sym n.index) ∙ sym (ap (λ k. k.kind) n.shown)) t
+    w x.what (one_kind nest (first_place bytes) x n.entry c n.contains (p ∙ sym n.index) ∙ sym (ap (λ k. k.kind) n.shown)) t
 
 pub child_wanted : (kind : Kind) → is_child_kind kind ≡ true → (what : Thing) → kind_of what ≡ kind → is_child_thing what ≡ true
 child_wanted kind h what e = child_kind what ∙ ap is_child_kind e ∙ h
@@ -128,7 +63,7 @@ pub child_unwanted : (kind : Kind) → is_child_kind kind ≡ false → (what : 
 child_unwanted kind h what e t = false≢true (sym h ∙ ap is_child_kind (sym e) ∙ sym (child_kind what) ∙ t)
 
 pub attribute_wanted : (kind : Kind) → kind ≡ kinds.Attribute → (what : Thing) → kind_of what ≡ kind → is_attribute_thing what ≡ true
-attribute_wanted kind h what e = attribute_yes what (e ∙ h)
+attribute_wanted kind h what e = attribute_thing what (e ∙ h)
 
 pub attribute_unwanted : (kind : Kind) → (kind ≡ kinds.Attribute → ⊥) → (what : Thing) → kind_of what ≡ kind → is_attribute_thing what ≡ true → ⊥
 attribute_unwanted kind h what e t = h (sym e ∙ attribute_kind what t)
@@ -241,15 +176,6 @@ found_before pass want level rs es end at node f p s l n = record {
 
 -- The walks over a table.
 
-pub levels_shown : (bytes : List ℕ) (lists : Lists) (nest : Forest) → IsNestOf bytes lists nest → (x : Entry) → Contains (nodes_of bytes nest) x → level_of (record_at x.index (records nest (first_place bytes))) ≡ length x.holders
-levels_shown bytes lists nest s x c = let f : FirstRecordShows (records nest (first_place bytes)) x = first_record_of_node nest (first_place bytes) s.accepted.document.nests x c in f.level
-
-pub places_within : (bytes : List ℕ) (lists : Lists) → length bytes < 2 ^ 30 → (nest : Forest) → IsNestOf bytes lists nest → (at : ℕ) → length lists.records ≤ at → (x : Entry) → Contains (nodes_of bytes nest) x → x.index < at
-places_within bytes lists few nest s at h x c =
-    let rs = records nest (first_place bytes) in
-    let f : FirstRecordShows rs x = first_record_of_node nest (first_place bytes) s.accepted.document.nests x c in
-    omega (arith, f.within, shown_length lists.records rs (nest_shown bytes lists nest few s), h)
-
 pub lower_stops : (bytes : List ℕ) (nest : Forest) (level found at : ℕ) → found ≡ level_of (record_at at (records nest (first_place bytes))) → found < level → is_within level (record_at at (records nest (first_place bytes))) ≡ false
 lower_stops bytes nest level found at e h = lt-leb level (level_of (record_at at (records nest (first_place bytes)))) (omega (arith, e, h))
 
@@ -258,22 +184,7 @@ higher_passes bytes nest level found at e h = le-leb level (level_of (record_at 
 
 pub child_pass : (bytes : List ℕ) (lists : Lists) (nest : Forest) → IsNestOf bytes lists nest → (level : ℕ) → WantedPass (is_within level) is_child_thing level (records nest (first_place bytes)) (nodes_of bytes nest)
 child_pass bytes lists nest s level x c w =
-    higher_passes bytes nest level (length x.holders) x.index (sym (levels_shown bytes lists nest s x c)) (omega (arith, w.held))
-
-pub attribute_token : (n : ℕ) → kind_of_token n ≡ Some kinds.Attribute → n ≡ 2
-attribute_token n h = by (n == 13) (n == 0) (n == 2) refl h
-  where
-    last : (t u v : Bool) → ◌≡◌ {A = Option Kind} (cond t (Some kinds.Text) (cond u (Some kinds.Comment) (cond v (Some kinds.Instruction) None))) (Some kinds.Attribute) → ⊥
-    last true u v k = cc
-    last false true v k = cc
-    last false false true k = cc
-    last false false false k = cc
-
-    by : (a b c : Bool) → (n == 2) ≡ c → cond a (Some kinds.Root) (cond b (Some kinds.Element) (cond c (Some kinds.Attribute) (cond (is_text_token n) (Some kinds.Text) (cond (n == 6) (Some kinds.Comment) (cond (n == 7) (Some kinds.Instruction) None))))) ≡ Some kinds.Attribute → n ≡ 2
-    by true b c e k = absurd cc
-    by false true c e k = absurd cc
-    by false false true e k = eqb-true n 2 e
-    by false false false e k = absurd (last (is_text_token n) (n == 6) (n == 7) k)
+    higher_passes bytes nest level (length x.holders) x.index (sym (levels_shown nest (first_place bytes) s.accepted.document.nests x c)) (omega (arith, w.held))
 
 pub attribute_pass : (bytes : List ℕ) (lists : Lists) (nest : Forest) → IsNestOf bytes lists nest → (level : ℕ) → WantedPass (is_attribute_part level) is_attribute_thing level (records nest (first_place bytes)) (nodes_of bytes nest)
 attribute_pass bytes lists nest s level x c w =
@@ -285,14 +196,7 @@ attribute_pass bytes lists nest s level x c w =
 pub other_level : (bytes : List ℕ) (lists : Lists) (nest : Forest) → IsNestOf bytes lists nest → (want : Thing → Bool) (level found at : ℕ) → found ≡ level_of (record_at at (records nest (first_place bytes))) → (found ≡ level → ⊥) →
     NodeOfLevel want level found (nodes_of bytes nest) at None
 other_level bytes lists nest s want level found at f n = λ x c w p.
-    n (f ∙ ap (λ k. level_of (record_at k (records nest (first_place bytes)))) (sym p) ∙ levels_shown bytes lists nest s x c ∙ w.held)
-
-pub record_shown : (bytes : List ℕ) (lists : Lists) → length bytes < 2 ^ 30 → (at : ℕ) (parts : Parts) → PartsAt lists at parts → (nest : Forest) → IsNestOf bytes lists nest → record_of parts ≡ record_at at (records nest (first_place bytes))
-record_shown bytes lists few at parts p nest s = p (records nest (first_place bytes)) (nest_shown bytes lists nest few s)
-
-pub level_shown : (bytes : List ℕ) (lists : Lists) → length bytes < 2 ^ 30 → (at found : ℕ) (parts : Parts) → PartsAt lists at parts → found ≡ level_of (record_of parts) → (nest : Forest) → IsNestOf bytes lists nest →
-    found ≡ level_of (record_at at (records nest (first_place bytes)))
-level_shown bytes lists few at found parts p e nest s = e ∙ ap level_of (record_shown bytes lists few at parts p nest s)
+    n (f ∙ ap (λ k. level_of (record_at k (records nest (first_place bytes)))) (sym p) ∙ levels_shown nest (first_place bytes) s.accepted.document.nests x c ∙ w.held)
 
 pub this_level : (want : Thing → Bool) (level found : ℕ) (es : List Entry) (at : ℕ) (o : Option Node) → found ≡ level → NodeAt want es at o → NodeOfLevel want level found es at o
 this_level want level found es at None e n = λ x c w p. n x c w.wanted p
@@ -308,30 +212,11 @@ pub attribute_found : (bytes : List ℕ) (lists : Lists) (nest : Forest) → IsN
     PassedFrom (is_attribute_part level) is_attribute_thing level (records nest (first_place bytes)) (nodes_of bytes nest) from at → is_attribute_part level (record_at at (records nest (first_place bytes))) ≡ true →
     NodeAt is_attribute_thing (nodes_of bytes nest) at (Some node) → FirstFrom (is_attribute_part level) is_attribute_thing level (records nest (first_place bytes)) (nodes_of bytes nest) from (Some node)
 attribute_found bytes lists nest s level from at node f p h n =
-    found_from (is_attribute_part level) is_attribute_thing level (records nest (first_place bytes)) (nodes_of bytes nest) from at node f p (levels_shown bytes lists nest s) (attribute_level level (record_at at (records nest (first_place bytes))) h) n
-
-pub kind_of_first : (nest : Forest) (first : ℕ) → kind_of_token (record_at 0 (records nest first)).token ≡ Some kinds.Root
-unfolding records
-kind_of_first nest first = refl
-
-root_no_child : (what : Thing) → Some kinds.Root ≡ Some (kind_of what) → is_child_thing what ≡ true → ⊥
-root_no_child what e t = false≢true (ap is_child_kind (kinds_same kinds.Root (kind_of what) e) ∙ sym (child_kind what) ∙ t)
-
--- the node at the first record is the root, which is no child
-pub child_after : (bytes : List ℕ) (lists : Lists) (nest : Forest) → IsNestOf bytes lists nest → (x : Entry) → Contains (nodes_of bytes nest) x → is_child_thing x.what ≡ true → 0 < x.index
-child_after bytes lists nest s x c w = elim (cases_lt 0 x.index) [
-  | inl later ↦ later
-  | inr here ↦
-      let first = first_place bytes in
-      let rs = records nest first in
-      let f : FirstRecordShows rs x = first_record_of_node nest first s.accepted.document.nests x c in
-      let zero : x.index ≡ 0 = omega (arith, here) in
-      absurd (root_no_child x.what (sym (kind_of_first nest first) ∙ ap (λ k. kind_of_token (record_at k rs).token) (sym zero) ∙ f.kind) w)
-]
+    found_from (is_attribute_part level) is_attribute_thing level (records nest (first_place bytes)) (nodes_of bytes nest) from at node f p (levels_shown nest (first_place bytes) s.accepted.document.nests) (attribute_level level (record_at at (records nest (first_place bytes))) h) n
 
 pub end_before_there : (bytes : List ℕ) (lists : Lists) (nest : Forest) → IsNestOf bytes lists nest → (pass : Record → Bool) (level end at : ℕ) → PassedBefore pass is_child_thing level (records nest (first_place bytes)) (nodes_of bytes nest) end at → at ≤ 1 →
     LastBefore pass is_child_thing level (records nest (first_place bytes)) (nodes_of bytes nest) end None
-end_before_there bytes lists nest s pass level end at p h = λ x c w l k. p.none x c w (omega (arith, h, child_after bytes lists nest s x c w.wanted)) l
+end_before_there bytes lists nest s pass level end at p h = λ x c w l k. p.none x c w (omega (arith, h, child_after nest (first_place bytes) s.accepted.document.nests x c w.wanted)) l
 
 pub before_again : (pass : Record → Bool) (want : Thing → Bool) (level : ℕ) (rs : List Record) (es : List Entry) (end at : ℕ) → 1 ≤ at → PassedBefore pass want level rs es end at → PassedBefore pass want level rs es end (at - 1 + 1)
 before_again pass want level rs es end at h p = let one : at ≡ at - 1 + 1 = omega (arith, h) in subst (λ n. PassedBefore pass want level rs es end n) one p

@@ -10,21 +10,17 @@ use Rattle.xml_model.specs.Scan.{record_at}
 use Rattle.vtd_words.specs.declared.packing.Parts.{Parts}
 use Rattle.vtd_words.specs.Lists.{Lists}
 use Rattle.vtd_words.specs.Packed.{record_of}
-use Rattle.vtd_words.specs.Table.{IsNestOf, IsNodeOf, Shows, nodes_of}
+use Rattle.vtd_words.specs.Table.{ArePartsAt, IsNestOf, IsNodeOf, Shows, nodes_of}
 use Rattle.vtd_words.proofs.Fitting.{nest_shown}
 use Rattle.vtd_cursor.specs.Endings.{opening, record_end, IsEnding, HasEnding}
 use Rattle.vtd_cursor.proofs.NodeSpans.{Begins, NodeShown, node_shown}
 use Rattle.vtd_words.proofs.Shown.{shown_length}
 
--- the parts of the record with an index, whatever records the words show
-abbrev pub PartsAt : Lists → ℕ → Parts → Type 0
-PartsAt lists at parts = (rs : List Record) → Shows lists.records rs → record_of parts ≡ record_at at rs
-
 -- the first record past a node's, in each nest
 abbrev pub PastOf : List ℕ → Lists → Node → ℕ → Type 0
 PastOf bytes lists node past = (nest : Forest) → IsNestOf bytes lists nest → (e : Entry) → Identifies node.kind node.at e (nodes_of bytes nest) → past ≡ e.past
 
-begins_of : (bytes : List ℕ) (lists : Lists) → length bytes < 2 ^ 30 → (node : Node) → (node.kind ≡ kinds.Root → ⊥) → (parts : Parts) → PartsAt lists node.at parts → (nest : Forest) → IsNestOf bytes lists nest →
+begins_of : (bytes : List ℕ) (lists : Lists) → length bytes < 2 ^ 30 → (node : Node) → (node.kind ≡ kinds.Root → ⊥) → (parts : Parts) → ArePartsAt lists.records node.at parts → (nest : Forest) → IsNestOf bytes lists nest →
     (e : Entry) → Identifies node.kind node.at e (nodes_of bytes nest) → parts.offset ≡ e.start + opening parts.token
 begins_of bytes lists few node k parts p nest s e w =
     let rs = records nest (first_place bytes) in
@@ -33,10 +29,10 @@ begins_of bytes lists few node k parts p nest s e w =
     let begins : Begins rs e.start node.at = shown.span.begins k in
     ap (λ r. r.offset) same ∙ begins ∙ ap (λ r. e.start + opening r.token) (sym same)
 
-pub start_opens : (bytes : List ℕ) (lists : Lists) → length bytes < 2 ^ 30 → (node : Node) → IsNodeOf bytes lists node → (node.kind ≡ kinds.Root → ⊥) → (parts : Parts) → PartsAt lists node.at parts → opening parts.token ≤ parts.offset
+pub start_opens : (bytes : List ℕ) (lists : Lists) → length bytes < 2 ^ 30 → (node : Node) → IsNodeOf bytes lists node → (node.kind ≡ kinds.Root → ⊥) → (parts : Parts) → ArePartsAt lists.records node.at parts → opening parts.token ≤ parts.offset
 start_opens bytes lists few node n k parts p = omega (arith, begins_of bytes lists few node k parts p n.nest n.shown n.entry n.holds)
 
-pub start_found : (bytes : List ℕ) (lists : Lists) → length bytes < 2 ^ 30 → (node : Node) → (node.kind ≡ kinds.Root → ⊥) → (parts : Parts) → PartsAt lists node.at parts → (result : ℕ) → result ≡ parts.offset - opening parts.token →
+pub start_found : (bytes : List ℕ) (lists : Lists) → length bytes < 2 ^ 30 → (node : Node) → (node.kind ≡ kinds.Root → ⊥) → (parts : Parts) → ArePartsAt lists.records node.at parts → (result : ℕ) → result ≡ parts.offset - opening parts.token →
     (nest : Forest) → IsNestOf bytes lists nest → (e : Entry) → Identifies node.kind node.at e (nodes_of bytes nest) → result ≡ e.start
 start_found bytes lists few node k parts p result r nest s e w = omega (arith, r, begins_of bytes lists few node k parts p nest s e w)
 
@@ -54,7 +50,7 @@ last_room bytes lists few node n past p =
     record { some = omega (arith, same, shown.some); within = omega (arith, same, shown.some, shown.within, many) }
 
 -- an element of a table ends where the end tags after its last piece do
-ending_of : (bytes : List ℕ) (lists : Lists) → length bytes < 2 ^ 30 → (node : Node) → node.kind ≡ kinds.Element → (parts : Parts) → PartsAt lists node.at parts → (past : ℕ) → PastOf bytes lists node past →
+ending_of : (bytes : List ℕ) (lists : Lists) → length bytes < 2 ^ 30 → (node : Node) → node.kind ≡ kinds.Element → (parts : Parts) → ArePartsAt lists.records node.at parts → (past : ℕ) → PastOf bytes lists node past →
     (nest : Forest) → IsNestOf bytes lists nest → (e : Entry) → Identifies node.kind node.at e (nodes_of bytes nest) → IsEnding bytes (records nest (first_place bytes)) parts.depth e.stop (suc (past - 1))
 ending_of bytes lists few node k parts p past q nest s e w =
     let rs = records nest (first_place bytes) in
@@ -63,12 +59,12 @@ ending_of bytes lists few node k parts p past q nest s e w =
     let count : e.past ≡ suc (past - 1) = omega (arith, q nest s e w, shown.some) in
     subst (λ n. IsEnding bytes rs parts.depth e.stop n) count (subst (λ l. IsEnding bytes rs l e.stop e.past) level (shown.span.element k))
 
-pub element_has : (bytes : List ℕ) (lists : Lists) → length bytes < 2 ^ 30 → (node : Node) → IsNodeOf bytes lists node → node.kind ≡ kinds.Element → (parts : Parts) → PartsAt lists node.at parts → (past : ℕ) → PastOf bytes lists node past →
+pub element_has : (bytes : List ℕ) (lists : Lists) → length bytes < 2 ^ 30 → (node : Node) → IsNodeOf bytes lists node → node.kind ≡ kinds.Element → (parts : Parts) → ArePartsAt lists.records node.at parts → (past : ℕ) → PastOf bytes lists node past →
     HasEnding bytes lists.records parts.depth (past - 1)
 element_has bytes lists few node n k parts p past q =
     record { rs = records n.nest (first_place bytes); shows = nest_shown bytes lists n.nest few n.shown; stop = n.entry.stop; is = ending_of bytes lists few node k parts p past q n.nest n.shown n.entry n.holds }
 
-pub element_found : (bytes : List ℕ) (lists : Lists) → length bytes < 2 ^ 30 → (node : Node) → node.kind ≡ kinds.Element → (parts : Parts) → PartsAt lists node.at parts → (past : ℕ) → PastOf bytes lists node past → (result : ℕ) →
+pub element_found : (bytes : List ℕ) (lists : Lists) → length bytes < 2 ^ 30 → (node : Node) → node.kind ≡ kinds.Element → (parts : Parts) → ArePartsAt lists.records node.at parts → (past : ℕ) → PastOf bytes lists node past → (result : ℕ) →
     ((rs : List Record) → Shows lists.records rs → (stop : ℕ) → IsEnding bytes rs parts.depth stop (suc (past - 1)) → result ≡ stop) →
     (nest : Forest) → IsNestOf bytes lists nest → (e : Entry) → Identifies node.kind node.at e (nodes_of bytes nest) → result ≡ e.stop
 element_found bytes lists few node k parts p past q result r nest s e w =
@@ -76,7 +72,7 @@ element_found bytes lists few node k parts p past q result r nest s e w =
 
 -- any other node ends where its last record says
 pub last_found : (bytes : List ℕ) (lists : Lists) → length bytes < 2 ^ 30 → (node : Node) → (node.kind ≡ kinds.Root → ⊥) → (node.kind ≡ kinds.Element → ⊥) → (past : ℕ) → PastOf bytes lists node past →
-    (parts : Parts) → PartsAt lists (past - 1) parts → (result : ℕ) → result ≡ record_end (record_of parts) →
+    (parts : Parts) → ArePartsAt lists.records (past - 1) parts → (result : ℕ) → result ≡ record_end (record_of parts) →
     (nest : Forest) → IsNestOf bytes lists nest → (e : Entry) → Identifies node.kind node.at e (nodes_of bytes nest) → result ≡ e.stop
 last_found bytes lists few node k m past q parts p result r nest s e w =
     let rs = records nest (first_place bytes) in

@@ -18,10 +18,11 @@ use Rattle.xml_model.proofs.Each.{each_at}
 use Rattle.xml_model.proofs.NodeLaws.{records_of_node}
 use Rattle.xml_items.specs.Reading.{tag_item}
 use Rattle.xml_items.proofs.WalkLemmas.{one_item}
+use Rattle.xml_model.proofs.Things.{attribute_of, element_of}
 use Rattle.vtd_words.specs.Lists.{Lists}
 use Rattle.vtd_words.specs.declared.packing.Parts.{Parts}
 use Rattle.vtd_words.specs.Packed.{record_of}
-use Rattle.vtd_words.specs.Table.{IsNestOf, IsNodeOf, Shows, nodes_of}
+use Rattle.vtd_words.specs.Table.{ArePartsAt, IsNestOf, IsNodeOf, Shows, nodes_of}
 use Rattle.vtd_words.proofs.Fitting.{nest_shown}
 use Rattle.xml_model.specs.declared.Span.{Span}
 use Rattle.xml_chars.specs.Places.{span_from}
@@ -32,27 +33,12 @@ use Rattle.vtd_cursor.specs.declared.spans.Tags.{Tags}
 use Rattle.vtd_cursor.specs.Tags.{tags_by, HasEndTag}
 use Rattle.vtd_cursor.specs.Endings.{IsTagOf, HasTagOf, IsEnding, HasEnding}
 use Rattle.vtd_cursor.proofs.Closing.{Closes, ClosesIn, ElementCloses, by_itself, by_end_tag, all_close}
-use Rattle.vtd_cursor.proofs.LastPieces.{in_place, inside_ending, start_spelled, empty_spelled}
+use Rattle.vtd_cursor.proofs.LastPieces.{inside_ending, start_spelled, empty_spelled}
+use Rattle.xml_model.proofs.Inside.{in_place}
 use Rattle.vtd_cursor.proofs.NodeSpans.{first_in, NodeShown, node_shown}
 use Rattle.vtd_cursor.proofs.PieceLemmas.{tag_there, FindsTag, empty_kind, start_kind, tag_kind_of}
-use Rattle.vtd_cursor.proofs.SpanLemmas.{PartsAt, PastOf}
+use Rattle.vtd_cursor.proofs.SpanLemmas.{PastOf}
 use Rattle.vtd_cursor.proofs.TagPlaces.{tag_place}
-
-pub element_of : (what : Thing) → kind_of what ≡ kinds.Element → (t : Tag) × (inside : Forest) × (what ≡ Thing.element t inside)
-element_of (Thing.root first f) h = absurd cc
-element_of (Thing.element t inside) h = (t, inside, refl)
-element_of (Thing.attribute a) h = absurd cc
-element_of (Thing.text xs) h = absurd cc
-element_of (Thing.comment cs) h = absurd cc
-element_of (Thing.instruction i) h = absurd cc
-
-pub attribute_of : (what : Thing) → kind_of what ≡ kinds.Attribute → (a : Attribute) × (what ≡ Thing.attribute a)
-attribute_of (Thing.root first f) h = absurd cc
-attribute_of (Thing.element t inside) h = absurd cc
-attribute_of (Thing.attribute a) h = (a, refl)
-attribute_of (Thing.text xs) h = absurd cc
-attribute_of (Thing.comment cs) h = absurd cc
-attribute_of (Thing.instruction i) h = absurd cc
 
 -- what the first record of an element and the bytes say of its tags
 pub record TagsShown (bytes : List ℕ) (rs : List Record) (t : Tag) (inside : Forest) (l start stop place past : ℕ) : Type 0 where
@@ -133,7 +119,7 @@ attribute_value bytes lists nest s kind at e w a is =
 
 -- What the calls answer.
 
-inside_ends : (bytes : List ℕ) (lists : Lists) → length bytes < 2 ^ 30 → (node : Node) → (parts : Parts) → PartsAt lists node.at parts → (past : ℕ) → PastOf bytes lists node past → (nest : Forest) → IsNestOf bytes lists nest →
+inside_ends : (bytes : List ℕ) (lists : Lists) → length bytes < 2 ^ 30 → (node : Node) → (parts : Parts) → ArePartsAt lists.records node.at parts → (past : ℕ) → PastOf bytes lists node past → (nest : Forest) → IsNestOf bytes lists nest →
     (e : Entry) → Identifies node.kind node.at e (nodes_of bytes nest) → (t : Tag) (inside : Forest) → e.what ≡ Thing.element t inside → begins_at bytes e.start (empty_tag t) ≡ false →
     IsEnding bytes (records nest (first_place bytes)) (parts.depth + 1) (past_forest (past_start e.start t) inside) (suc (past - 1))
 inside_ends bytes lists few node parts p past q nest s e w t inside is o =
@@ -146,11 +132,11 @@ inside_ends bytes lists few node parts p past q nest s e w t inside is o =
     let stop = past_forest (past_start e.start t) inside in
     subst (λ n. IsEnding bytes rs (parts.depth + 1) stop n) count (subst (λ l. IsEnding bytes rs l stop e.past) level (tags.inner (sym tags.is_closed ∙ o)))
 
-pub inside_has : (bytes : List ℕ) (lists : Lists) → length bytes < 2 ^ 30 → (node : Node) → HasEndTag bytes lists node → (parts : Parts) → PartsAt lists node.at parts → (past : ℕ) → PastOf bytes lists node past → HasEnding bytes lists.records (parts.depth + 1) (past - 1)
+pub inside_has : (bytes : List ℕ) (lists : Lists) → length bytes < 2 ^ 30 → (node : Node) → HasEndTag bytes lists node → (parts : Parts) → ArePartsAt lists.records node.at parts → (past : ℕ) → PastOf bytes lists node past → HasEnding bytes lists.records (parts.depth + 1) (past - 1)
 inside_has bytes lists few node h parts p past q =
     record { rs = records h.nest (first_place bytes); shows = nest_shown bytes lists h.nest few h.shown; stop = _; is = inside_ends bytes lists few node parts p past q h.nest h.shown h.entry h.holds h.tag h.inside h.is h.open_tag }
 
-pub inside_found : (bytes : List ℕ) (lists : Lists) → length bytes < 2 ^ 30 → (node : Node) → (parts : Parts) → PartsAt lists node.at parts → (past : ℕ) → PastOf bytes lists node past → (result : ℕ) →
+pub inside_found : (bytes : List ℕ) (lists : Lists) → length bytes < 2 ^ 30 → (node : Node) → (parts : Parts) → ArePartsAt lists.records node.at parts → (past : ℕ) → PastOf bytes lists node past → (result : ℕ) →
     ((rs : List Record) → Shows lists.records rs → (stop : ℕ) → IsEnding bytes rs (parts.depth + 1) stop (suc (past - 1)) → result ≡ stop) → (nest : Forest) → IsNestOf bytes lists nest →
     (e : Entry) → Identifies node.kind node.at e (nodes_of bytes nest) → (t : Tag) (inside : Forest) → e.what ≡ Thing.element t inside → begins_at bytes e.start (empty_tag t) ≡ false → result ≡ past_forest (past_start e.start t) inside
 inside_found bytes lists few node parts p past q result r nest s e w t inside is o =
@@ -214,7 +200,7 @@ pub record ValueFound (a : Attribute) (start stop : ℕ) (parts : Parts) : Type 
   pub len : parts.length ≡ size (written_pieces a.value)
   pub stops : stop ≡ start + size (before_value a) + size (written_pieces a.value) + 1
 
-value_of : (bytes : List ℕ) (lists : Lists) → length bytes < 2 ^ 30 → (node : Node) → (past : ℕ) → PastOf bytes lists node past → (parts : Parts) → PartsAt lists (past - 1) parts → (nest : Forest) → IsNestOf bytes lists nest →
+value_of : (bytes : List ℕ) (lists : Lists) → length bytes < 2 ^ 30 → (node : Node) → (past : ℕ) → PastOf bytes lists node past → (parts : Parts) → ArePartsAt lists.records (past - 1) parts → (nest : Forest) → IsNestOf bytes lists nest →
     (e : Entry) → Identifies node.kind node.at e (nodes_of bytes nest) → (a : Attribute) → e.what ≡ Thing.attribute a → ValueFound a e.start e.stop parts
 value_of bytes lists few node past q parts p nest s e w a is =
     let rs = records nest (first_place bytes) in
@@ -227,19 +213,15 @@ value_of bytes lists few node past q parts p nest s e w a is =
 same_span : (a a' b b' : ℕ) → a ≡ a' → b ≡ b' → ◌≡◌ {A = Span} (record { start = a; end = b }) (record { start = a'; end = b' })
 same_span a a' b b' p q = cc
 
-pub value_found : (bytes : List ℕ) (lists : Lists) → length bytes < 2 ^ 30 → (node : Node) → (past : ℕ) → PastOf bytes lists node past → (parts : Parts) → PartsAt lists (past - 1) parts → (nest : Forest) → IsNestOf bytes lists nest →
+pub value_found : (bytes : List ℕ) (lists : Lists) → length bytes < 2 ^ 30 → (node : Node) → (past : ℕ) → PastOf bytes lists node past → (parts : Parts) → ArePartsAt lists.records (past - 1) parts → (nest : Forest) → IsNestOf bytes lists nest →
     (e : Entry) → Identifies node.kind node.at e (nodes_of bytes nest) → (a : Attribute) → e.what ≡ Thing.attribute a →
     ◌≡◌ {A = Span} (record { start = parts.offset; end = parts.offset + parts.length }) (span_from (e.start + size (before_value a)) (written_pieces a.value))
 value_found bytes lists few node past q parts p nest s e w a is =
     let v : ValueFound a e.start e.stop parts = value_of bytes lists few node past q parts p nest s e w a is in same_span _ _ _ _ v.offset (omega (arith, v.offset, v.len))
 
-pub quote_found : (bytes : List ℕ) (lists : Lists) → length bytes < 2 ^ 30 → (node : Node) → node.kind ≡ kinds.Attribute → (past : ℕ) → PastOf bytes lists node past → (parts : Parts) → PartsAt lists (past - 1) parts → (nest : Forest) → IsNestOf bytes lists nest →
+pub quote_found : (bytes : List ℕ) (lists : Lists) → length bytes < 2 ^ 30 → (node : Node) → node.kind ≡ kinds.Attribute → (past : ℕ) → PastOf bytes lists node past → (parts : Parts) → ArePartsAt lists.records (past - 1) parts → (nest : Forest) → IsNestOf bytes lists nest →
     (e : Entry) → Identifies node.kind node.at e (nodes_of bytes nest) → parts.offset + parts.length + 1 ≡ e.stop
 quote_found bytes lists few node k past q parts p nest s e w =
     let x = attribute_of e.what (w.1 ∙ k) in
     let v : ValueFound x.0 e.start e.stop parts = value_of bytes lists few node past q parts p nest s e w x.0 x.1 in omega (arith, v.offset, v.len, v.stops)
 
--- an attribute is held by some element
-pub attribute_held : (bytes : List ℕ) (lists : Lists) (nest : Forest) → IsNestOf bytes lists nest → (e : Entry) → Contains (nodes_of bytes nest) e → (a : Attribute) → e.what ≡ Thing.attribute a → 0 < length e.holders
-attribute_held bytes lists nest s e c a is =
-    let k : ClosesIn bytes e = each_at (ClosesIn bytes) (all nest (first_place bytes)) e (all_close bytes nest s.accepted.document) c in (subst (λ x. Closes bytes x (length e.holders) e.start e.stop) is k).1

@@ -1,12 +1,11 @@
 -- Where pieces of a document begin and end, by its records and its bytes (this project's own).
 use Rattle.std.specs.Prelude.{◌≡◌, ℕ, zero, suc, ◌+◌, ◌<◌, ◌≤◌, Bool, true, false, cond, not, ◌||◌, ◌==◌, List, length}
 use Rattle.xml_model.specs.Items.{Tag, Item, leaf, end_tag, begins_at, spelling}
-use Rattle.xml_model.specs.Records.{Record}
+use Rattle.xml_model.specs.Records.{Record, kind_number}
 use Rattle.xml_model.specs.Tree.{one_if}
 use Rattle.xml_model.specs.Scan.{record_at}
 use Rattle.xml_items.specs.Reading.{tag_item}
 use Rattle.vtd_words.specs.Table.{Shows}
-use Rattle.xml_model.specs.Records.{kind_number}
 use Rattle.xml_model.specs.declared.TokenKind.TheVariants as token
 
 -- how many bytes of a piece are before the token of its first record: `<` of a tag, `<![CDATA[`, `<!--`, `<?`

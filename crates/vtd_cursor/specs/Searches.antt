@@ -1,37 +1,15 @@
 -- Nodes that are found by a walk along the records (this project's own).
-use Rattle.std.specs.Prelude.{◌≡◌, ℕ, suc, ◌<◌, ◌≤◌, Bool, true, false, ◌&&◌, ◌||◌, ◌==◌, nat_le, List, length, Option, Some, None, Contains}
-use Rattle.xml_model.specs.declared.Kind.{Kind}
-use Rattle.xml_model.specs.declared.Kind.TheVariants as kinds
+use Rattle.std.specs.Prelude.{◌≡◌, ℕ, suc, ◌<◌, ◌≤◌, Bool, true, List, length, Option, Some, None, Contains}
 use Rattle.xml_model.specs.declared.Node.{Node}
 use Rattle.xml_model.specs.Records.{Record}
 use Rattle.xml_model.specs.Tree.{Thing, Entry}
-use Rattle.xml_model.specs.Scan.{level_of, record_at}
+use Rattle.xml_model.specs.Scan.{Passes}
 use Rattle.vtd_words.specs.Table.{node_of}
-use Rattle.xml_model.specs.Records.{kind_number}
-use Rattle.xml_model.specs.declared.TokenKind.TheVariants as token
-
--- the kinds of what is a child where it is
-abbrev pub is_child_kind : Kind → Bool
-is_child_kind kinds.Root = false
-is_child_kind kinds.Attribute = false
-is_child_kind _ = true
-
--- whether a record is at a level or deeper
-abbrev pub is_within : ℕ → Record → Bool
-is_within level r = nat_le level (level_of r)
-
--- whether a record is a part of an attribute or a declaration at a level
-abbrev pub is_attribute_part : ℕ → Record → Bool
-is_attribute_part level r = (r.token == kind_number token.AttributeName || r.token == kind_number token.NamespaceName || r.token == kind_number token.Value) && level_of r == level
 
 -- a node that so many elements hold and that passes a test
 pub record IsWanted (want : Thing → Bool) (level : ℕ) (x : Entry) : Type 0 where
   pub held : length x.holders ≡ level
   pub wanted : want x.what ≡ true
-
--- the records from one index up to another pass a test
-abbrev pub Passes : (Record → Bool) → List Record → ℕ → ℕ → Type 0
-Passes pass rs from to = (k : ℕ) → from ≤ k → k < to → pass (record_at k rs) ≡ true
 
 -- of a node that begins at an index and passes a test
 pub record IsNodeAt (want : Thing → Bool) (es : List Entry) (at : ℕ) (node : Node) : Type 0 where

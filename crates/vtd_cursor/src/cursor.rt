@@ -4,7 +4,7 @@ ghost use Rattle.std.specs.Prelude.{◌≡◌, ◌≤◌, ◌<◌, ◌↔◌, �
 ghost use Rattle.xml_model.specs.declared.Axis.TheVariants as axes;
 ghost use Rattle.xml_model.specs.Nest.{Forest};
 ghost use Rattle.xml_model.specs.Tree.{axis_list, before, on_axis, Entry, Identifies};
-ghost use Rattle.vtd_words.specs.Table.{IsNestOf, IsNodeOf, nodes_of};
+ghost use Rattle.vtd_words.specs.Table.{ForEachEntry, IsNestOf, IsNodeOf, nodes_of};
 ghost use Rattle.vtd_location.specs.Nav.{IsNav};
 ghost use Rattle.vtd_cursor.specs.Moves.{first_of, last_of, root_node, Goes};
 
@@ -88,8 +88,8 @@ impl<'n, 'a, W: Words> Cursor<'n, 'a, W> {
 
     /// Moves to the parent; false, with nothing moved, exactly at the root.
     pub fn to_parent(&mut self) -> bool
-        ensures { (nest : Forest) → IsNestOf self.old.bytes (W.lists self.old.words) nest → (e : Entry) → Identifies self.old.node.kind self.old.node.at e (nodes_of self.old.bytes nest) →
-            Goes (first_of (axis_list axes.Parent e.path (nodes_of self.old.bytes nest))) self.old result self.new }
+        ensures { ForEachEntry self.old.bytes (W.lists self.old.words) self.old.node (λ nest e.
+            Goes (first_of (axis_list axes.Parent e.path (nodes_of self.old.bytes nest))) self.old result self.new) }
     {
         let target = parent_of(self.table, self.node);
         self.go(target)
@@ -97,8 +97,8 @@ impl<'n, 'a, W: Words> Cursor<'n, 'a, W> {
 
     /// Moves to the first child; false, with nothing moved, exactly where there is none.
     pub fn to_first_child(&mut self) -> bool
-        ensures { (nest : Forest) → IsNestOf self.old.bytes (W.lists self.old.words) nest → (e : Entry) → Identifies self.old.node.kind self.old.node.at e (nodes_of self.old.bytes nest) →
-            Goes (first_of (axis_list axes.Child e.path (nodes_of self.old.bytes nest))) self.old result self.new }
+        ensures { ForEachEntry self.old.bytes (W.lists self.old.words) self.old.node (λ nest e.
+            Goes (first_of (axis_list axes.Child e.path (nodes_of self.old.bytes nest))) self.old result self.new) }
     {
         let target = first_child_of(self.table, self.node);
         self.go(target)
@@ -106,8 +106,8 @@ impl<'n, 'a, W: Words> Cursor<'n, 'a, W> {
 
     /// Moves to the last child; false, with nothing moved, exactly where there is none.
     pub fn to_last_child(&mut self) -> bool
-        ensures { (nest : Forest) → IsNestOf self.old.bytes (W.lists self.old.words) nest → (e : Entry) → Identifies self.old.node.kind self.old.node.at e (nodes_of self.old.bytes nest) →
-            Goes (last_of (axis_list axes.Child e.path (nodes_of self.old.bytes nest))) self.old result self.new }
+        ensures { ForEachEntry self.old.bytes (W.lists self.old.words) self.old.node (λ nest e.
+            Goes (last_of (axis_list axes.Child e.path (nodes_of self.old.bytes nest))) self.old result self.new) }
     {
         let target = last_child_of(self.table, self.node);
         self.go(target)
@@ -115,8 +115,9 @@ impl<'n, 'a, W: Words> Cursor<'n, 'a, W> {
 
     /// Moves to the next sibling; false, with nothing moved, exactly where there is none. An attribute has no siblings.
     pub fn to_next(&mut self) -> bool
-        ensures { (nest : Forest) → IsNestOf self.old.bytes (W.lists self.old.words) nest → (e : Entry) → Identifies self.old.node.kind self.old.node.at e (nodes_of self.old.bytes nest) →
-            Goes (first_of (axis_list axes.FollowingSibling e.path (nodes_of self.old.bytes nest))) self.old result self.new }
+        ensures { ForEachEntry self.old.bytes (W.lists self.old.words) self.old.node (λ nest e.
+            Goes (first_of (axis_list axes.FollowingSibling e.path
+            (nodes_of self.old.bytes nest))) self.old result self.new) }
     {
         let target = next_of(self.table, self.node);
         self.go(target)
@@ -125,8 +126,9 @@ impl<'n, 'a, W: Words> Cursor<'n, 'a, W> {
     /// Moves to the sibling before this one; false, with nothing moved, exactly where there is none. An attribute has no
     /// siblings.
     pub fn to_previous(&mut self) -> bool
-        ensures { (nest : Forest) → IsNestOf self.old.bytes (W.lists self.old.words) nest → (e : Entry) → Identifies self.old.node.kind self.old.node.at e (nodes_of self.old.bytes nest) →
-            Goes (first_of (axis_list axes.PrecedingSibling e.path (nodes_of self.old.bytes nest))) self.old result self.new }
+        ensures { ForEachEntry self.old.bytes (W.lists self.old.words) self.old.node (λ nest e.
+            Goes (first_of (axis_list axes.PrecedingSibling e.path
+            (nodes_of self.old.bytes nest))) self.old result self.new) }
     {
         let target = previous_of(self.table, self.node);
         self.go(target)
@@ -134,8 +136,8 @@ impl<'n, 'a, W: Words> Cursor<'n, 'a, W> {
 
     /// Moves to the first attribute; false, with nothing moved, exactly where there is none.
     pub fn to_first_attribute(&mut self) -> bool
-        ensures { (nest : Forest) → IsNestOf self.old.bytes (W.lists self.old.words) nest → (e : Entry) → Identifies self.old.node.kind self.old.node.at e (nodes_of self.old.bytes nest) →
-            Goes (first_of (axis_list axes.Attribute e.path (nodes_of self.old.bytes nest))) self.old result self.new }
+        ensures { ForEachEntry self.old.bytes (W.lists self.old.words) self.old.node (λ nest e.
+            Goes (first_of (axis_list axes.Attribute e.path (nodes_of self.old.bytes nest))) self.old result self.new) }
     {
         let target = first_attribute_of(self.table, self.node);
         self.go(target)
@@ -144,9 +146,10 @@ impl<'n, 'a, W: Words> Cursor<'n, 'a, W> {
     /// Moves from an attribute to the next of its element; false, with nothing moved, exactly where there is none, and at
     /// what is no attribute.
     pub fn to_next_attribute(&mut self) -> bool
-        ensures attribute { (nest : Forest) → IsNestOf self.old.bytes (W.lists self.old.words) nest → (e : Entry) → Identifies self.old.node.kind self.old.node.at e (nodes_of self.old.bytes nest) →
+        ensures attribute { ForEachEntry self.old.bytes (W.lists self.old.words) self.old.node (λ nest e.
             (z : Entry) → Contains (nodes_of self.old.bytes nest) z → on_axis axes.Attribute z.path e.path ≡ true →
-            Goes (first_of (filter (λ y. before e.path y.path) (axis_list axes.Attribute z.path (nodes_of self.old.bytes nest)))) self.old result self.new }
+            Goes (first_of (filter (λ y. before e.path y.path)
+            (axis_list axes.Attribute z.path (nodes_of self.old.bytes nest)))) self.old result self.new) }
         ensures other { (self.old.node.kind ≡ Kind.Attribute → ⊥) → Goes None self.old result self.new }
     {
         let target = next_attribute_of(self.table, self.node);

@@ -9,6 +9,3 @@ mod spans;
 
 pub use cursor::Cursor;
 pub use spans::{Tags, span, tags_of, value_span};
-
-#[cfg(test)]
-mod tests;

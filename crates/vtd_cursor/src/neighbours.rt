@@ -5,18 +5,18 @@ ghost use Rattle.xml_model.specs.declared.Axis.TheVariants as axes;
 ghost use Rattle.xml_model.specs.Nest.{Forest};
 ghost use Rattle.xml_model.specs.Tree.{axis_list, before, on_axis, Entry, Identifies};
 ghost use Rattle.vtd_words.specs.Lists.{list_of};
-ghost use Rattle.vtd_words.specs.Table.{IsNestOf, IsNodeOf, nodes_of};
+ghost use Rattle.vtd_words.specs.Table.{ForEachEntry, IsNestOf, IsNodeOf, nodes_of};
 ghost use Rattle.vtd_cursor.specs.Moves.{first_of, last_of};
 
-use crate::searches::{attribute_from, child_before, child_from, is_child, level_of};
-use vtd_words::{Part, Table, Words, parts_at};
+use crate::searches::{attribute_from, child_before, child_from, is_child};
+use vtd_words::{Part, Table, Words, level_of, parts_at};
 use xml_model::{Kind, Node};
 
 /// The parent; `None` for the root.
 pub fn parent_of<W: Words>(table: &Table<'_, W>, node: Node) -> Option<Node>
     requires { IsNodeOf table.now.bytes (W.lists table.now.words) node }
-    ensures axis { (nest : Forest) → IsNestOf table.now.bytes (W.lists table.now.words) nest → (e : Entry) → Identifies node.kind node.at e (nodes_of table.now.bytes nest) →
-        result ≡ first_of (axis_list axes.Parent e.path (nodes_of table.now.bytes nest)) }
+    ensures axis { ForEachEntry table.now.bytes (W.lists table.now.words) node (λ nest e.
+        result ≡ first_of (axis_list axes.Parent e.path (nodes_of table.now.bytes nest))) }
     ensures node { IfSome result (λ found. IsNodeOf table.now.bytes (W.lists table.now.words) found) }
 {
     table.owner_of(node)
@@ -25,8 +25,8 @@ pub fn parent_of<W: Words>(table: &Table<'_, W>, node: Node) -> Option<Node>
 /// The first child.
 pub fn first_child_of<W: Words>(table: &Table<'_, W>, node: Node) -> Option<Node>
     requires { IsNodeOf table.now.bytes (W.lists table.now.words) node }
-    ensures axis { (nest : Forest) → IsNestOf table.now.bytes (W.lists table.now.words) nest → (e : Entry) → Identifies node.kind node.at e (nodes_of table.now.bytes nest) →
-        result ≡ first_of (axis_list axes.Child e.path (nodes_of table.now.bytes nest)) }
+    ensures axis { ForEachEntry table.now.bytes (W.lists table.now.words) node (λ nest e.
+        result ≡ first_of (axis_list axes.Child e.path (nodes_of table.now.bytes nest))) }
     ensures node { IfSome result (λ found. IsNodeOf table.now.bytes (W.lists table.now.words) found) }
 {
     match node.kind {
@@ -42,8 +42,8 @@ pub fn first_child_of<W: Words>(table: &Table<'_, W>, node: Node) -> Option<Node
 /// The last child.
 pub fn last_child_of<W: Words>(table: &Table<'_, W>, node: Node) -> Option<Node>
     requires { IsNodeOf table.now.bytes (W.lists table.now.words) node }
-    ensures axis { (nest : Forest) → IsNestOf table.now.bytes (W.lists table.now.words) nest → (e : Entry) → Identifies node.kind node.at e (nodes_of table.now.bytes nest) →
-        result ≡ last_of (axis_list axes.Child e.path (nodes_of table.now.bytes nest)) }
+    ensures axis { ForEachEntry table.now.bytes (W.lists table.now.words) node (λ nest e.
+        result ≡ last_of (axis_list axes.Child e.path (nodes_of table.now.bytes nest))) }
     ensures node { IfSome result (λ found. IsNodeOf table.now.bytes (W.lists table.now.words) found) }
 {
     match node.kind {
@@ -56,8 +56,8 @@ pub fn last_child_of<W: Words>(table: &Table<'_, W>, node: Node) -> Option<Node>
 /// The next sibling; an attribute has none.
 pub fn next_of<W: Words>(table: &Table<'_, W>, node: Node) -> Option<Node>
     requires { IsNodeOf table.now.bytes (W.lists table.now.words) node }
-    ensures axis { (nest : Forest) → IsNestOf table.now.bytes (W.lists table.now.words) nest → (e : Entry) → Identifies node.kind node.at e (nodes_of table.now.bytes nest) →
-        result ≡ first_of (axis_list axes.FollowingSibling e.path (nodes_of table.now.bytes nest)) }
+    ensures axis { ForEachEntry table.now.bytes (W.lists table.now.words) node (λ nest e.
+        result ≡ first_of (axis_list axes.FollowingSibling e.path (nodes_of table.now.bytes nest))) }
     ensures node { IfSome result (λ found. IsNodeOf table.now.bytes (W.lists table.now.words) found) }
 {
     if !is_child(node.kind) {
@@ -69,8 +69,8 @@ pub fn next_of<W: Words>(table: &Table<'_, W>, node: Node) -> Option<Node>
 /// The sibling before this one; an attribute has none.
 pub fn previous_of<W: Words>(table: &Table<'_, W>, node: Node) -> Option<Node>
     requires { IsNodeOf table.now.bytes (W.lists table.now.words) node }
-    ensures axis { (nest : Forest) → IsNestOf table.now.bytes (W.lists table.now.words) nest → (e : Entry) → Identifies node.kind node.at e (nodes_of table.now.bytes nest) →
-        result ≡ first_of (axis_list axes.PrecedingSibling e.path (nodes_of table.now.bytes nest)) }
+    ensures axis { ForEachEntry table.now.bytes (W.lists table.now.words) node (λ nest e.
+        result ≡ first_of (axis_list axes.PrecedingSibling e.path (nodes_of table.now.bytes nest))) }
     ensures node { IfSome result (λ found. IsNodeOf table.now.bytes (W.lists table.now.words) found) }
 {
     if !is_child(node.kind) {
@@ -82,8 +82,8 @@ pub fn previous_of<W: Words>(table: &Table<'_, W>, node: Node) -> Option<Node>
 /// The first attribute.
 pub fn first_attribute_of<W: Words>(table: &Table<'_, W>, node: Node) -> Option<Node>
     requires { IsNodeOf table.now.bytes (W.lists table.now.words) node }
-    ensures axis { (nest : Forest) → IsNestOf table.now.bytes (W.lists table.now.words) nest → (e : Entry) → Identifies node.kind node.at e (nodes_of table.now.bytes nest) →
-        result ≡ first_of (axis_list axes.Attribute e.path (nodes_of table.now.bytes nest)) }
+    ensures axis { ForEachEntry table.now.bytes (W.lists table.now.words) node (λ nest e.
+        result ≡ first_of (axis_list axes.Attribute e.path (nodes_of table.now.bytes nest))) }
     ensures node { IfSome result (λ found. IsNodeOf table.now.bytes (W.lists table.now.words) found) }
 {
     match node.kind {
@@ -98,9 +98,10 @@ pub fn first_attribute_of<W: Words>(table: &Table<'_, W>, node: Node) -> Option<
 /// The attribute of the same element that comes next; what is no attribute has none.
 pub fn next_attribute_of<W: Words>(table: &Table<'_, W>, node: Node) -> Option<Node>
     requires { IsNodeOf table.now.bytes (W.lists table.now.words) node }
-    ensures axis { (nest : Forest) → IsNestOf table.now.bytes (W.lists table.now.words) nest → (e : Entry) → Identifies node.kind node.at e (nodes_of table.now.bytes nest) →
+    ensures axis { ForEachEntry table.now.bytes (W.lists table.now.words) node (λ nest e.
         (z : Entry) → Contains (nodes_of table.now.bytes nest) z → on_axis axes.Attribute z.path e.path ≡ true →
-        result ≡ first_of (filter (λ y. before e.path y.path) (axis_list axes.Attribute z.path (nodes_of table.now.bytes nest))) }
+        result ≡ first_of (filter (λ y. before e.path y.path)
+        (axis_list axes.Attribute z.path (nodes_of table.now.bytes nest)))) }
     ensures other { (node.kind ≡ Kind.Attribute → ⊥) → result ≡ None }
     ensures node { IfSome result (λ found. IsNodeOf table.now.bytes (W.lists table.now.words) found) }
 {
@@ -113,7 +114,8 @@ pub fn next_attribute_of<W: Words>(table: &Table<'_, W>, node: Node) -> Option<N
 /// The level of a node: how many elements hold it.
 fn level_at<W: Words>(table: &Table<'_, W>, node: Node) -> u32
     requires { IsNodeOf table.now.bytes (W.lists table.now.words) node }
-    ensures level { (nest : Forest) → IsNestOf table.now.bytes (W.lists table.now.words) nest → (e : Entry) → Identifies node.kind node.at e (nodes_of table.now.bytes nest) → result ≡ length e.holders }
+    ensures level { ForEachEntry table.now.bytes (W.lists table.now.words) node (λ nest e.
+        result ≡ length e.holders) }
     ensures small { result ≤ 256 }
     ensures within { node.at < length (list_of Part.Records (W.lists table.now.words)) }
 {
@@ -132,7 +134,7 @@ fn index_after<W: Words>(table: &Table<'_, W>, at: u32) -> u32
 /// The first record past those of a node and of all that is in it, which is at most the number of records.
 fn past_of<W: Words>(table: &Table<'_, W>, node: Node) -> u32
     requires { IsNodeOf table.now.bytes (W.lists table.now.words) node }
-    ensures past { (nest : Forest) → IsNestOf table.now.bytes (W.lists table.now.words) nest → (e : Entry) → Identifies node.kind node.at e (nodes_of table.now.bytes nest) → result ≡ e.past }
+    ensures past { ForEachEntry table.now.bytes (W.lists table.now.words) node (λ nest e. result ≡ e.past) }
     ensures within { result ≤ length (list_of Part.Records (W.lists table.now.words)) }
 {
     let records = table.words().len(Part::Records);

@@ -14,6 +14,15 @@ ghost use Rattle.vtd_cursor.specs.Endings.{opening, closing, record_end, ends_ta
 
 use vtd_words::{Part, Parts, Words, parts_at};
 use xml_items::{Item, ItemKind, next_item};
+use xml_model::TokenKind;
+
+// The numbers of the kinds of records that begin or end a piece.
+const START_TAG: u8 = TokenKind::StartTag as u8;
+const VALUE: u8 = TokenKind::Value as u8;
+const COMMENT: u8 = TokenKind::Comment as u8;
+const TARGET: u8 = TokenKind::Target as u8;
+const DATA: u8 = TokenKind::Data as u8;
+const CDATA: u8 = TokenKind::Cdata as u8;
 
 /// Where the piece begins whose first record has these parts.
 pub fn piece_start(parts: Parts) -> u32
@@ -21,10 +30,10 @@ pub fn piece_start(parts: Parts) -> u32
     ensures { result ≡ parts.offset - opening parts.token }
 {
     let before = match parts.token {
-        0 => 1,
-        11 => 9,
-        6 => 4,
-        7 => 2,
+        START_TAG => 1,
+        CDATA => 9,
+        COMMENT => 4,
+        TARGET => 2,
         _ => 0,
     };
     parts.offset - before
@@ -36,9 +45,9 @@ pub fn record_end(parts: Parts) -> u32
     ensures { result ≡ record_end (record_of parts) }
 {
     let after = match parts.token {
-        4 => 1,
-        8 => 2,
-        11 | 6 => 3,
+        VALUE => 1,
+        DATA => 2,
+        CDATA | COMMENT => 3,
         _ => 0,
     };
     parts.offset + parts.length + after
@@ -48,20 +57,21 @@ pub fn record_end(parts: Parts) -> u32
 fn ends_tag(token: u8) -> bool
     ensures { result ≡ ends_tag token }
 {
-    token == 0 || token == 4
+    token == START_TAG || token == VALUE
 }
 
 /// The nearest starting tag up to a record; 0 where there is none.
 fn nearest_tag<W: Words>(words: &W, at: u32) -> u32
     requires { at < length (list_of Part.Records (W.lists words.now)) }
     ensures within { result ≤ at }
-    ensures nearest { (rs : List Record) → Shows (list_of Part.Records (W.lists words.now)) rs → (m : ℕ) → IsNearestTag rs at m → result ≡ m }
+    ensures nearest { (rs : List Record) → Shows (list_of Part.Records (W.lists words.now)) rs →
+        (m : ℕ) → IsNearestTag rs at m → result ≡ m }
 {
-    if parts_at(words, at).token == 0 {
+    if parts_at(words, at).token == START_TAG {
         return at;
     }
     for before in (0..at).rev() {
-        if parts_at(words, before).token == 0 {
+        if parts_at(words, before).token == START_TAG {
             return before;
         }
     }

@@ -7,7 +7,7 @@ ghost use Rattle.xml_model.specs.Nest.{Forest};
 ghost use Rattle.xml_model.specs.Records.{past_forest, past_start};
 ghost use Rattle.xml_model.specs.Tree.{Entry, Identifies, Thing};
 ghost use Rattle.xml_chars.specs.Places.{span_from};
-ghost use Rattle.vtd_words.specs.Table.{IsNestOf, IsNodeOf, nodes_of};
+ghost use Rattle.vtd_words.specs.Table.{ForEachEntry, IsNestOf, IsNodeOf, nodes_of};
 ghost use Rattle.vtd_cursor.specs.Tags.{tags_by, HasEndTag};
 
 use crate::pieces::{end_of_level, piece_start, tag_of, record_end};
@@ -33,8 +33,7 @@ pub struct Tags {
 fn node_start<W: Words>(table: &Table<'_, W>, node: Node) -> u32
     requires node { IsNodeOf table.now.bytes (W.lists table.now.words) node }
     requires below { node.kind ≡ Kind.Root → ⊥ }
-    ensures { (nest : Forest) → IsNestOf table.now.bytes (W.lists table.now.words) nest →
-        (e : Entry) → Identifies node.kind node.at e (nodes_of table.now.bytes nest) → result ≡ e.start }
+    ensures { ForEachEntry table.now.bytes (W.lists table.now.words) node (λ nest e. result ≡ e.start) }
 {
     piece_start(parts_at(table.words(), node.at))
 }
@@ -43,8 +42,7 @@ fn node_start<W: Words>(table: &Table<'_, W>, node: Node) -> u32
 fn node_end<W: Words>(table: &Table<'_, W>, node: Node) -> u32
     requires node { IsNodeOf table.now.bytes (W.lists table.now.words) node }
     requires below { node.kind ≡ Kind.Root → ⊥ }
-    ensures { (nest : Forest) → IsNestOf table.now.bytes (W.lists table.now.words) nest →
-        (e : Entry) → Identifies node.kind node.at e (nodes_of table.now.bytes nest) → result ≡ e.stop }
+    ensures { ForEachEntry table.now.bytes (W.lists table.now.words) node (λ nest e. result ≡ e.stop) }
 {
     let words = table.words();
     let last = table.end_of(node) - 1;
@@ -64,10 +62,8 @@ fn node_end<W: Words>(table: &Table<'_, W>, node: Node) -> u32
 /// with theirs.
 pub fn span<W: Words>(nav: &Nav<'_, W>, node: Node) -> Span
     requires { IsNodeOf nav.now.bytes (W.lists nav.now.words) node }
-    ensures start { (nest : Forest) → IsNestOf nav.now.bytes (W.lists nav.now.words) nest →
-        (e : Entry) → Identifies node.kind node.at e (nodes_of nav.now.bytes nest) → result.start ≡ e.start }
-    ensures end { (nest : Forest) → IsNestOf nav.now.bytes (W.lists nav.now.words) nest →
-        (e : Entry) → Identifies node.kind node.at e (nodes_of nav.now.bytes nest) → result.end ≡ e.stop }
+    ensures start { ForEachEntry nav.now.bytes (W.lists nav.now.words) node (λ nest e. result.start ≡ e.start) }
+    ensures end { ForEachEntry nav.now.bytes (W.lists nav.now.words) node (λ nest e. result.end ≡ e.stop) }
 {
     let table = nav.table();
     match node.kind {
@@ -86,9 +82,9 @@ pub fn span<W: Words>(nav: &Nav<'_, W>, node: Node) -> Span
 pub fn tags_of<W: Words>(nav: &Nav<'_, W>, node: Node) -> Tags
     requires node { IsNodeOf nav.now.bytes (W.lists nav.now.words) node }
     requires element { node.kind ≡ Kind.Element }
-    ensures { (nest : Forest) → IsNestOf nav.now.bytes (W.lists nav.now.words) nest →
-        (e : Entry) → Identifies node.kind node.at e (nodes_of nav.now.bytes nest) →
-        (t : Tag) (inside : Forest) → e.what ≡ Thing.element t inside → result ≡ tags_by (begins_at nav.now.bytes e.start (empty_tag t)) t inside e.start e.stop }
+    ensures { ForEachEntry nav.now.bytes (W.lists nav.now.words) node (λ nest e.
+        (t : Tag) (inside : Forest) → e.what ≡ Thing.element t inside →
+        result ≡ tags_by (begins_at nav.now.bytes e.start (empty_tag t)) t inside e.start e.stop) }
 {
     let table = nav.table();
     let tag = tag_of(table.bytes(), table.words(), node.at);
@@ -112,9 +108,10 @@ pub fn tags_of<W: Words>(nav: &Nav<'_, W>, node: Node) -> Tags
 fn inside_end<W: Words>(table: &Table<'_, W>, node: Node) -> u32
     requires node { IsNodeOf table.now.bytes (W.lists table.now.words) node }
     requires element { HasEndTag table.now.bytes (W.lists table.now.words) node }
-    ensures { (nest : Forest) → IsNestOf table.now.bytes (W.lists table.now.words) nest →
-        (e : Entry) → Identifies node.kind node.at e (nodes_of table.now.bytes nest) →
-        (t : Tag) (inside : Forest) → e.what ≡ Thing.element t inside → begins_at table.now.bytes e.start (empty_tag t) ≡ false → result ≡ past_forest (past_start e.start t) inside }
+    ensures { ForEachEntry table.now.bytes (W.lists table.now.words) node (λ nest e.
+        (t : Tag) (inside : Forest) → e.what ≡ Thing.element t inside →
+        begins_at table.now.bytes e.start (empty_tag t) ≡ false →
+        result ≡ past_forest (past_start e.start t) inside) }
 {
     let words = table.words();
     let last = table.end_of(node) - 1;
@@ -130,11 +127,10 @@ fn inside_end<W: Words>(table: &Table<'_, W>, node: Node) -> u32
 pub fn value_span<W: Words>(nav: &Nav<'_, W>, node: Node) -> Span
     requires node { IsNodeOf nav.now.bytes (W.lists nav.now.words) node }
     requires attribute { node.kind ≡ Kind.Attribute }
-    ensures value { (nest : Forest) → IsNestOf nav.now.bytes (W.lists nav.now.words) nest →
-        (e : Entry) → Identifies node.kind node.at e (nodes_of nav.now.bytes nest) →
-        (a : Attribute) → e.what ≡ Thing.attribute a → result ≡ span_from (e.start + size (before_value a)) (written_pieces a.value) }
-    ensures quote { (nest : Forest) → IsNestOf nav.now.bytes (W.lists nav.now.words) nest →
-        (e : Entry) → Identifies node.kind node.at e (nodes_of nav.now.bytes nest) → result.end + 1 ≡ e.stop }
+    ensures value { ForEachEntry nav.now.bytes (W.lists nav.now.words) node (λ nest e.
+        (a : Attribute) → e.what ≡ Thing.attribute a →
+        result ≡ span_from (e.start + size (before_value a)) (written_pieces a.value)) }
+    ensures quote { ForEachEntry nav.now.bytes (W.lists nav.now.words) node (λ nest e. result.end + 1 ≡ e.stop) }
 {
     let table = nav.table();
     let value = parts_at(table.words(), table.end_of(node) - 1);

@@ -17,11 +17,13 @@ pub fn records_fit()
 
 /// All nests of a table have the same records.
 pub fn same_records()
-    ensures { (bytes : List ℕ) (lists : Lists) → length bytes < 2 ^ 30 → (f g : Forest) → IsNestOf bytes lists f → IsNestOf bytes lists g →
+    ensures { (bytes : List ℕ) (lists : Lists) → length bytes < 2 ^ 30 →
+        (f g : Forest) → IsNestOf bytes lists f → IsNestOf bytes lists g →
         records f (first_place bytes) ≡ records g (first_place bytes) }
 {}
 
 /// A node of a table is in each nest of the table.
 pub fn node_in_each_nest()
-    ensures { (bytes : List ℕ) (lists : Lists) → length bytes < 2 ^ 30 → (node : Node) → IsNodeOf bytes lists node → IdentifiesInEach bytes lists node }
+    ensures { (bytes : List ℕ) (lists : Lists) → length bytes < 2 ^ 30 →
+        (node : Node) → IsNodeOf bytes lists node → IdentifiesInEach bytes lists node }
 {}

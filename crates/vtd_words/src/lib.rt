@@ -7,8 +7,5 @@ mod table;
 mod word_vec;
 
 pub use packing::{Parts, pack, unpack};
-pub use table::{Table, parts_at};
+pub use table::{Table, level_of, parts_at};
 pub use word_vec::{Counts, Part, WordVec, Words};
-
-#[cfg(test)]
-mod tests;

@@ -1,7 +1,9 @@
 //! The words of a document: the trait through which they are read, and the lists that hold them.
 
-ghost use Rattle.std.specs.Prelude.{◌≡◌, ℕ, ◌+◌, ◌-◌, ◌^◌, ◌<◌, ◌≤◌, List, [], ◌∷◌, ◌++◌, length, slice_index, vec_len, vec_capacity, OnOk, OnErr};
-ghost use Rattle.vtd_words.specs.Lists.{Lists, list_of, with_word, HasRoom, KeepsRoom, no_room, room_of, less_one, TakesWord, none};
+ghost use Rattle.std.specs.Prelude.{◌≡◌, ℕ, ◌+◌, ◌-◌, ◌^◌, ◌<◌, ◌≤◌, List, [], ◌∷◌, ◌++◌, length, slice_index};
+ghost use Rattle.std.specs.Prelude.{vec_len, vec_capacity, OnOk, OnErr};
+ghost use Rattle.vtd_words.specs.Lists.{Lists, list_of, with_word, HasRoom, KeepsRoom, no_room, room_of, less_one};
+ghost use Rattle.vtd_words.specs.Lists.{TakesWord, none};
 
 use std::alloc::Global;
 use std::marker::Model;
@@ -110,8 +112,18 @@ impl Model for WordVec {
     ghost Value = { Growing };
 
     ghost view = { λ w. record {
-      lists = record { records = w.records.items.items; level1 = w.level1.items.items; level2 = w.level2.items.items; level3 = w.level3.items.items };
-      room = record { records = w.records.room; level1 = w.level1.room; level2 = w.level2.room; level3 = w.level3.room };
+      lists = record {
+        records = w.records.items.items;
+        level1 = w.level1.items.items;
+        level2 = w.level2.items.items;
+        level3 = w.level3.items.items;
+      };
+      room = record {
+        records = w.records.room;
+        level1 = w.level1.room;
+        level2 = w.level2.room;
+        level3 = w.level3.room;
+      };
     } };
 }
 
@@ -129,8 +141,8 @@ impl WordVec {
         }
     }
 
-    /// Makes room for so many further words of each part. After `NoMemory` the lists and their room are as before; it comes only
-    /// where some part had less room.
+    /// Makes room for so many further words of each part. After `NoMemory` the lists and their room are as before; it
+    /// comes only where some part had less room.
     pub fn reserve(&mut self, counts: Counts) -> Result<(), NoMemory>
         ensures lists { self.new.lists ≡ self.old.lists }
         ensures room { OnOk result (HasRoom counts self.new.room) }

@@ -8,18 +8,13 @@ use Rattle.xml_model.specs.Nest.{Forest}
 use Rattle.xml_model.specs.Records.{records}
 use Rattle.xml_model.specs.Tree.{Path, Step, step_eq, steps, steps_under, is_self, is_step, is_child, ends_in_child, later_sibling, on_axis, Entry, Thing, nodes, all, root_entry, at_first}
 use Rattle.xml_model.specs.Laws.{holder_index, same_parent, by_indexes, is_child_thing, is_root_thing, HasParent, SiblingsDecide}
+use Rattle.xml_model.proofs.Filters.{same_test}
 use Rattle.xml_model.proofs.Each.{each_both, each_more, each_at, each_always, each_swap}
 use Rattle.xml_model.proofs.Levels.{Shallow}
 use Rattle.xml_model.proofs.Axes.{step_is, self_steps, step_of, child_of, Related, related, Formed, formed, axes_by_indexes}
-use Rattle.xml_model.proofs.Siblings.{sibling_of, under_more, and_no}
+use Rattle.xml_model.proofs.Siblings.{sibling_of, under_more, and_no, and_yes}
 use Rattle.xml_model.proofs.Parents.{Named, KnownNode, ParentIn, known_each}
 use Rattle.xml_model.proofs.FirstRecords.{HolderByScan, holders_by_scan}
-
--- two tests that pass together are the same
-both_ways : (b c : Bool) → (b ≡ true → c ≡ true) → (c ≡ true → b ≡ true) → b ≡ c
-both_ways true c f g = sym (f refl)
-both_ways false true f g = g refl
-both_ways false false f g = refl
 
 under_true : (b : Bool) (o : Option Path) → is_step (steps_under b o) ≡ true → (b ≡ true) × (is_step o ≡ true)
 under_true true o h = (refl, h)
@@ -67,7 +62,7 @@ not_root (Thing.instruction i) n = refl
 
 parent_decides : (x p y : Entry) → Named x.what → is_step (steps p.path x.path) ≡ true → p.index ≡ holder_index x.holders → Related p y → ParentDecides x y
 parent_decides x p y n a h r =
-    both_ways (is_step (steps y.path x.path)) (y.index == holder_index x.holders)
+    same_test (is_step (steps y.path x.path)) (y.index == holder_index x.holders)
     (λ k. let same : p.path ≡ y.path = one_parent x.path p.path y.path a k in
     let self : is_self (steps p.path y.path) ≡ true = ap (λ q. is_self (steps p.path q)) (sym same) ∙ ap is_self (self_steps p.path) in
     eq-eqb y.index (holder_index x.holders) (sym (eqb-true p.index y.index (sym r.same ∙ self)) ∙ h))
@@ -124,12 +119,8 @@ not_later (s ∷ u ∷ p) [] h = nothing s
     nothing (Step.attribute i) = refl
 not_later (s ∷ u ∷ p) (t ∷ q) h = under_more s u p t q ∙ ap (λ b. step_eq s t && b) (not_later (u ∷ p) q h) ∙ and_no (step_eq s t)
 
-and_yes : (b : Bool) → (b && true) ≡ b
-and_yes true = refl
-and_yes false = refl
-
 -- a child is not the root
-child_first : (w : Thing) (b : Bool) → ((not (is_root_thing w) && b) && is_child_thing w) ≡ (is_child_thing w && b)
+pub child_first : (w : Thing) (b : Bool) → ((not (is_root_thing w) && b) && is_child_thing w) ≡ (is_child_thing w && b)
 child_first (Thing.root first f) b = refl
 child_first (Thing.attribute a) b = and_no b
 child_first (Thing.element t inside) b = and_yes b
@@ -181,7 +172,7 @@ abbrev pub AxisDecides : Axis → Entry → Entry → Type 0
 AxisDecides axis x y = on_axis axis x.path y.path ≡ by_indexes axis x y
 
 eqb_comm : (m n : ℕ) → (m == n) ≡ (n == m)
-eqb_comm m n = both_ways (m == n) (n == m) (λ h. eq-eqb n m (sym (eqb-true m n h))) (λ h. eq-eqb m n (sym (eqb-true n m h)))
+eqb_comm m n = same_test (m == n) (n == m) (λ h. eq-eqb n m (sym (eqb-true m n h))) (λ h. eq-eqb m n (sym (eqb-true n m h)))
 
 same_back : (x y : Entry) → same_parent x y ≡ same_parent y x
 same_back x y = ap₂ (λ b c. b && c) (and_comm (is_child_thing x.what) (is_child_thing y.what)) (eqb_comm (holder_index x.holders) (holder_index y.holders))

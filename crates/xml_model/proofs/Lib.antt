@@ -31,5 +31,14 @@ pub mod OneRefusal
 pub mod ExamplesOne
 pub mod ExamplesFirst
 pub mod Starts
-pub mod Lacks
 pub mod Siblings
+pub mod Slots
+pub mod Filters
+pub mod Things
+pub mod Indexes
+pub mod FromIndex
+pub mod TreeOrder
+pub mod Contexts
+pub mod Inside
+pub mod AttributeRuns
+pub mod Depths

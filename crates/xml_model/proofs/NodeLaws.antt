@@ -1,5 +1,5 @@
 -- The laws, each of one nest and its nodes, in the form in which other crates cite them.
-use Rattle.std.proofs.Common.{◌≡◌, ℕ, zero, suc, ◌+◌, ◌<◌, Bool, true, false, List, [], ◌∷◌, map, refl, ap, ap₂, sym, ◌∙◌, arith, subst, filter, cond, not, ◌&&◌, ◌==◌, is_some, option_map}
+use Rattle.std.proofs.Common.{◌≡◌, ℕ, zero, suc, ◌+◌, ◌<◌, true, false, List, [], ◌∷◌, map, ap, sym, ◌∙◌, arith, subst, not, ◌&&◌, ◌==◌, is_some, option_map}
 use Rattle.std.specs.List.{AllByRecursion as Each, Contains, slice_index, list_all}
 use Rattle.std.specs.List.Sorted.{IsStrictlyIncreasing}
 use Rattle.xml_model.specs.declared.Axis.{Axis}
@@ -10,6 +10,7 @@ use Rattle.xml_model.specs.Records.{Record, records}
 use Rattle.xml_model.specs.Tree.{Thing, Entry, kind_of, all, at_index, on_axis, axis_list, is_reverse, reverse_if}
 use Rattle.xml_model.specs.Scan.{end_by_scan, past_by_scan, holder_by_scan, kind_by_scan, starts_by_scan, begins_by_scan, IsElement, EndsAt}
 use Rattle.xml_model.specs.Laws.{IsNode, HasRecords, FirstRecordShows, IndexesDecide, SiblingsDecide, HasParent, by_indexes, list_by_indexes, is_root_thing, holder_index}
+use Rattle.xml_model.proofs.Filters.{filter_same}
 use Rattle.xml_model.proofs.Each.{Rising, rising_map, each_at, each_more}
 use Rattle.xml_model.proofs.Bounds.{nest_shallow}
 use Rattle.xml_model.proofs.Rise.{index, indexes_rise}
@@ -64,15 +65,11 @@ places_of_two nest first x y c d = let r = at_two Related (all nest first) (rela
 pub axis_of_two : (nest : Forest) (first : ℕ) → is_nest nest ≡ true → (axis : Axis) (x y : Entry) → IsNode nest first x → IsNode nest first y → on_axis axis x.path y.path ≡ by_indexes axis x y
 axis_of_two nest first n axis x y c d = at_two (AxisDecides axis) (all nest first) (all_axes nest first (nest_shallow nest n) axis) x y c d
 
-filter_same : (p q : Entry → Bool) (es : List Entry) → Each (λ e. p e ≡ q e) es → filter p es ≡ filter q es
-filter_same p q [] h = refl
-filter_same p q (e ∷ es) h = ap₂ (λ b xs. cond b (e ∷ xs) xs) h.0 (filter_same p q es h.1)
-
 pub axis_list_of_node : (nest : Forest) (first : ℕ) → is_nest nest ≡ true → (axis : Axis) (x : Entry) → IsNode nest first x → axis_list axis x.path (all nest first) ≡ list_by_indexes axis x (all nest first)
 unfolding axis_list
 axis_list_of_node nest first n axis x c =
     let es = all nest first in
-    ap (reverse_if (is_reverse axis)) (filter_same (λ e. on_axis axis x.path e.path) (by_indexes axis x) es (each_at (λ x. Each (AxisDecides axis x) es) es x (all_axes nest first (nest_shallow nest n) axis) c))
+    ap (reverse_if (is_reverse axis)) (filter_same (λ e. on_axis axis x.path e.path) (by_indexes axis x) es (λ y d. axis_of_two nest first n axis x y c d))
 
 pub siblings_of_child : (nest : Forest) (first : ℕ) → is_nest nest ≡ true → (z x y : Entry) → IsNode nest first z → IsNode nest first x → IsNode nest first y → on_axis axes.Child z.path x.path ≡ true → SiblingsDecide z x y
 siblings_of_child nest first n z x y b c d h =

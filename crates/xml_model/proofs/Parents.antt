@@ -1,5 +1,5 @@
 -- Every node but the root has a parent among the nodes: its nearest holder, or the root where no element holds it.
-use Rattle.std.proofs.Common.{◌≡◌, ℕ, suc, ◌+◌, ◌≤◌, true, false, List, [], ◌∷◌, ◌++◌, map, refl, ap, ap₂, sym, ◌∙◌, arith, length, Option, Some, None, IfSome, inl, inr, ⊎_elim, ◌⊎◌, not}
+use Rattle.std.proofs.Common.{◌≡◌, ℕ, suc, ◌+◌, ◌<◌, ◌≤◌, true, false, List, [], ◌∷◌, ◌++◌, map, refl, ap, ap₂, sym, ◌∙◌, arith, length, Option, Some, None, IfSome, inl, inr, ⊎_elim, ◌⊎◌, not}
 use Rattle.std.specs.Prelude.{⊤}
 use Rattle.std.specs.List.{AllByRecursion as Each, Contains, cons_option}
 use Rattle.std.proofs.lemmas.List.Elements.{Contains-append_left, Contains-append_right}
@@ -20,6 +20,11 @@ Named (Thing.attribute a) = declares a.name ≡ false
 Named (Thing.root first f) = ⊥
 Named _ = ⊤
 
+-- an attribute is held by an element
+abbrev pub IsHeld : Thing → ℕ → Type 0
+IsHeld (Thing.attribute a) n = 0 < n
+IsHeld _ n = ⊤
+
 -- a node with one step, under what begins at a place
 pub record AtTop (base : ℕ) (e : Entry) : Type 0 where
   pub step : Step
@@ -35,6 +40,7 @@ pub record ParentIn (es : List Entry) (e : Entry) : Type 0 where
 pub record Known (es : List Entry) (base : ℕ) (e : Entry) : Type 0 where
   pub bounded : length e.holders ≤ 255
   pub names : Named e.what
+  pub held : IsHeld e.what (length e.holders)
   pub parent : AtTop base e ⊎ ParentIn es e
 
 -- in a longer list
@@ -42,7 +48,7 @@ parent_in : (es more : List Entry) (e : Entry) → ((p : Entry) → Contains es 
 parent_in es more e f h = record { parent = h.parent; there = f h.parent h.there; above = h.above; index = h.index }
 
 known_in : (es more : List Entry) (base : ℕ) → ((p : Entry) → Contains es p → Contains more p) → (e : Entry) → Known es base e → Known more base e
-known_in es more base f e h = record { bounded = h.bounded; names = h.names; parent = ⊎_elim (λ t. inl t) (λ t. inr (parent_in es more e f t)) h.parent }
+known_in es more base f e h = record { bounded = h.bounded; names = h.names; held = h.held; parent = ⊎_elim (λ t. inl t) (λ t. inr (parent_in es more e f t)) h.parent }
 
 known_left : (es more : List Entry) (base : ℕ) (e : Entry) → Known es base e → Known (es ++ more) base e
 known_left es more base e h = known_in es (es ++ more) base (λ p c. Contains-append_left es more p c) e h
@@ -56,7 +62,7 @@ steps_deeper s p q = ap (λ b. steps_under b (steps p q)) (step_same s)
 
 -- what is in an element, of its own list, then is under the element
 below_element : (s : Step) (me : Entry) (inner : List Entry) (base : ℕ) → me.path ≡ [] → (e : Entry) → Known inner me.index e → Known (map (under s) (me ∷ inner)) base (under s e)
-below_element s me inner base top e h = record { bounded = h.bounded; names = h.names; parent = inr (⊎_elim from_me from_inner h.parent) }
+below_element s me inner base top e h = record { bounded = h.bounded; names = h.names; held = h.held; parent = inr (⊎_elim from_me from_inner h.parent) }
   where
     from_me : AtTop me.index e → ParentIn (map (under s) (me ∷ inner)) (under s e)
     from_me t = record {
@@ -74,20 +80,20 @@ below_element s me inner base top e h = record { bounded = h.bounded; names = h.
       index = t.index;
     }
 
-known_attributes : (others : List Attribute) (holders : List Holder) (at index i : ℕ) (es : List Entry) → length holders ≤ 255 → Each (Known es (holder_index holders)) (attributes holders at index i others)
-known_attributes [] holders at index i es k = tt
-known_attributes (a ∷ others) holders at index i es k =
+known_attributes : (others : List Attribute) (holders : List Holder) (at index i : ℕ) (es : List Entry) → length holders ≤ 255 → 0 < length holders → Each (Known es (holder_index holders)) (attributes holders at index i others)
+known_attributes [] holders at index i es k some = tt
+known_attributes (a ∷ others) holders at index i es k some =
     each_option (Known es (holder_index holders)) (attribute_entry holders at index i a) _
-    (if_some_false (Known es (holder_index holders)) (declares a.name) _ (λ n. record { bounded = k; names = n; parent = inl (record { step = Step.attribute i; path = refl; index = refl }) }))
-    (known_attributes others holders (at + size (written_attribute a)) (index + 2) (i + one_if (not (declares a.name))) es k)
+    (if_some_false (Known es (holder_index holders)) (declares a.name) _ (λ n. record { bounded = k; names = n; held = some; parent = inl (record { step = Step.attribute i; path = refl; index = refl }) }))
+    (known_attributes others holders (at + size (written_attribute a)) (index + 2) (i + one_if (not (declares a.name))) es k some)
 
 known_leaf : (x : Leaf) (f : Forest) (h : Here) (es : List Entry) → length h.holders ≤ 255 → IfSome (leaf_node h x f) (Known es (holder_index h.holders))
 known_leaf (Leaf.text ps) f h es k =
-    if_some_cond (Known es (holder_index h.holders)) (begins_run h.holders h.joins (Leaf.text ps ∷ run f)) _ (record { bounded = k; names = tt; parent = inl (record { step = Step.child h.number; path = refl; index = refl }) })
+    if_some_cond (Known es (holder_index h.holders)) (begins_run h.holders h.joins (Leaf.text ps ∷ run f)) _ (record { bounded = k; names = tt; held = tt; parent = inl (record { step = Step.child h.number; path = refl; index = refl }) })
 known_leaf (Leaf.cdata cs) f h es k =
-    if_some_cond (Known es (holder_index h.holders)) (begins_run h.holders h.joins (Leaf.cdata cs ∷ run f)) _ (record { bounded = k; names = tt; parent = inl (record { step = Step.child h.number; path = refl; index = refl }) })
-known_leaf (Leaf.comment cs) f h es k = record { bounded = k; names = tt; parent = inl (record { step = Step.child h.number; path = refl; index = refl }) }
-known_leaf (Leaf.instruction i) f h es k = record { bounded = k; names = tt; parent = inl (record { step = Step.child h.number; path = refl; index = refl }) }
+    if_some_cond (Known es (holder_index h.holders)) (begins_run h.holders h.joins (Leaf.cdata cs ∷ run f)) _ (record { bounded = k; names = tt; held = tt; parent = inl (record { step = Step.child h.number; path = refl; index = refl }) })
+known_leaf (Leaf.comment cs) f h es k = record { bounded = k; names = tt; held = tt; parent = inl (record { step = Step.child h.number; path = refl; index = refl }) }
+known_leaf (Leaf.instruction i) f h es k = record { bounded = k; names = tt; held = tt; parent = inl (record { step = Step.child h.number; path = refl; index = refl }) }
 known_leaf (Leaf.declaration d) f h es k = tt
 known_leaf (Leaf.doctype d) f h es k = tt
 
@@ -102,10 +108,10 @@ known_piece t inside h stop more k within after_it =
     let ins = nodes (inside_of h t) inside in
     let own = own_nodes h t inside stop in
     let inner : Each (Known (tags ++ ins) h.index) (tags ++ ins) =
-    each_append (Known (tags ++ ins) h.index) tags ins (known_attributes t.attributes (held h t) (attributes_place h.at t) (suc h.index) 0 (tags ++ ins) (omega arith))
+    each_append (Known (tags ++ ins) h.index) tags ins (known_attributes t.attributes (held h t) (attributes_place h.at t) (suc h.index) 0 (tags ++ ins) (omega arith) (omega arith))
     (each_more (Known ins h.index) (Known (tags ++ ins) h.index) (known_right tags ins h.index) ins within) in
     let mine : Each (Known own base) own = each_map (Known own base) (under s) (me ∷ tags ++ ins) (
-      record { bounded = omega arith; names = tt; parent = inl (record { step = s; path = refl; index = refl }) },
+      record { bounded = omega arith; names = tt; held = tt; parent = inl (record { step = s; path = refl; index = refl }) },
       each_more (Known (tags ++ ins) h.index) (λ e. Known own base (under s e)) (below_element s me (tags ++ ins) base refl) (tags ++ ins) inner,
     ) in
     each_append (Known (own ++ more) base) own more (each_more (Known own base) (Known (own ++ more) base) (known_left own more base) own mine)
@@ -136,11 +142,12 @@ known_nodes (element t inside space f) h k s =
 pub record KnownNode (es : List Entry) (e : Entry) : Type 0 where
   pub bounded : length e.holders ≤ 255
   pub names : Named e.what
+  pub held : IsHeld e.what (length e.holders)
   pub parent : ParentIn es e
 
 known_node : (nest : Forest) (first : ℕ) (e : Entry) → Known (nodes (at_first first) nest) 0 e → KnownNode (all nest first) e
 unfolding all
-known_node nest first e h = record { bounded = h.bounded; names = h.names; parent = ⊎_elim from_root from_nodes h.parent }
+known_node nest first e h = record { bounded = h.bounded; names = h.names; held = h.held; parent = ⊎_elim from_root from_nodes h.parent }
   where
     from_root : AtTop 0 e → ParentIn (all nest first) e
     from_root t = record { parent = root_entry nest first; there = contains_here (root_entry nest first) (nodes (at_first first) nest); above = ap (λ p. is_step (steps [] p)) t.path; index = sym t.index }

@@ -17,30 +17,15 @@ pub end_step : (l i : ℕ) (rs : List Record) → i < length rs → l < level_of
 end_step l i rs h k =
     ap (end_from l i) (from_index rs i h) ∙ ap (λ b. cond b i (end_from l (suc i) (drop (i + 1) rs))) (lt-leb (level_of (record_at i rs)) l k) ∙ ap (λ m. end_from l m (drop (i + 1) rs)) (sym (add-one i))
 
-pub end_found : (l i : ℕ) (rs : List Record) → i < length rs → level_of (record_at i rs) ≤ l → end_from l i (drop i rs) ≡ i
-end_found l i rs h k = ap (end_from l i) (from_index rs i h) ∙ ap (λ b. cond b i (end_from l (suc i) (drop (i + 1) rs))) (le-leb (level_of (record_at i rs)) l k)
-
-pub end_none : (l i : ℕ) (rs : List Record) → length rs ≤ i → end_from l i (drop i rs) ≡ i
-end_none l i rs h = ap (end_from l i) (drop_all i rs h)
-
 -- the end of a run
 
 pub run_step : (l i : ℕ) (rs : List Record) → i < length rs → is_run l (record_at i rs) ≡ true → run_from l i (drop i rs) ≡ run_from l (i + 1) (drop (i + 1) rs)
 run_step l i rs h k = ap (run_from l i) (from_index rs i h) ∙ ap (λ b. cond b (run_from l (suc i) (drop (i + 1) rs)) i) k ∙ ap (λ m. run_from l m (drop (i + 1) rs)) (sym (add-one i))
 
-pub run_found : (l i : ℕ) (rs : List Record) → i < length rs → is_run l (record_at i rs) ≡ false → run_from l i (drop i rs) ≡ i
-run_found l i rs h k = ap (run_from l i) (from_index rs i h) ∙ ap (λ b. cond b (run_from l (suc i) (drop (i + 1) rs)) i) k
-
 pub run_none : (l i : ℕ) (rs : List Record) → length rs ≤ i → run_from l i (drop i rs) ≡ i
 run_none l i rs h = ap (run_from l i) (drop_all i rs h)
 
 -- whether a run has a byte
-
-pub has_step : (l i : ℕ) (rs : List Record) → i < length rs → run_has l (drop i rs) ≡ (is_run l (record_at i rs) && (nat_lt 0 (record_at i rs).len || run_has l (drop (i + 1) rs)))
-has_step l i rs h = ap (run_has l) (from_index rs i h)
-
-pub has_none : (l i : ℕ) (rs : List Record) → length rs ≤ i → run_has l (drop i rs) ≡ false
-has_none l i rs h = ap (run_has l) (drop_all i rs h)
 
 -- the last starting tag before an index
 
@@ -48,9 +33,6 @@ pub tag_step : (l i : ℕ) (rs : List Record) → i < length rs → last_tag l 0
 tag_step l i rs h =
     let reach : 0 + length (take i rs) ≡ i = omega (arith, length-take-le i rs (omega (arith, h))) in
     ap (last_tag l 0 0) (take_at_read rs i document h).1 ∙ last_tag_append (take i rs) (record_at i rs ∷ []) l 0 0 ∙ ap (λ m. tag_or l m (last_tag l 0 0 (take i rs)) (record_at i rs)) reach
-
-pub tag_none : (l : ℕ) (rs : List Record) → last_tag l 0 0 (take 0 rs) ≡ 0
-tag_none l rs = refl
 
 -- whether a record begins a node
 

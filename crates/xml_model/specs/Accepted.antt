@@ -1,6 +1,9 @@
--- What refuses a document: eight layers, of which the first that refuses decides, over the whole document. What each layer asks for is XML
--- 1.0's or that of Namespaces in XML 1.0, as said there; the layers, their order and their places are this project's own.
-use Rattle.std.specs.Prelude.{◌≡◌, ℕ, suc, ◌+◌, ◌<◌, ◌≤◌, Bool, true, false, cond, not, ◌&&◌, ◌||◌, List, [], ◌∷◌, ◌++◌, map, length, take, nat_lt, ◌==◌, codes, bytes_eq, Option, Some, None, is_some, IsUtf8}
+-- What refuses a document: eight layers, of which the first that refuses decides, over the whole document. What each
+-- layer asks for is XML 1.0's or that of Namespaces in XML 1.0, as said there; the layers, their order and their
+-- places are this project's own.
+use Rattle.std.specs.Prelude.{◌≡◌, ℕ, suc, ◌+◌, ◌<◌, ◌≤◌, Bool, true, false, cond, not, ◌&&◌, ◌||◌, List, [], ◌∷◌}
+use Rattle.std.specs.Prelude.{◌++◌, map, length, take, nat_lt, ◌==◌, codes, bytes_eq, Option, Some, None, is_some}
+use Rattle.std.specs.Prelude.{IsUtf8}
 use Rattle.std.specs.List.{list_any}
 use Rattle.std.specs.Char.{to_ascii_lowercase}
 use Rattle.xml_model.specs.declared.Field.{Field}
@@ -8,9 +11,12 @@ use Rattle.xml_model.specs.declared.Field.TheVariants as fields
 use Rattle.xml_model.specs.declared.DocFault.{DocFault}
 use Rattle.xml_model.specs.declared.DocFault.TheVariants as faults
 use Rattle.xml_model.specs.Chars.{size, is_qname, has_colon, prefix_of, local_of}
-use Rattle.xml_model.specs.Items.{Piece, Attribute, Tag, Instruction, Leaf, Item, leaf, start_tag, empty_tag, end_tag, written_piece, written_pieces, before_value, written_attribute, spelling, begins_at, walk, walk_to_end, end_of_items, first_place, is_nil}
+use Rattle.xml_model.specs.Items.{Piece, Attribute, Tag, Instruction, Leaf, Item, leaf, start_tag, empty_tag, end_tag}
+use Rattle.xml_model.specs.Items.{written_piece, written_pieces, before_value, written_attribute, spelling, begins_at}
+use Rattle.xml_model.specs.Items.{walk, walk_to_end, end_of_items, first_place, is_nil}
 use Rattle.xml_model.specs.Nest.{Forest, done, single, empty, element, flat, is_nest}
-use Rattle.xml_model.specs.Records.{Record, records, declares, attributes_place, past_leaf, past_empty, past_start, past_element}
+use Rattle.xml_model.specs.Records.{Record, records, declares, attributes_place, past_leaf, past_empty, past_start}
+use Rattle.xml_model.specs.Records.{past_element}
 use Rattle.xml_model.specs.Content.{entity_char, value_content}
 use Rattle.xml_model.specs.Names.{Expanded, nearest, attribute_uri, xml_uri, xmlns_uri}
 use Rattle.xml_model.specs.Records.{kind_number}
@@ -22,7 +28,8 @@ pub record RefusesUtf8 (bytes : List ℕ) (at : ℕ) : Type 0 where
   pub prefix : IsUtf8 (take at bytes)
   pub longest : (n : ℕ) → at < n → n ≤ length bytes → IsUtf8 (take n bytes) → ⊥
 
--- 2. The bytes are no list of items (XML 1.0, productions 14 to 44): at is the first place where whole items end and no item begins.
+-- 2. The bytes are no list of items (XML 1.0, productions 14 to 44): at is the first place where whole items end and
+-- no item begins.
 pub record RefusesSyntax (bytes : List ℕ) (at : ℕ) : Type 0 where
   pub items : List Item
   pub walked : walk bytes items ≡ true
@@ -30,7 +37,8 @@ pub record RefusesSyntax (bytes : List ℕ) (at : ℕ) : Type 0 where
   pub within : at < length bytes
   pub none : (i : Item) → begins_at bytes at i ≡ false
 
--- 3. A reference names no built-in entity (XML 1.0, section 4.1, constraint 'Entity Declared'). Whether a piece is such a reference.
+-- 3. A reference names no built-in entity (XML 1.0, section 4.1, constraint 'Entity Declared'). Whether a piece is
+-- such a reference.
 abbrev pub is_unknown : Piece → Bool
 is_unknown (Piece.entity name) = not (is_some (entity_char name))
 is_unknown _ = false
@@ -112,8 +120,8 @@ abbrev pub DoesNotBegin : List Item → List Item → Type 0
 DoesNotBegin prefix [] = (nest : Forest) → is_nest nest ≡ true → flat nest ≡ prefix → ⊥
 DoesNotBegin prefix (i ∷ is) = BeginsNest (prefix ++ i ∷ []) → ⊥
 
--- 5. The prefix is the longest with which some nest begins: at is where it ends, and the fault is one of depth where the next item begins
--- an element inside 255 others.
+-- 5. The prefix is the longest with which some nest begins: at is where it ends, and the fault is one of depth where
+-- the next item begins an element inside 255 others.
 pub record RefusesNesting (bytes : List ℕ) (at : ℕ) (too_deep : Bool) : Type 0 where
   pub prefix : List Item
   pub rest : List Item
@@ -132,7 +140,8 @@ pub record IsDocument (bytes : List ℕ) (nest : Forest) : Type 0 where
 abbrev pub is_name_token : ℕ → Bool
 is_name_token n = list_any (λ k. n == k) (kind_number token.StartTag ∷ kind_number token.AttributeName ∷ kind_number token.NamespaceName ∷ kind_number token.Target ∷ kind_number token.PartName ∷ [])
 
--- the field of a record that is too wide: of names the whole first (2,047 bytes) and then the prefix (511), of others the token (1,048,575)
+-- the field of a record that is too wide: of names the whole first (2,047 bytes) and then the prefix (511), of others
+-- the token (1,048,575)
 abbrev pub too_wide : Record → Option Field
 too_wide r = cond (is_name_token r.token) (cond (nat_lt 2047 r.len) (Some fields.Name) (cond (nat_lt 511 r.prefix) (Some fields.Prefix) None)) (cond (nat_lt 1_048_575 r.len) (Some fields.Token) None)
 
@@ -146,12 +155,13 @@ unfoldable pub first_wide : List Record → Option (Field × ℕ)
 first_wide [] = None
 first_wide (r ∷ rs) = wide_here (too_wide r) r.offset (first_wide rs)
 
--- 7 and 8. The names of a nest in record order. Where the name of an attribute begins, if the white space before it does at a place.
+-- 7 and 8. The names of a nest in record order. Where the name of an attribute begins, if the white space before it
+-- does at a place.
 abbrev pub name_place : ℕ → Attribute → ℕ
 name_place at a = at + size a.space
 
--- what is sought among names: of an instruction, by the place of its target; of a tag and its attributes, by the tag's place and the tags
--- that hold it
+-- what is sought among names: of an instruction, by the place of its target; of a tag and its attributes, by the
+-- tag's place and the tags that hold it
 pub record Faults : Type 0 where
   pub instruction : ℕ → Instruction → List ℕ
   pub tag : ℕ → List Tag → Tag → List ℕ
@@ -168,8 +178,8 @@ over_names w tags at (single x f) = leaf_faults w at x ++ over_names w tags (pas
 over_names w tags at (empty t f) = w.tag at tags t ++ over_names w tags (past_empty at t) f
 over_names w tags at (element t inside space f) = w.tag at tags t ++ over_names w (t ∷ tags) (past_start at t) inside ++ over_names w tags (past_element at t inside space) f
 
--- 7. A name of a tag repeats an earlier one, byte for byte (XML 1.0, section 3.1, constraint 'Unique Att Spec'): the places of those
--- that do, after those seen.
+-- 7. A name of a tag repeats an earlier one, byte for byte (XML 1.0, section 3.1, constraint 'Unique Att Spec'): the
+-- places of those that do, after those seen.
 abbrev pub repeated : ℕ → List (List ℕ) → List Attribute → List ℕ
 repeated at seen [] = []
 repeated at seen (a ∷ others) = cond (list_any (bytes_eq a.name) seen) (name_place at a ∷ []) [] ++ repeated (at + size (written_attribute a)) (a.name ∷ seen) others
@@ -178,8 +188,8 @@ repeated at seen (a ∷ others) = cond (list_any (bytes_eq a.name) seen) (name_p
 abbrev pub repeats : Faults
 repeats = record { instruction = λ at i. []; tag = λ at tags t. repeated (attributes_place at t) [] t.attributes }
 
--- 8. A name offends Namespaces in XML 1.0. Whether a prefix is bound (Namespaces in XML 1.0, section 5, constraint 'Prefix Declared'); xml
--- always is.
+-- 8. A name offends Namespaces in XML 1.0. Whether a prefix is bound (Namespaces in XML 1.0, section 5, constraint
+-- 'Prefix Declared'); xml always is.
 abbrev pub is_bound : List ℕ → List Tag → Bool
 is_bound prefix tags = is_nil prefix || bytes_eq prefix (codes "xml") || is_some (nearest prefix tags)
 
@@ -196,20 +206,20 @@ same_expanded x y = same_uri x.uri y.uri && bytes_eq x.name y.name
 abbrev pub expanded_of : List Tag → Attribute → Expanded
 expanded_of tags a = record { uri = attribute_uri (prefix_of a.name) tags; name = local_of a.name }
 
--- whether a URI is one of the two that are bound to xml and xmlns for ever: Namespaces in XML 1.0, section 3, constraint 'Reserved
--- Prefixes and Namespace Names'
+-- whether a URI is one of the two that are bound to xml and xmlns for ever: Namespaces in XML 1.0, section 3,
+-- constraint 'Reserved Prefixes and Namespace Names'
 abbrev pub is_reserved : List ℕ → Bool
 is_reserved uri = bytes_eq uri xml_uri || bytes_eq uri xmlns_uri
 
--- whether a declaration offends, by its name and its value: Namespaces in XML 1.0, section 3, constraint 'Reserved Prefixes and Namespace
--- Names', and section 5, constraint 'No Prefix Undeclaring'
+-- whether a declaration offends, by its name and its value: Namespaces in XML 1.0, section 3, constraint 'Reserved
+-- Prefixes and Namespace Names', and section 5, constraint 'No Prefix Undeclaring'
 abbrev pub declaration_offends : List ℕ → List ℕ → Bool
 declaration_offends name uri =
     cond (bytes_eq name (codes "xmlns")) (is_reserved uri)
     (cond (bytes_eq name (codes "xmlns:xml")) (not (bytes_eq uri xml_uri)) (bytes_eq name (codes "xmlns:xmlns") || is_nil uri || is_reserved uri))
 
--- whether an attribute offends: by no qualified name, a bad declaration, an unbound prefix, or an expanded name that an earlier attribute
--- has (Namespaces in XML 1.0, section 6.3, constraint 'Attributes Unique')
+-- whether an attribute offends: by no qualified name, a bad declaration, an unbound prefix, or an expanded name that
+-- an earlier attribute has (Namespaces in XML 1.0, section 6.3, constraint 'Attributes Unique')
 abbrev pub attribute_offends : List Tag → List Expanded → Attribute → Bool
 attribute_offends tags seen a =
     not (is_qname a.name)

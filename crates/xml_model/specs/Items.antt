@@ -1,13 +1,15 @@
--- The items of a document, with all that was written: XML 1.0, productions 10 to 44, taken as a flat list.
--- Each text is a list of code points. That a document is first cut into items, and that a DOCTYPE is passed over as units, is this
--- project's own.
-use Rattle.std.specs.Prelude.{ℕ, ◌+◌, ◌*◌, Bool, true, false, cond, not, ◌&&◌, ◌||◌, List, [], ◌∷◌, ◌++◌, map, length, drop, ◌==◌, codes, encode_utf8_all, bytes_eq, Option, Some, None, fold}
+-- The items of a document, with all that was written: XML 1.0, productions 10 to 44, taken as a flat list. Each text
+-- is a list of code points. That a document is first cut into items, and that a DOCTYPE is passed over as units, is
+-- this project's own.
+use Rattle.std.specs.Prelude.{ℕ, ◌+◌, ◌*◌, Bool, true, false, cond, not, ◌&&◌, ◌||◌, List, [], ◌∷◌, ◌++◌, map, length}
+use Rattle.std.specs.Prelude.{drop, ◌==◌, codes, encode_utf8_all, bytes_eq, Option, Some, None, fold}
 use Rattle.std.specs.List.{list_all, flat_map}
 use Rattle.std.specs.Char.{is_ascii_digit, is_digit, digit_value, to_ascii_lowercase}
-use Rattle.xml_model.specs.Chars.{in_ranges, is_char, is_space, is_blank, is_white, is_name, is_name_char, begins, lacks}
+use Rattle.xml_model.specs.Chars.{in_ranges, is_char, is_space, is_blank, is_white, is_name, is_name_char, begins}
+use Rattle.xml_model.specs.Chars.{lacks}
 
--- what texts and values are made of: a literal character, or a reference, by a name (EntityRef, XML 1.0, production 68) or by its
--- digits in base 10 or 16 (CharRef, production 66)
+-- what texts and values are made of: a literal character, or a reference, by a name (EntityRef, XML 1.0, production
+-- 68) or by its digits in base 10 or 16 (CharRef, production 66)
 pub data Piece : Type 0 where
   literal : ℕ → Piece
   entity : List ℕ → Piece
@@ -18,8 +20,8 @@ pub data Piece : Type 0 where
 pub data Quote : Type 0 where
   single double : Quote
 
--- Attribute: XML 1.0, productions 41, 25 and 10. The white space before it, its name, the white space on both sides of its =, its quotes,
--- and its value
+-- Attribute: XML 1.0, productions 41, 25 and 10. The white space before it, its name, the white space on both sides
+-- of its =, its quotes, and its value
 pub record Attribute : Type 0 where
   pub space : List ℕ
   pub name : List ℕ
@@ -28,7 +30,8 @@ pub record Attribute : Type 0 where
   pub quote : Quote
   pub value : List Piece
 
--- the inside of a start tag or an empty tag: XML 1.0, productions 40 and 44. The white space at the end is that before its > or />
+-- the inside of a start tag or an empty tag: XML 1.0, productions 40 and 44. The white space at the end is that
+-- before its > or />
 pub record Tag : Type 0 where
   pub name : List ℕ
   pub attributes : List Attribute
@@ -66,8 +69,8 @@ pub record Doctype : Type 0 where
   pub name : List ℕ
   pub units : List DoctypeUnit
 
--- an item that is no tag: CharData with references (XML 1.0, productions 14 and 43), CDSect (18 to 21), Comment (15), PI (16), XMLDecl (23)
--- and doctypedecl (28)
+-- an item that is no tag: CharData with references (XML 1.0, productions 14 and 43), CDSect (18 to 21), Comment (15),
+-- PI (16), XMLDecl (23) and doctypedecl (28)
 pub data Leaf : Type 0 where
   text : List Piece → Leaf
   cdata : List ℕ → Leaf
@@ -76,7 +79,8 @@ pub data Leaf : Type 0 where
   declaration : Declaration → Leaf
   doctype : Doctype → Leaf
 
--- the nine kinds of item: a leaf, STag (XML 1.0, production 40), EmptyElemTag (44), and ETag (42) with its name and the white space after it
+-- the nine kinds of item: a leaf, STag (XML 1.0, production 40), EmptyElemTag (44), and ETag (42) with its name and
+-- the white space after it
 pub data Item : Type 0 where
   leaf : Leaf → Item
   start_tag : Tag → Item
@@ -215,7 +219,8 @@ abbrev pub is_nil : List ℕ → Bool
 is_nil [] = true
 is_nil (c ∷ cs) = false
 
--- PI: XML 1.0, productions 16 and 17. The target is not xml in any letters; the white space is as long as it can be; no data without it
+-- PI: XML 1.0, productions 16 and 17. The target is not xml in any letters; the white space is as long as it can be;
+-- no data without it
 abbrev pub meets_instruction : Instruction → Bool
 meets_instruction i =
     is_name i.target && not (bytes_eq (map to_ascii_lowercase i.target) (codes "xml")) && is_blank i.space && list_all is_char i.content && lacks (codes "?>") i.content
@@ -292,7 +297,8 @@ begins_with_name_char (c ∷ cs) = is_name_char c
 abbrev pub meets_doctype : Doctype → Bool
 meets_doctype d = is_white d.space && is_name d.name && not (begins_with_name_char (written_units d.units)) && list_all meets_unit d.units && has_one_subset d.units
 
--- whether a leaf meets the productions of its kind: a text is not empty and has no ]]> (XML 1.0, section 2.4), and so on
+-- whether a leaf meets the productions of its kind: a text is not empty and has no ]]> (XML 1.0, section 2.4), and so
+-- on
 abbrev pub meets_leaf : Leaf → Bool
 meets_leaf (text ps) = not (is_nil (written_pieces ps)) && list_all (meets_piece (λ c. false)) ps && lacks (codes "]]>") (written_pieces ps)
 meets_leaf (cdata cs) = list_all is_char cs && lacks (codes "]]>") cs

@@ -1,12 +1,17 @@
--- What the public functions of module `laws` promise: laws over the definitions, each of every nest or of every two of its nodes.
--- These words are this project's own.
-use Rattle.std.specs.Prelude.{◌≡◌, ℕ, suc, ◌+◌, ◌<◌, Bool, true, false, ◌&&◌, ◌||◌, List, [], ◌∷◌, ◌++◌, length, nat_lt, nat_le, filter, ◌==◌, Some, Contains}
+-- What the public functions of module `laws` promise: laws over the definitions, each of every nest or of every two
+-- of its nodes. These words are this project's own.
+use Rattle.std.specs.Prelude.{◌≡◌, ℕ, suc, ◌+◌, ◌<◌, Bool, true, false, ◌&&◌, ◌||◌, List, [], ◌∷◌, ◌++◌, length}
+use Rattle.std.specs.Prelude.{nat_lt, nat_le, filter, ◌==◌, Some, Contains}
 use Rattle.xml_model.specs.declared.Axis.{Axis}
 use Rattle.xml_model.specs.declared.Axis.TheVariants as axes
+use Rattle.xml_model.specs.declared.Kind.{Kind}
+use Rattle.xml_model.specs.declared.Kind.TheVariants as kinds
 use Rattle.xml_model.specs.Items.{Leaf, Item, begins_at, walk, end_of_items, first_place}
 use Rattle.xml_model.specs.Nest.{Forest}
-use Rattle.xml_model.specs.Records.{Record, document, records, depth_at, tag_records, attribute_records, run_records, leaf_records, forest_records, past_start}
-use Rattle.xml_model.specs.Tree.{Thing, Entry, is_reverse, reverse_if, Holder, kind_of, all, before, steps, is_self, is_some_steps, on_axis}
+use Rattle.xml_model.specs.Records.{Record, document, records, depth_at, tag_records, attribute_records, run_records}
+use Rattle.xml_model.specs.Records.{leaf_records, forest_records, past_start}
+use Rattle.xml_model.specs.Tree.{Thing, Entry, is_reverse, reverse_if, Holder, kind_of, all, before, steps, is_self}
+use Rattle.xml_model.specs.Tree.{is_some_steps, on_axis}
 use Rattle.xml_model.specs.Scan.{level_of, record_at, holder_by_scan, kind_of_token}
 
 -- a node of the tree of a nest whose first item is at first
@@ -51,6 +56,12 @@ abbrev pub is_child_thing : Thing → Bool
 is_child_thing (Thing.root first f) = false
 is_child_thing (Thing.attribute a) = false
 is_child_thing _ = true
+
+-- the kinds of what is a child where it is
+abbrev pub is_child_kind : Kind → Bool
+is_child_kind kinds.Root = false
+is_child_kind kinds.Attribute = false
+is_child_kind _ = true
 
 -- an attribute
 abbrev pub is_attribute_thing : Thing → Bool
@@ -98,7 +109,8 @@ by_indexes axes.Preceding x y = nat_le y.past x.index && is_child_thing y.what
 by_indexes axes.FollowingSibling x y = same_parent x y && nat_lt x.index y.index
 by_indexes axes.PrecedingSibling x y = same_parent x y && nat_lt y.index x.index
 
--- of a child x of z, whether y is a later sibling, or an earlier one: a child of z too, with a higher place, or a lower one
+-- of a child x of z, whether y is a later sibling, or an earlier one: a child of z too, with a higher place, or a
+-- lower one
 pub record SiblingsDecide (z x y : Entry) : Type 0 where
   pub following : on_axis axes.FollowingSibling x.path y.path ≡ (by_indexes axes.Child z y && nat_lt x.index y.index)
   pub preceding : on_axis axes.PrecedingSibling x.path y.path ≡ (by_indexes axes.Child z y && nat_lt y.index x.index)
@@ -116,4 +128,6 @@ list_by_indexes axis x es = reverse_if (is_reverse axis) (filter (by_indexes axi
 
 -- at most one item begins at each place that a walk reaches: the first place, and each where whole items end
 abbrev pub OneItem : List ℕ → Type 0
-OneItem bytes = (items : List Item) → walk bytes items ≡ true → (i j : Item) → begins_at bytes (end_of_items (first_place bytes) items) i ≡ true → begins_at bytes (end_of_items (first_place bytes) items) j ≡ true → i ≡ j
+OneItem bytes = (items : List Item) → walk bytes items ≡ true → (i j : Item) →
+    begins_at bytes (end_of_items (first_place bytes) items) i ≡ true →
+    begins_at bytes (end_of_items (first_place bytes) items) j ≡ true → i ≡ j

@@ -1,5 +1,7 @@
--- The location caches: the elements of depth 1 to 3, of the tree, and by the records alone. All of it is this project's own.
-use Rattle.std.specs.Prelude.{ℕ, suc, ◌+◌, ◌*◌, ◌^◌, Bool, true, false, cond, ◌&&◌, List, [], ◌∷◌, ◌++◌, map, length, drop, nat_le, ◌==◌, Option, Some, None, filter, position, option_and_then}
+-- The location caches: the elements of depth 1 to 3, of the tree, and by the records alone. All of it is this
+-- project's own.
+use Rattle.std.specs.Prelude.{ℕ, suc, ◌+◌, ◌*◌, ◌^◌, Bool, true, false, cond, ◌&&◌, List, [], ◌∷◌, ◌++◌, map, length}
+use Rattle.std.specs.Prelude.{drop, nat_le, ◌==◌, Option, Some, None, filter, position, option_and_then}
 use Rattle.std.specs.Option.{unwrap_or}
 use Rattle.xml_model.specs.Records.{Record}
 use Rattle.xml_model.specs.Tree.{Thing, Entry, steps, is_child}

@@ -1,15 +1,17 @@
--- The records of a nest: for each token its type, the depth, the lengths of its prefix and of the whole, and its place. All of it is this
--- project's own.
+-- The records of a nest: for each token its type, the depth, the lengths of its prefix and of the whole, and its
+-- place. All of it is this project's own.
 use Rattle.std.specs.Prelude.{ℕ, zero, suc, ◌+◌, ◌*◌, ◌^◌, Bool, cond, ◌||◌, List, [], ◌∷◌, ◌++◌, codes, bytes_eq}
 use Rattle.std.specs.Prelude.{option_to_list}
 use Rattle.xml_model.specs.Chars.{size, prefix_of, begins}
-use Rattle.xml_model.specs.Items.{Attribute, Tag, Declaration, Leaf, text, cdata, declaration, doctype, written_pieces, written_attribute, before_value, written_leaf, written_start, written_empty, written_end, written_units}
+use Rattle.xml_model.specs.Items.{Attribute, Tag, Declaration, Leaf, text, cdata, declaration, doctype}
+use Rattle.xml_model.specs.Items.{written_pieces, written_attribute, before_value, written_leaf, written_start}
+use Rattle.xml_model.specs.Items.{written_empty, written_end, written_units}
 use Rattle.xml_model.specs.Nest.{Forest, done, single, empty, element}
 use Rattle.xml_model.specs.declared.TokenKind.{TokenKind}
 use Rattle.xml_model.specs.declared.TokenKind.TheVariants as token
 
--- a record: its type (0 to 13), the depth, the length of the prefix and of the whole in bytes, and the place. A record in parts, as the
--- lists of the tree have it; `word` packs it
+-- a record: its type (0 to 13), the depth, the length of the prefix and of the whole in bytes, and the place. A
+-- record in parts, as the lists of the tree have it; `word` packs it
 pub record Record : Type 0 where
   pub token : ℕ
   pub depth : ℕ
@@ -41,7 +43,8 @@ plain token depth cs offset = record { token = token; depth = depth; prefix = 0;
 abbrev pub named : ℕ → ℕ → List ℕ → ℕ → Record
 named token depth cs offset = record { token = token; depth = depth; prefix = size (prefix_of cs); len = size cs; offset = offset }
 
--- a declaration of a namespace: `xmlns`, or a name that begins with `xmlns:` (Namespaces in XML 1.0, productions 1 to 3)
+-- a declaration of a namespace: `xmlns`, or a name that begins with `xmlns:` (Namespaces in XML 1.0, productions 1 to
+-- 3)
 unfoldable pub declares : List ℕ → Bool
 declares name = bytes_eq name (codes "xmlns") || begins (codes "xmlns:") name
 
@@ -143,7 +146,7 @@ document = record { token = kind_number token.Document; depth = 255; prefix = 0;
 unfoldable pub records : Forest → ℕ → List Record
 records nest first = document ∷ forest_records 0 first nest
 
--- a record as a number of 64 bits: type 63..60, depth 59..52, length 51..32, place 29..0; in a name's length field the length of the
--- prefix is above eleven bits
+-- a record as a number of 64 bits: type 63..60, depth 59..52, length 51..32, place 29..0; in a name's length field
+-- the length of the prefix is above eleven bits
 unfoldable pub word : Record → ℕ
 word p = p.token * 2 ^ 60 + p.depth * 2 ^ 52 + p.prefix * 2 ^ 43 + p.len * 2 ^ 32 + p.offset

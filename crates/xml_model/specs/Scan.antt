@@ -1,6 +1,7 @@
--- What the records alone show: levels, where a node's records end, what holds it, and which records begin a node. All of it is this project's
--- own. The laws of module `laws` tie it to the tree.
-use Rattle.std.specs.Prelude.{◌≡◌, ℕ, zero, suc, ◌+◌, Bool, true, false, cond, not, ◌&&◌, ◌||◌, List, [], ◌∷◌, ◌++◌, length, take, drop, leb, nat_lt, ◌==◌, Option, Some, None}
+-- What the records alone show: levels, where a node's records end, what holds it, and which records begin a node. All
+-- of it is this project's own. The laws of module `laws` tie it to the tree.
+use Rattle.std.specs.Prelude.{◌≡◌, ℕ, zero, suc, ◌+◌, ◌<◌, ◌≤◌, Bool, true, false, cond, not, ◌&&◌, ◌||◌, List, []}
+use Rattle.std.specs.Prelude.{◌∷◌, ◌++◌, length, take, drop, leb, nat_le, nat_lt, ◌==◌, Option, Some, None}
 use Rattle.std.specs.List.{AllByRecursion, slice_index_or}
 use Rattle.xml_model.specs.declared.Kind.{Kind}
 use Rattle.xml_model.specs.declared.Kind.TheVariants as kinds
@@ -10,14 +11,28 @@ use Rattle.xml_model.specs.Tree.{Thing, all}
 use Rattle.xml_model.specs.Records.{kind_number}
 use Rattle.xml_model.specs.declared.TokenKind.TheVariants as token
 
--- the level of a record: a starting tag's depth, 0 for what no element holds, and one more than the depth of anything else. It is the
--- number of elements that hold what the record is of
+-- the level of a record: a starting tag's depth, 0 for what no element holds, and one more than the depth of anything
+-- else. It is the number of elements that hold what the record is of
 abbrev pub level_of : Record → ℕ
 level_of r = cond (r.token == kind_number token.StartTag) r.depth (cond (r.depth == 255) 0 (suc r.depth))
 
 -- the record with an index
 abbrev pub record_at : ℕ → List Record → Record
 record_at n rs = slice_index_or rs n document
+
+-- whether a record is at a level or deeper
+abbrev pub is_within : ℕ → Record → Bool
+is_within level r = nat_le level (level_of r)
+
+-- whether a record is a part of an attribute or a declaration at a level
+abbrev pub is_attribute_part : ℕ → Record → Bool
+is_attribute_part level r =
+    (r.token == kind_number token.AttributeName || r.token == kind_number token.NamespaceName
+    || r.token == kind_number token.Value) && level_of r == level
+
+-- the records from one index up to another pass a test
+abbrev pub Passes : (Record → Bool) → List Record → ℕ → ℕ → Type 0
+Passes pass rs from to = (k : ℕ) → from ≤ k → k < to → pass (record_at k rs) ≡ true
 
 -- Ends.
 
@@ -63,7 +78,8 @@ abbrev pub last_tag : ℕ → ℕ → ℕ → List Record → ℕ
 last_tag l n d [] = d
 last_tag l n d (r ∷ rs) = last_tag l (suc n) (tag_or l n d r) rs
 
--- the index of the last starting tag before record n whose depth is below that record's level; 0, the root's, where there is none
+-- the index of the last starting tag before record n whose depth is below that record's level; 0, the root's, where
+-- there is none
 abbrev pub holder_by_scan : ℕ → List Record → ℕ
 holder_by_scan n rs = last_tag (level_of (record_at n rs)) 0 0 (take n rs)
 
@@ -72,12 +88,18 @@ holder_by_scan n rs = last_tag (level_of (record_at n rs)) 0 0 (take n rs)
 -- the kind of the node that a record of a type may begin
 abbrev pub kind_of_token : ℕ → Option Kind
 kind_of_token n =
-    cond (n == kind_number token.Document) (Some kinds.Root) (cond (n == kind_number token.StartTag) (Some kinds.Element) (cond (n == kind_number token.AttributeName) (Some kinds.Attribute) (cond (is_text_token n) (Some kinds.Text)
-    (cond (n == kind_number token.Comment) (Some kinds.Comment) (cond (n == kind_number token.Target) (Some kinds.Instruction) None)))))
+    cond (n == kind_number token.Document) (Some kinds.Root)
+    (cond (n == kind_number token.StartTag) (Some kinds.Element)
+    (cond (n == kind_number token.AttributeName) (Some kinds.Attribute)
+    (cond (is_text_token n) (Some kinds.Text)
+    (cond (n == kind_number token.Comment) (Some kinds.Comment)
+    (cond (n == kind_number token.Target) (Some kinds.Instruction) None)))))
 
 -- the types of records that always begin a node: a starting tag, an attribute, a comment, an instruction
 abbrev pub is_start_token : ℕ → Bool
-is_start_token n = n == kind_number token.StartTag || n == kind_number token.AttributeName || n == kind_number token.Comment || n == kind_number token.Target
+is_start_token n =
+    n == kind_number token.StartTag || n == kind_number token.AttributeName || n == kind_number token.Comment
+    || n == kind_number token.Target
 
 -- whether the run that the records begin with has a byte
 abbrev pub run_has : ℕ → List Record → Bool
@@ -95,7 +117,9 @@ joins_prev (Some m) l = m == l
 
 -- whether the record r, with rs after it, begins a node
 abbrev pub begins_node : Option ℕ → Record → List Record → Bool
-begins_node prev r rs = is_start_token r.token || (is_text_token r.token && not (joins_prev prev (level_of r)) && run_has (level_of r) (r ∷ rs))
+begins_node prev r rs =
+    is_start_token r.token
+    || (is_text_token r.token && not (joins_prev prev (level_of r)) && run_has (level_of r) (r ∷ rs))
 
 -- the indexes, from n on, of the records that begin a node
 abbrev pub starts : ℕ → Option ℕ → List Record → List ℕ

@@ -1,6 +1,8 @@
--- The tree of a nest: its nodes in document order, each with its path, its kind, its span and the places of its records; and the twelve axes
--- as relations on paths: XPath 1.0, sections 2.2, 2.4 and 5. Namespace nodes are left out.
-use Rattle.std.specs.Prelude.{◌≡◌, ℕ, suc, ◌+◌, Bool, true, false, cond, not, ◌&&◌, ◌||◌, List, [], ◌∷◌, ◌++◌, map, length, nat_lt, ◌==◌, Option, Some, None, filter, reverse, is_some, find, Contains}
+-- The tree of a nest: its nodes in document order, each with its path, its kind, its span and the places of its
+-- records; and the twelve axes as relations on paths: XPath 1.0, sections 2.2, 2.4 and 5. Namespace nodes are left
+-- out.
+use Rattle.std.specs.Prelude.{◌≡◌, ℕ, suc, ◌+◌, Bool, true, false, cond, not, ◌&&◌, ◌||◌, List, [], ◌∷◌, ◌++◌, map}
+use Rattle.std.specs.Prelude.{length, nat_lt, ◌==◌, Option, Some, None, filter, reverse, is_some, find, Contains}
 use Rattle.std.specs.List.{list_any, cons_option}
 use Rattle.xml_model.specs.declared.Kind.{Kind}
 use Rattle.xml_model.specs.declared.Kind.TheVariants as kinds
@@ -9,7 +11,8 @@ use Rattle.xml_model.specs.declared.Axis.TheVariants as axes
 use Rattle.xml_model.specs.Chars.{size}
 use Rattle.xml_model.specs.Items.{Attribute, Tag, Instruction, Leaf, is_nil, written_attribute}
 use Rattle.xml_model.specs.Nest.{Forest, done, single, empty}
-use Rattle.xml_model.specs.Records.{declares, run_records, past_run, attributes_place, past_leaf, past_empty, past_start, past_forest, past_element, tag_records, leaf_records, forest_records}
+use Rattle.xml_model.specs.Records.{declares, run_records, past_run, attributes_place, past_leaf, past_empty}
+use Rattle.xml_model.specs.Records.{past_start, past_forest, past_element, tag_records, leaf_records, forest_records}
 
 -- Paths.
 
@@ -119,8 +122,8 @@ is_reverse _ = false
 
 -- Nodes.
 
--- what is at a node: XPath 1.0, section 5. The root with the place of the first item; an element with its tag and what is in it; an
--- attribute; a text with its texts and CDATA sections; a comment; an instruction
+-- what is at a node: XPath 1.0, section 5. The root with the place of the first item; an element with its tag and
+-- what is in it; an attribute; a text with its texts and CDATA sections; a comment; an instruction
 pub data Thing : Type 0 where
   root : ℕ → Forest → Thing
   element : Tag → Forest → Thing
@@ -143,8 +146,9 @@ pub record Holder : Type 0 where
   pub tag : Tag
   pub index : ℕ
 
--- A node: its path, what is there, the elements that hold it (the nearest one first; an attribute is held by its element),
--- where it begins and ends in the document, its first record and the first record past it and what is under it.
+-- A node: its path, what is there, the elements that hold it (the nearest one first; an attribute is held by its
+-- element), where it begins and ends in the document, its first record and the first record past it and what is under
+-- it.
 pub record Entry : Type 0 where
   pub path : Path
   pub what : Thing
@@ -163,8 +167,8 @@ abbrev pub one_if : Bool → ℕ
 one_if true = 1
 one_if false = 0
 
--- the node of an attribute, from the place, the record and the number at which it may be. A declaration of a namespace is none: XPath
--- 1.0, section 5.3. Its span runs from its name to its closing quote
+-- the node of an attribute, from the place, the record and the number at which it may be. A declaration of a
+-- namespace is none: XPath 1.0, section 5.3. Its span runs from its name to its closing quote
 abbrev pub attribute_entry : List Holder → ℕ → ℕ → ℕ → Attribute → Option Entry
 attribute_entry holders at index i a =
     cond (declares a.name) None (Some (record { path = Step.attribute i ∷ []; what = Thing.attribute a; holders = holders; start = at + size a.space; stop = at + size (written_attribute a); index = index; past = index + 2 }))
@@ -175,8 +179,8 @@ attributes holders at index i [] = []
 attributes holders at index i (a ∷ others) =
     cons_option (attribute_entry holders at index i a) (attributes holders (at + size (written_attribute a)) (index + 2) (i + one_if (not (declares a.name))) others)
 
--- where the next piece of a list of pieces is: in which elements, from which place and record place on, as which child, and whether the
--- piece before it is a text or a CDATA section
+-- where the next piece of a list of pieces is: in which elements, from which place and record place on, as which
+-- child, and whether the piece before it is a text or a CDATA section
 pub record Here : Type 0 where
   pub holders : List Holder
   pub at : ℕ
@@ -206,8 +210,8 @@ abbrev pub run : Forest → List Leaf
 run (single x f) = cons_text (is_text x) x (run f)
 run _ = []
 
--- whether a text node begins at a run: outside the root element a text is none, nor is what joins a run before it, nor empty CDATA
--- sections alone (XPath 1.0, section 5.7)
+-- whether a text node begins at a run: outside the root element a text is none, nor is what joins a run before it,
+-- nor empty CDATA sections alone (XPath 1.0, section 5.7)
 abbrev pub begins_run : List Holder → Bool → List Leaf → Bool
 begins_run [] joins xs = false
 begins_run (t ∷ holders) true xs = false

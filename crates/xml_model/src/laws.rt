@@ -1,7 +1,8 @@
 //! Laws over the definitions. Each function does nothing; its contract is the law, which the check proves. Other crates
 //! cite the lemmas of `proofs/NodeLaws.antt`, which say the same. `first` is the place of the first item.
 
-ghost use Rattle.std.specs.Prelude.{◌≡◌, ℕ, List, true, false, map, not, ◌&&◌, ◌==◌, ◌≤◌, is_some, IsUtf8};
+ghost use Rattle.std.specs.Prelude.{◌≡◌, ℕ, List, true, false, map, not, ◌&&◌, ◌==◌, ◌≤◌, is_some, length, take};
+ghost use Rattle.std.specs.Prelude.{IsUtf8};
 ghost use Rattle.std.specs.List.{list_all};
 ghost use Rattle.std.specs.List.Sorted.{IsStrictlyIncreasing};
 ghost use Rattle.std.specs.Option.{option_map};
@@ -12,9 +13,13 @@ ghost use Rattle.xml_model.specs.Items.{Item, meets, walk, walk_to_end};
 ghost use Rattle.xml_model.specs.Nest.{Forest, flat, is_nest};
 ghost use Rattle.xml_model.specs.Records.{records};
 ghost use Rattle.xml_model.specs.Tree.{Entry, all, at_index, axis_list, kind_of, on_axis};
-ghost use Rattle.xml_model.specs.Scan.{begins_by_scan, end_by_scan, holder_by_scan, kind_by_scan, past_by_scan, starts_by_scan, EndsAt};
+ghost use Rattle.xml_model.specs.Scan.{begins_by_scan, end_by_scan, holder_by_scan, kind_by_scan, past_by_scan};
+ghost use Rattle.xml_model.specs.Scan.{starts_by_scan, EndsAt};
 ghost use Rattle.xml_model.specs.Accepted.{Accepted, AcceptedTo, IsDocument, IsRefusal};
-ghost use Rattle.xml_model.specs.Laws.{by_indexes, holder_index, is_root_thing, list_by_indexes, FirstRecordShows, HasParent, IsNode, OneItem, IndexesDecide, HasRecords, SiblingsDecide};
+ghost use Rattle.xml_model.specs.Levels.{at_depth, tags_from};
+ghost use Rattle.xml_model.specs.Slots.{holder_indexes, slots_after};
+ghost use Rattle.xml_model.specs.Laws.{by_indexes, holder_index, is_root_thing, list_by_indexes, FirstRecordShows};
+ghost use Rattle.xml_model.specs.Laws.{HasParent, IsNode, OneItem, IndexesDecide, HasRecords, SiblingsDecide};
 
 /// A list of items is the print of at most one nest.
 pub fn one_nest()
@@ -31,7 +36,8 @@ pub fn document_items_meet()
     ensures { (bytes : List ℕ) (nest : Forest) → IsDocument bytes nest → list_all meets (flat nest) ≡ true }
 {}
 
-/// Where at most one item begins at each place that a walk reaches, bytes are walked to their end by at most one list of items.
+/// Where at most one item begins at each place that a walk reaches, bytes are walked to their end by at most one list
+/// of items.
 pub fn one_walk()
     ensures { (bytes : List ℕ) → OneItem bytes →
         (is js : List Item) → walk_to_end bytes is ≡ true → walk_to_end bytes js ≡ true → is ≡ js }
@@ -43,13 +49,14 @@ pub fn accepted_where_none_refuses()
         AcceptedTo bytes k → Accepted k bytes nest }
 {}
 
-/// Where at most one item begins at each place that a walk reaches, none of the first k layers refuses what is accepted so far.
+/// Where at most one item begins at each place that a walk reaches, none of the first k layers refuses what is
+/// accepted so far.
 pub fn none_refuses_accepted()
     ensures { (k : ℕ) (bytes : List ℕ) (nest : Forest) → OneItem bytes → Accepted k bytes nest → AcceptedTo bytes k }
 {}
 
-/// Where at most one item begins at each place that a walk reaches, a document has at most one refusal: the first layer that
-/// refuses does so with one fault, at one place.
+/// Where at most one item begins at each place that a walk reaches, a document has at most one refusal: the first
+/// layer that refuses does so with one fault, at one place.
 pub fn one_refusal()
     ensures { (bytes : List ℕ) → OneItem bytes →
         (f g : DocFault) → IsRefusal bytes f → IsRefusal bytes g → f ≡ g }
@@ -58,6 +65,12 @@ pub fn one_refusal()
 /// Along the tree, in document order, the places rise strictly.
 pub fn indexes_rise()
     ensures { (nest : Forest) (first : ℕ) → IsStrictlyIncreasing (map (λ e. e.index) (all nest first)) }
+{}
+
+/// At most one node begins at an index, so a kind and an index stand for at most one.
+pub fn one_node()
+    ensures { (nest : Forest) (first : ℕ) (x y : Entry) → IsNode nest first x → IsNode nest first y →
+        x.index ≡ y.index → x ≡ y }
 {}
 
 /// The records of a node are a part of all records, which begins at its place.
@@ -87,19 +100,22 @@ pub fn element_ends_by_scan()
 /// Of two nodes one is under the other exactly where its place lies in the other's range, and it is before the other
 /// in document order exactly where its place is lower.
 pub fn indexes_decide()
-    ensures { (nest : Forest) (first : ℕ) (x y : Entry) → IsNode nest first x → IsNode nest first y → IndexesDecide x y }
+    ensures { (nest : Forest) (first : ℕ) (x y : Entry) → IsNode nest first x → IsNode nest first y →
+        IndexesDecide x y }
 {}
 
 /// A node is on an axis of another exactly where their places say so.
 pub fn axes_by_indexes()
     ensures { (nest : Forest) (first : ℕ) → is_nest nest ≡ true →
-        (axis : Axis) (x y : Entry) → IsNode nest first x → IsNode nest first y → on_axis axis x.path y.path ≡ by_indexes axis x y }
+        (axis : Axis) (x y : Entry) → IsNode nest first x → IsNode nest first y →
+        on_axis axis x.path y.path ≡ by_indexes axis x y }
 {}
 
 /// The nodes on an axis, in axis order, are those that the places say.
 pub fn axis_lists_by_indexes()
     ensures { (nest : Forest) (first : ℕ) → is_nest nest ≡ true →
-        (axis : Axis) (x : Entry) → IsNode nest first x → axis_list axis x.path (all nest first) ≡ list_by_indexes axis x (all nest first) }
+        (axis : Axis) (x : Entry) → IsNode nest first x →
+        axis_list axis x.path (all nest first) ≡ list_by_indexes axis x (all nest first) }
 {}
 
 /// The siblings of a child are the other children of its parent, the later ones after it.
@@ -113,14 +129,23 @@ pub fn siblings_by_parent()
 pub fn parent_by_scan()
     ensures { (nest : Forest) (first : ℕ) → is_nest nest ≡ true →
         (x y : Entry) → IsNode nest first x → IsNode nest first y →
-        on_axis axes.Parent x.path y.path ≡ (not (is_root_thing x.what) && y.index == holder_by_scan x.index (records nest first)) }
+        on_axis axes.Parent x.path y.path
+        ≡ (not (is_root_thing x.what) && y.index == holder_by_scan x.index (records nest first)) }
 {}
 
-/// What a scan backwards from a node's first record finds is the first record of the nearest element that holds the node, and
-/// index 0, the root's, where no element does.
+/// What a scan backwards from a node's first record finds is the first record of the nearest element that holds the
+/// node, and index 0, the root's, where no element does.
 pub fn holder_by_scan_decides()
     ensures { (nest : Forest) (first : ℕ) → is_nest nest ≡ true →
         (e : Entry) → IsNode nest first e → holder_by_scan e.index (records nest first) ≡ holder_index e.holders }
+{}
+
+/// Where each starting tag that is passed is put into the slot of its depth, the slots below the level of the next
+/// record have the elements that hold what it begins, the outermost first.
+pub fn holders_by_slots()
+    ensures { (slots : List ℕ) → 255 ≤ length slots → (nest : Forest) (first : ℕ) → is_nest nest ≡ true →
+        (e : Entry) → IsNode nest first e →
+        take (length e.holders) (slots_after 0 slots (take e.index (records nest first))) ≡ holder_indexes e.holders }
 {}
 
 /// Every node but the root has a parent.
@@ -141,9 +166,15 @@ pub fn begins_by_scan_decides()
         (n : ℕ) → is_some (at_index n (all nest first)) ≡ begins_by_scan n (records nest first) }
 {}
 
-/// The kind of the node at a place is that which the record with that index begins, by the records round it; there is none where it
-/// begins none.
+/// The kind of the node at a place is that which the record with that index begins, by the records round it; there is
+/// none where it begins none.
 pub fn kind_by_scan_decides()
     ensures { (nest : Forest) (first : ℕ) → is_nest nest ≡ true → list_all meets (flat nest) ≡ true →
         (n : ℕ) → option_map (λ e. kind_of e.what) (at_index n (all nest first)) ≡ kind_by_scan n (records nest first) }
+{}
+
+/// The elements of a depth, by the tree, are the starting tags of that depth, by the records.
+pub fn elements_of_depth()
+    ensures { (nest : Forest) (first : ℕ) → is_nest nest ≡ true → list_all meets (flat nest) ≡ true →
+        (depth : ℕ) → map (λ e. e.index) (at_depth depth (all nest first)) ≡ tags_from depth 0 (records nest first) }
 {}

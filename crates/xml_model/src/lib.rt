@@ -4,9 +4,12 @@
 //! The definitions are in `specs/`; docs/DEFINITIONS.md reads them in plain words.
 #![tactic(auto)]
 
+ghost use Rattle.std.specs.Prelude.{◌≡◌};
+
 use std::marker::Model;
 
 pub mod laws;
+pub mod laws_of_contexts;
 
 /// The kinds of node of the tree (XPath 1.0, section 5; namespace nodes are left out).
 #[derive(Clone, Copy, Debug, PartialEq, Eq)]
@@ -17,6 +20,17 @@ pub enum Kind {
     Text,
     Comment,
     Instruction,
+}
+
+impl Kind {
+    ghost use Rattle.xml_model.specs.Laws.{is_child_kind};
+
+    /// Whether nodes of this kind are children where they are: all but the root and attributes.
+    pub fn is_child(self) -> bool
+        ensures { result ≡ is_child_kind self }
+    {
+        !matches!(self, Kind::Root | Kind::Attribute)
+    }
 }
 
 /// The axes along which nodes are found (XPath 1.0, section 2.2; the namespace axis is left out). `Itself` is the
@@ -38,7 +52,7 @@ pub enum Axis {
 }
 
 /// A test of an expanded name (XPath 1.0, section 2.3). An empty `uri` is no namespace.
-#[derive(Clone, Copy, Debug, PartialEq, Eq)]
+#[derive(Clone, Copy)]
 pub enum NameTest<'b> {
     /// `*`
     Any,
@@ -49,7 +63,7 @@ pub enum NameTest<'b> {
 }
 
 /// A node test (XPath 1.0, section 2.3). `Target` passes the instructions of that target.
-#[derive(Clone, Copy, Debug, PartialEq, Eq)]
+#[derive(Clone, Copy)]
 pub enum NodeTest<'b> {
     Node,
     Text,
@@ -59,8 +73,8 @@ pub enum NodeTest<'b> {
     Name(NameTest<'b>),
 }
 
-/// The kinds of token that have a record. The number of each is that of its records, in their upper four bits; docs/RECORDS.md
-/// has the table.
+/// The kinds of token that have a record. The number of each is that of its records, in their upper four bits;
+/// docs/RECORDS.md has the table.
 #[derive(Clone, Copy)]
 pub enum TokenKind {
     /// The name in a start tag or an empty tag.

@@ -1,6 +1,7 @@
 use Rattle.std.proofs.Common.{◌∙◌, arith}
 use Rattle.xml_model.specs.declared.Kind.TheVariants as kinds
-use Rattle.vtd_cursor.proofs.MoveLemmas.{first_attribute_is, no_attributes, thing_kind}
+use Rattle.vtd_cursor.proofs.MoveLemmas.{first_attribute_is, no_attributes}
+use Rattle.xml_model.proofs.Things.{thing_kind}
 use Rattle.vtd_cursor.proofs.neighbours.first_attribute_of.Goals as goal
 
 pub returns-in-Element-clause-axis : goal.returns-in-Element-clause-axis

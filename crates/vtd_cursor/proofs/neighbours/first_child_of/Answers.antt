@@ -1,4 +1,5 @@
-use Rattle.vtd_cursor.proofs.MoveLemmas.{root_first_child, element_first_child, no_child_first, thing_kind}
+use Rattle.vtd_cursor.proofs.MoveLemmas.{root_first_child, element_first_child, no_child_first}
+use Rattle.xml_model.proofs.Things.{thing_kind}
 use Rattle.xml_model.specs.declared.Kind.TheVariants as kinds
 use Rattle.vtd_cursor.proofs.neighbours.first_child_of.Goals as goal
 

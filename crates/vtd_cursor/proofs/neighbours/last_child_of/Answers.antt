@@ -1,4 +1,5 @@
-use Rattle.vtd_cursor.proofs.MoveLemmas.{root_last_child, element_last_child, no_child_last, thing_kind}
+use Rattle.vtd_cursor.proofs.MoveLemmas.{root_last_child, element_last_child, no_child_last}
+use Rattle.xml_model.proofs.Things.{thing_kind}
 use Rattle.xml_model.specs.declared.Kind.TheVariants as kinds
 use Rattle.vtd_cursor.proofs.neighbours.last_child_of.Goals as goal
 

@@ -1,5 +1,6 @@
 use Rattle.std.proofs.Common.{◌∙◌, sym, true, false}
-use Rattle.vtd_cursor.proofs.MoveLemmas.{previous_is, no_previous, thing_child}
+use Rattle.vtd_cursor.proofs.MoveLemmas.{previous_is, no_previous}
+use Rattle.xml_model.proofs.Things.{thing_child}
 use Rattle.vtd_cursor.proofs.neighbours.previous_of.Goals as goal
 
 pub returns-then-not-is_child-clause-axis : goal.returns-then-not-is_child-clause-axis

@@ -3,7 +3,7 @@ use Rattle.xml_model.specs.Laws.{is_attribute_thing}
 use Rattle.xml_model.specs.Nest.{Forest}
 use Rattle.xml_model.specs.Records.{records}
 use Rattle.vtd_words.specs.Table.{IsNestOf, nodes_of}
-use Rattle.vtd_cursor.specs.Searches.{is_attribute_part}
+use Rattle.xml_model.specs.Scan.{is_attribute_part}
 use Rattle.vtd_cursor.proofs.SearchLemmas.{PassedFrom}
 use Rattle.vtd_cursor.proofs.searches.attribute_from.Given as goal
 

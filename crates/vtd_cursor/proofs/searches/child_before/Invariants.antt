@@ -3,7 +3,7 @@ use Rattle.xml_model.specs.Laws.{is_child_thing}
 use Rattle.xml_model.specs.Nest.{Forest}
 use Rattle.xml_model.specs.Records.{records}
 use Rattle.vtd_words.specs.Table.{IsNestOf, nodes_of}
-use Rattle.vtd_cursor.specs.Searches.{is_within}
+use Rattle.xml_model.specs.Scan.{is_within}
 use Rattle.vtd_cursor.proofs.SearchLemmas.{PassedBefore}
 use Rattle.vtd_cursor.proofs.searches.child_before.Given as goal
 
