@@ -8,7 +8,8 @@ mod word_vec;
 
 pub use packing::{Parts, pack, unpack};
 pub use table::{Table, parts_at};
-pub use word_vec::{Counts, Part, WordVec, Words};
+pub use word_vec::{Part, WordVec, Words};
+pub use xml_model::Counts;
 
 #[cfg(test)]
 mod tests;

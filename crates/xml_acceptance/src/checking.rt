@@ -13,9 +13,8 @@ ghost use Rattle.xml_acceptance.specs.Verdicts.{HasNoLevels};
 
 use crate::findings::Findings;
 use crate::nest_so_far::NestSoFar;
-use vtd_words::Counts;
 use xml_items::{Counted, first_place, next_counted};
-use xml_model::DocFault;
+use xml_model::{Counts, DocFault};
 
 /// What a pass over the items has found.
 #[derive(Drop)]
