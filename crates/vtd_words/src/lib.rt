@@ -8,4 +8,5 @@ mod word_vec;
 
 pub use packing::{Parts, pack, unpack};
 pub use table::{Table, level_of, parts_at};
-pub use word_vec::{Counts, Part, WordVec, Words};
+pub use word_vec::{Part, WordVec, Words};
+pub use xml_model::Counts;

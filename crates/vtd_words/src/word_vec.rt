@@ -7,7 +7,7 @@ ghost use Rattle.vtd_words.specs.Lists.{TakesWord, none};
 
 use std::alloc::Global;
 use std::marker::Model;
-use xml_model::NoMemory;
+use xml_model::{Counts, NoMemory};
 
 /// The lists of a document's words: its records, and the elements of depth 1, 2 and 3.
 #[derive(Clone, Copy, Debug, PartialEq, Eq)]
@@ -16,15 +16,6 @@ pub enum Part {
     Level1,
     Level2,
     Level3,
-}
-
-/// How many words each part has, or is to have room for.
-#[derive(Clone, Copy, Debug, PartialEq, Eq)]
-pub struct Counts {
-    pub records: u32,
-    pub level1: u32,
-    pub level2: u32,
-    pub level3: u32,
 }
 
 /// Words that can be read.

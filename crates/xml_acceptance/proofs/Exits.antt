@@ -1,5 +1,5 @@
 -- What a pass over the items has found gives the answer, by the order of the layers.
-use Rattle.std.proofs.Common.{◌≡◌, ℕ, suc, ◌+◌, ◌<◌, ◌≤◌, Bool, true, false, List, [], ◌∷◌, ◌++◌, length, Option, Some, None, refl, sym, ap, subst, ◌∙◌, arith, append-nil, append_assoc}
+use Rattle.std.proofs.Common.{◌≡◌, ℕ, suc, ◌+◌, ◌*◌, ◌<◌, ◌≤◌, Bool, true, false, List, [], ◌∷◌, ◌++◌, length, Option, Some, None, refl, sym, ap, subst, ◌∙◌, arith, append-nil, append_assoc}
 use Rattle.std.specs.Prelude.{IsUtf8, ◌&&◌, ◌==◌}
 use Rattle.std.specs.Str.{IsValidUpTo}
 use Rattle.std.proofs.lemmas.Bool.{and_from, eq-eqb, false≢true}
@@ -11,7 +11,6 @@ use Rattle.xml_model.specs.Items.{Item, spelling, begins_at, walk, walk_to_end, 
 use Rattle.xml_model.specs.Nest.{Forest, is_nest, flat}
 use Rattle.xml_model.specs.Records.{Record, document, records}
 use Rattle.xml_model.specs.Accepted.{RefusesItem, RefusesNesting, DoesNotBegin, is_opening, IsDocument, over_items, unknown_item, encoding_item, first_wide, Refuses, IsRefusal, Accepted, AcceptedTo, layer}
-use Rattle.xml_model.proofs.Bridge.{one_walk, no_syntax, no_utf8}
 use Rattle.xml_items.specs.declared.Item.{Item as ItemShown}
 use Rattle.xml_items.specs.declared.Counted.{Counted}
 use Rattle.xml_items.specs.Counted.{IsCountedAt}
@@ -22,13 +21,13 @@ use Rattle.xml_acceptance.specs.Ampersands.{first}
 use Rattle.xml_acceptance.specs.Machine.{Phase, whole, head, body, tail, State, state, run, items_records}
 use Rattle.xml_acceptance.specs.Open.{is_end, is_deep}
 use Rattle.xml_acceptance.specs.Passes.{past_items, Finds, Goes, Stops, NestsBy, Nests, Passes, nesting_fault}
-use Rattle.xml_items.proofs.PlaceLaws.{one_item_on_walks}
 use Rattle.xml_acceptance.proofs.Placement.{hold}
 use Rattle.xml_acceptance.proofs.Tokens.{tokens_whole}
 use Rattle.xml_acceptance.proofs.Prefixes.{taken_begins, stops_begins, open_no_nest, open_taken, ends_nest}
 use Rattle.xml_acceptance.proofs.OneAnswer.{one_document}
-use Rattle.xml_acceptance.proofs.SomeAnswer.{walk_more}
+use Rattle.xml_acceptance.proofs.Layers.{walk_more, Whole, none_to, utf8_to, is_refusal, first_refusal, nesting_layer, nesting_refusal}
 use Rattle.xml_acceptance.proofs.OneMore.{past_more}
+use Rattle.xml_acceptance.proofs.HalfLaws.{document_half}
 
 -- ---- one item more
 
@@ -50,77 +49,16 @@ later_end bytes at found a =
     let s = hold bytes at a.item a.begins in
     (omega (arith, end, s.some), omega (arith, end, s.within))
 
--- ---- which layers don't refuse
-
--- items that go to the end
-pub record Whole (bytes : List ℕ) (items : List Item) : Type 0 where
-  pub utf8 : IsUtf8 bytes
-  pub walked : walk_to_end bytes items ≡ true
+-- ---- whole items
 
 pub whole_pass : (bytes : List ℕ) (pass : Pass) → IsUtf8 bytes → (p : Passes bytes pass (length bytes)) → Whole bytes p.items
 unfolding walk_to_end
 whole_pass bytes pass u p = record { utf8 = u; walked = and_from _ _ p.walked (eq-eqb (past_items bytes p.items) (length bytes) p.ends) }
 
-no_item : (f : ℕ → Item → List ℕ) (bytes : List ℕ) (items : List Item) (at : ℕ) → Whole bytes items → over_items f (first_place bytes) items ≡ [] → RefusesItem f bytes at → ⊥
-no_item f bytes items at w e r =
-    let same : r.items ≡ items = one_walk bytes (one_item_on_walks bytes w.utf8) r.items items r.walked w.walked in
-    let h : at ∷ r.others ≡ [] = sym r.first ∙ ap (over_items f (first_place bytes)) same ∙ e in
-    cc
-
-no_longest : (prefix rest : List Item) (nest : Forest) → is_nest nest ≡ true → flat nest ≡ prefix ++ rest → DoesNotBegin prefix rest → ⊥
-no_longest prefix [] nest n e h = h nest n (e ∙ append-nil prefix)
-no_longest prefix (i ∷ is) nest n e h = h (record { nest = nest; rest = is; nests = n; split = e ∙ sym (append_assoc prefix (i ∷ []) is) })
-
-no_nesting : (bytes : List ℕ) (items : List Item) (at : ℕ) (deep : Bool) → Whole bytes items → run [] whole items ≡ Some (state [] tail) → RefusesNesting bytes at deep → ⊥
-no_nesting bytes items at deep w ends r =
-    let n = ends_nest items ends in
-    no_longest r.prefix r.rest n.0 n.1 (n.2 ∙ one_walk bytes (one_item_on_walks bytes w.utf8) items (r.prefix ++ r.rest) w.walked r.walked) r.longest
-
--- the layers of whole items, up to one
-none_to : (bytes : List ℕ) (items : List Item) (k : ℕ) → Whole bytes items → k ≤ 5 → (3 ≤ k → over_items unknown_item (first_place bytes) items ≡ []) → (4 ≤ k → over_items encoding_item (first_place bytes) items ≡ [])
-    → (5 ≤ k → run [] whole items ≡ Some (state [] tail)) → AcceptedTo bytes k
-none_to bytes items k w m entity encoding ends (faults.Utf8 at) l = no_utf8 bytes at w.utf8
-none_to bytes items k w m entity encoding ends (faults.Syntax at) l = no_syntax bytes items at (one_item_on_walks bytes w.utf8) w.walked
-none_to bytes items k w m entity encoding ends (faults.Entity at) l = no_item unknown_item bytes items at w (entity l)
-none_to bytes items k w m entity encoding ends (faults.Encoding at) l = no_item encoding_item bytes items at w (encoding l)
-none_to bytes items k w m entity encoding ends (faults.Nesting at) l = no_nesting bytes items at false w (ends l)
-none_to bytes items k w m entity encoding ends (faults.Depth at) l = no_nesting bytes items at true w (ends l)
-none_to bytes items k w m entity encoding ends (faults.Width field at) l = absurd (omega (arith, l, m))
-none_to bytes items k w m entity encoding ends (faults.Twice at) l = absurd (omega (arith, l, m))
-none_to bytes items k w m entity encoding ends (faults.Namespace at) l = absurd (omega (arith, l, m))
-
--- the fault is the refusal, where no lower layer refuses
-is_refusal : (bytes : List ℕ) (fault : DocFault) (k : ℕ) → layer fault ≡ suc k → AcceptedTo bytes k → Refuses bytes fault → IsRefusal bytes fault
-is_refusal bytes fault k e none r = record { refuses = r; first = λ other l. none other (omega (arith, l, e)) }
-
 -- ---- the faults
 
 pub refused_utf8 : (bytes : List ℕ) (at : ℕ) → IsValidUpTo bytes at → IsRefusal bytes (faults.Utf8 at)
-refused_utf8 bytes at v =
-    record { refuses = record { within = v.short; prefix = v.front; longest = λ n l m. v.longest n l }; first = λ other l r. no_layer other l }
-  where
-    no_layer : (other : DocFault) → layer other < 1 → ⊥
-    no_layer (faults.Utf8 n) l = omega (arith, l)
-    no_layer (faults.Syntax n) l = omega (arith, l)
-    no_layer (faults.Entity n) l = omega (arith, l)
-    no_layer (faults.Encoding n) l = omega (arith, l)
-    no_layer (faults.Nesting n) l = omega (arith, l)
-    no_layer (faults.Depth n) l = omega (arith, l)
-    no_layer (faults.Width field n) l = omega (arith, l)
-    no_layer (faults.Twice n) l = omega (arith, l)
-    no_layer (faults.Namespace n) l = omega (arith, l)
-
--- only the first layer is below the second
-utf8_to : (bytes : List ℕ) → IsUtf8 bytes → AcceptedTo bytes 1
-utf8_to bytes u (faults.Utf8 at) l = no_utf8 bytes at u
-utf8_to bytes u (faults.Syntax at) l = absurd (omega (arith, l))
-utf8_to bytes u (faults.Entity at) l = absurd (omega (arith, l))
-utf8_to bytes u (faults.Encoding at) l = absurd (omega (arith, l))
-utf8_to bytes u (faults.Nesting at) l = absurd (omega (arith, l))
-utf8_to bytes u (faults.Depth at) l = absurd (omega (arith, l))
-utf8_to bytes u (faults.Width field at) l = absurd (omega (arith, l))
-utf8_to bytes u (faults.Twice at) l = absurd (omega (arith, l))
-utf8_to bytes u (faults.Namespace at) l = absurd (omega (arith, l))
+refused_utf8 bytes at v = first_refusal bytes at (record { within = v.short; prefix = v.front; longest = λ n l m. v.longest n l })
 
 pub refused_syntax : (bytes : List ℕ) (pass : Pass) (at : ℕ) → IsUtf8 bytes → Passes bytes pass at → at < length bytes → HasNoItem bytes at → IsRefusal bytes (faults.Syntax at)
 refused_syntax bytes pass at u p l none = is_refusal bytes (faults.Syntax at) 1 refl (utf8_to bytes u) (record { items = p.items; walked = p.walked; ends = p.ends; within = l; none = none })
@@ -140,8 +78,12 @@ refuses_item f bytes items at w e = let o = first_is (over_items f (first_place 
 pub refused_entity : (bytes : List ℕ) (pass : Pass) (at : ℕ) → IsUtf8 bytes → Passes bytes pass (length bytes) → pass.found.entity ≡ Some at → IsRefusal bytes (faults.Entity at)
 refused_entity bytes pass at u p e =
     let w = whole_pass bytes pass u p in
-    is_refusal bytes (faults.Entity at) 2 refl (none_to bytes p.items 2 w (omega arith) (λ l. absurd (omega (arith, l))) (λ l. absurd (omega (arith, l))) (λ l. absurd (omega (arith, l))))
-    (refuses_item unknown_item bytes p.items at w (sym p.finds.entity ∙ e))
+    let none = none_to bytes p.items 2 w (omega arith) (record {
+      entities = λ l. absurd (omega (arith, l));
+      encoding = λ l. absurd (omega (arith, l));
+      nests = λ l. absurd (omega (arith, l));
+    }) in
+    is_refusal bytes (faults.Entity at) 2 refl none (refuses_item unknown_item bytes p.items at w (sym p.finds.entity ∙ e))
 
 no_entities : (bytes : List ℕ) (pass : Pass) (at : ℕ) → (p : Passes bytes pass at) → pass.found.entity ≡ None → over_items unknown_item (first_place bytes) p.items ≡ []
 no_entities bytes pass at p e = first_none (over_items unknown_item (first_place bytes) p.items) (sym p.finds.entity ∙ e)
@@ -152,8 +94,12 @@ no_encoding bytes pass at p e = first_none (over_items encoding_item (first_plac
 pub refused_encoding : (bytes : List ℕ) (pass : Pass) (at : ℕ) → IsUtf8 bytes → Passes bytes pass (length bytes) → pass.found.entity ≡ None → pass.found.encoding ≡ Some at → IsRefusal bytes (faults.Encoding at)
 refused_encoding bytes pass at u p none e =
     let w = whole_pass bytes pass u p in
-    is_refusal bytes (faults.Encoding at) 3 refl (none_to bytes p.items 3 w (omega arith) (λ l. no_entities bytes pass (length bytes) p none) (λ l. absurd (omega (arith, l))) (λ l. absurd (omega (arith, l))))
-    (refuses_item encoding_item bytes p.items at w (sym p.finds.encoding ∙ e))
+    let lower = none_to bytes p.items 3 w (omega arith) (record {
+      entities = λ l. no_entities bytes pass (length bytes) p none;
+      encoding = λ l. absurd (omega (arith, l));
+      nests = λ l. absurd (omega (arith, l));
+    }) in
+    is_refusal bytes (faults.Encoding at) 3 refl lower (refuses_item encoding_item bytes p.items at w (sym p.finds.encoding ∙ e))
 
 -- ---- nesting
 
@@ -164,15 +110,11 @@ pub record IsPlain (pass : Pass) : Type 0 where
 
 below_nesting : (bytes : List ℕ) (pass : Pass) → (w : IsUtf8 bytes) → Passes bytes pass (length bytes) → IsPlain pass → AcceptedTo bytes 4
 below_nesting bytes pass u p n =
-    none_to bytes p.items 4 (whole_pass bytes pass u p) (omega arith) (λ l. no_entities bytes pass (length bytes) p n.entity) (λ l. no_encoding bytes pass (length bytes) p n.encoding) (λ l. absurd (omega (arith, l)))
-
-refuses_nesting : (bytes : List ℕ) (at : ℕ) (deep : Bool) → RefusesNesting bytes at deep → Refuses bytes (nesting_fault at deep)
-refuses_nesting bytes at false r = r
-refuses_nesting bytes at true r = r
-
-pub nesting_layer : (at : ℕ) (deep : Bool) → layer (nesting_fault at deep) ≡ 5
-nesting_layer at false = refl
-nesting_layer at true = refl
+    none_to bytes p.items 4 (whole_pass bytes pass u p) (omega arith) (record {
+      entities = λ l. no_entities bytes pass (length bytes) p n.entity;
+      encoding = λ l. no_encoding bytes pass (length bytes) p n.encoding;
+      nests = λ l. absurd (omega (arith, l));
+    })
 
 stops_refuses : (bytes : List ℕ) (fault : DocFault) (items : List Item) → Whole bytes items → (s : Stops bytes fault items) → RefusesNesting bytes (past_items bytes s.prefix) (is_deep s.now.names s.item)
 stops_refuses bytes fault items w s = record {
@@ -194,7 +136,7 @@ refused_nesting bytes pass fault u p n e =
     let s = fault_of pass.nest.fault fault bytes pass.nest p.items e p.nests in
     let at = past_items bytes s.prefix in
     let deep = is_deep s.now.names s.item in
-    let r = is_refusal bytes (nesting_fault at deep) 4 (nesting_layer at deep) (below_nesting bytes pass u p n) (refuses_nesting bytes at deep (stops_refuses bytes fault p.items (whole_pass bytes pass u p) s)) in
+    let r = nesting_refusal bytes at deep (below_nesting bytes pass u p n) (stops_refuses bytes fault p.items (whole_pass bytes pass u p) s) in
     (subst (IsRefusal bytes) (sym s.fault_is) r, ap layer s.fault_is ∙ nesting_layer at deep)
 
 pub fault_none : (o : Option DocFault) (bytes : List ℕ) (nest : NestSoFar) (items : List Item) → o ≡ None → NestsBy o bytes nest items → Goes bytes nest items
@@ -262,9 +204,12 @@ refused_width bytes pass field at u p n g e wide =
     let w = whole_pass bytes pass u p in
     let ends = ran_to_end bytes pass.nest p.items g e in
     let h = has_nest bytes p.items w ends in
-    is_refusal bytes (faults.Width field at) 5 refl
-    (none_to bytes p.items 5 w (omega arith) (λ l. no_entities bytes pass (length bytes) p n.entity) (λ l. no_encoding bytes pass (length bytes) p n.encoding) (λ l. ends))
-    (record { nest = h.nest; document = h.is_document; first = widths_are bytes pass.nest p.items h g ∙ wide })
+    let none = none_to bytes p.items 5 w (omega arith) (record {
+      entities = λ l. no_entities bytes pass (length bytes) p n.entity;
+      encoding = λ l. no_encoding bytes pass (length bytes) p n.encoding;
+      nests = λ l. ends;
+    }) in
+    is_refusal bytes (faults.Width field at) 5 refl none (record { nest = h.nest; document = h.is_document; first = widths_are bytes pass.nest p.items h g ∙ wide })
 
 pub accepted_nest : (bytes : List ℕ) (pass : Pass) → IsUtf8 bytes → (p : Passes bytes pass (length bytes)) → IsPlain pass → (g : Goes bytes pass.nest p.items) → is_end g.now ≡ true → pass.nest.wide ≡ None → (nest : Forest) × Accepted 6 bytes nest
 accepted_nest bytes pass u p n g e wide =
@@ -285,4 +230,9 @@ accepted_nest bytes pass u p n g e wide =
 pub counted_records : (bytes : List ℕ) (pass : Pass) → IsUtf8 bytes → (p : Passes bytes pass (length bytes)) → (g : Goes bytes pass.nest p.items) → is_end g.now ≡ true → (nest : Forest) → Accepted 6 bytes nest → pass.nest.records ≡ length (records nest (first_place bytes))
 counted_records bytes pass u p g e nest a =
     let h = has_nest bytes p.items (whole_pass bytes pass u p) (ran_to_end bytes pass.nest p.items g e) in
-    g.counted ∙ ap (λ (l : List Record). length l) (sym h.records_are) ∙ ap (λ (f : Forest). length (records f (first_place bytes))) (one_document bytes h.nest nest u h.is_document a.document)
+    g.counted ∙ ap (λ (l : List Record). length l) (sym h.records_are) ∙ ap (λ (f : Forest). length (records f (first_place bytes))) (one_document bytes h.nest nest h.is_document a.document)
+
+pub half_records : (bytes : List ℕ) (pass : Pass) → IsUtf8 bytes → (p : Passes bytes pass (length bytes)) → (g : Goes bytes pass.nest p.items) → is_end g.now ≡ true → 2 * pass.nest.records ≤ length bytes
+half_records bytes pass u p g e =
+    let h = has_nest bytes p.items (whole_pass bytes pass u p) (ran_to_end bytes pass.nest p.items g e) in
+    omega (arith, document_half bytes h.nest h.is_document, g.counted, ap (λ (l : List Record). length l) h.records_are)

@@ -1,6 +1,7 @@
 pub mod Nests
 pub mod Tokens
 pub mod Prefixes
+pub mod Layers
 pub mod OneAnswer
 pub mod SomeAnswer
 pub mod ByteLemmas
@@ -17,3 +18,5 @@ pub mod Stacks
 pub mod Shapes
 pub mod OneMore
 pub mod Exits
+pub mod Apart
+pub mod HalfLaws

@@ -20,6 +20,10 @@ run-append (x ∷ xs) ys names phase = go (step names phase x) (λ m p. run-appe
 pub run_then : (xs ys : List Item) (names : List (List ℕ)) (phase : Phase) (s : State) → run names phase xs ≡ Some s → run names phase (xs ++ ys) ≡ run s.names s.phase ys
 run_then xs ys names phase s e = run-append xs ys names phase ∙ ap (option_and_then (λ t. run t.names t.phase ys)) e
 
+pub one_step : (s : State) (i : Item) (t : State) → step s.names s.phase i ≡ Some t → run s.names s.phase (i ∷ []) ≡ Some t
+unfolding run
+one_step s i t e = run_one s.names s.phase i [] t e
+
 -- what begins a nest is taken
 pub begins_taken : (items : List Item) → BeginsNest items → (s : State) × (run [] whole items ≡ Some s)
 begins_taken items b =

@@ -1,7 +1,7 @@
 //! Whether bytes are an XML document, as far as the widths of records.
 #![tactic(auto)]
 
-ghost use Rattle.std.specs.Prelude.{◌≡◌, ◌+◌, ◌^◌, ◌≤◌, ◌<◌, length, IfErr, IfOk, OnOk};
+ghost use Rattle.std.specs.Prelude.{◌≡◌, ◌*◌, ◌^◌, ◌≤◌, ◌<◌, length, IfErr, IfOk, OnOk};
 ghost use Rattle.std.specs.Str.{IsCharBoundary, IsUtf8};
 ghost use Rattle.xml_model.specs.Items.{first_place};
 ghost use Rattle.xml_model.specs.Nest.{Forest};
@@ -13,9 +13,8 @@ ghost use Rattle.xml_acceptance.specs.Verdicts.{HasNoLevels};
 
 use crate::findings::Findings;
 use crate::nest_so_far::NestSoFar;
-use vtd_words::Counts;
 use xml_items::{Counted, first_place, next_counted};
-use xml_model::DocFault;
+use xml_model::{Counts, DocFault};
 
 /// What a pass over the items has found.
 #[derive(Drop)]
@@ -59,7 +58,7 @@ impl Pass {
         ensures accepted { OnOk result ((nest : Forest) × Accepted 6 bytes.now nest) }
         ensures records { IfOk result (λ counts. (nest : Forest) → Accepted 6 bytes.now nest →
             counts.records ≡ length (records nest (first_place bytes.now))) }
-        ensures few { IfOk result (λ counts. counts.records ≤ length bytes.now + 1) }
+        ensures half { IfOk result (λ counts. 2 * counts.records ≤ length bytes.now) }
         ensures levels { IfOk result HasNoLevels }
         ensures refused { IfErr result (IsRefusal bytes.now) }
         ensures layers { IfErr result (λ fault. layer fault ≤ 6) }
@@ -139,7 +138,7 @@ pub fn check(bytes: &[u8]) -> Result<Counts, DocFault>
     ensures accepted { OnOk result ((nest : Forest) × Accepted 6 bytes.now nest) }
     ensures records { IfOk result (λ counts. (nest : Forest) → Accepted 6 bytes.now nest →
         counts.records ≡ length (records nest (first_place bytes.now))) }
-    ensures few { IfOk result (λ counts. counts.records ≤ length bytes.now + 1) }
+    ensures half { IfOk result (λ counts. 2 * counts.records ≤ length bytes.now) }
     ensures levels { IfOk result HasNoLevels }
     ensures refused { IfErr result (IsRefusal bytes.now) }
     ensures layers { IfErr result (λ fault. layer fault ≤ 6) }

@@ -15,6 +15,3 @@ mod phases;
 mod widths;
 
 pub use checking::check;
-
-#[cfg(test)]
-mod tests;

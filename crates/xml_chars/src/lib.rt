@@ -125,6 +125,3 @@ pub fn reference_at(bytes: &[u8], at: u32) -> Option<Reference>
         },
     })
 }
-
-#[cfg(test)]
-mod tests;

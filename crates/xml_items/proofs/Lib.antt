@@ -18,3 +18,4 @@ pub mod AttributeLemmas
 pub mod PlaceLaws
 pub mod CountLemmas
 pub mod ByteRuns
+pub mod OneItem

@@ -1,4 +1,4 @@
--- Where items are: between characters, and at most one at each place that a walk reaches.
+-- Where items are: between characters, and so are their spans.
 use Rattle.std.proofs.Common.{◌≡◌, ℕ, ◌+◌, true, inl, inr, List, [], ◌∷◌, ◌++◌, length, drop, refl, sym, ap, subst, ◌∙◌, arith, append_assoc}
 use Rattle.std.specs.Prelude.{codes, ◌&&◌}
 use Rattle.std.specs.Str.{IsUtf8, chars, IsCharBoundary}
@@ -9,7 +9,6 @@ use Rattle.std.proofs.lemmas.Str.{IsUtf8-drop, IsCharBoundary-start}
 use Rattle.xml_model.specs.Chars.{begins, size}
 use Rattle.xml_model.specs.Items.{Tag, Declaration, Item, leaf, Leaf, start_tag, empty_tag, end_tag, written, written_pieces, written_attributes, written_units, spelling, meets, ends_well, may_begin_at, begins_at, first_place, byte_order_mark, walk_from, walk, end_of_items}
 use Rattle.xml_model.specs.Records.{declaration_attributes}
-use Rattle.xml_model.specs.Laws.{OneItem}
 use Rattle.xml_chars.specs.Places.{span_from, IsTextSpan}
 use Rattle.xml_chars.proofs.HoldLemmas.{prefix_holds, size-append}
 use Rattle.xml_chars.proofs.SpanPlaces.{prefix_ends, part_holds}
@@ -19,7 +18,6 @@ use Rattle.xml_items.specs.declared.Item.{Item as ItemShown}
 use Rattle.xml_items.specs.declared.Counted.{Counted}
 use Rattle.xml_items.proofs.SpanLemmas.{spelled, size_1, size_slash, size_comment, size_cdata, size_question, size_xml, size_doctype}
 use Rattle.xml_items.proofs.AttributeLemmas.{parts_split}
-use Rattle.xml_items.proofs.WalkLemmas.{one_item}
 
 -- the characters of an item that begins at a place
 pub written_at : (bytes : List ℕ) (at : ℕ) (i : Item) → IsUtf8 bytes → IsCharBoundary bytes at → begins_at bytes at i ≡ true → (v : List ℕ) × (chars (drop at bytes) ≡ written i ++ v)
@@ -65,9 +63,6 @@ walked_from bytes p (i ∷ is) u b h =
 pub walk_boundary : (bytes : List ℕ) (is : List Item) → IsUtf8 bytes → walk bytes is ≡ true → IsCharBoundary bytes (end_of_items (first_place bytes) is)
 unfolding walk
 walk_boundary bytes is u h = walked_from bytes (first_place bytes) is u (first_boundary bytes u) h
-
-pub one_item_on_walks : (bytes : List ℕ) → IsUtf8 bytes → OneItem bytes
-one_item_on_walks bytes u is h i j a b = one_item bytes (end_of_items (first_place bytes) is) i j (IsUtf8-drop bytes (end_of_items (first_place bytes) is) u (walk_boundary bytes is u h)) a b
 
 -- ---- the spans of an item
 

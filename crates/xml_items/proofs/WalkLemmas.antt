@@ -1,5 +1,5 @@
 -- The item at a place, by the reader of what is there.
-use Rattle.std.proofs.Common.{◌≡◌, ℕ, ◌+◌, ◌<◌, ◌≤◌, Bool, true, false, inl, inr, cond, List, [], ◌∷◌, ◌++◌, length, drop, Option, Some, None, refl, sym, ap, subst, ◌∙◌, arith, lit<}
+use Rattle.std.proofs.Common.{◌≡◌, ℕ, ◌+◌, ◌<◌, ◌≤◌, Bool, true, false, inl, inr, ◌⊎◌, cond, List, [], ◌∷◌, ◌++◌, length, drop, Option, Some, None, refl, sym, ap, subst, ◌∙◌, arith, lit<}
 use Rattle.std.specs.Prelude.{codes, ◌==◌, ◌&&◌}
 use Rattle.std.specs.Str.{IsUtf8, chars, IsCharBoundary}
 use Rattle.std.specs.List.{starts_with}
@@ -152,7 +152,7 @@ hold_to (start_tag t) first p h = refl
 hold_to (empty_tag t) first p h = refl
 hold_to (end_tag n s) first p h = refl
 
-hold_from : (b : Bool) (i : Item) (first p : ℕ) → (p == first) ≡ b → may_begin_at i first p ≡ true → may_begin b i ≡ true
+pub hold_from : (b : Bool) (i : Item) (first p : ℕ) → (p == first) ≡ b → may_begin_at i first p ≡ true → may_begin b i ≡ true
 hold_from true i first p e h = refl
 hold_from false (leaf (Leaf.text x)) first p e h = refl
 hold_from false (leaf (Leaf.cdata x)) first p e h = refl
@@ -227,17 +227,19 @@ none_some x e = absurd (cc)
 item_there : (bytes text : List ℕ) (at : ℕ) (i : Item) → text ≡ drop at bytes → IsUtf8 text → begins_at bytes at i ≡ true → None ≡ counts at (read_item (at == first_place bytes) (chars text)) → ⊥
 item_there bytes text at i is u b e = none_some (counted_shown at i) (e ∙ ap (counts at) (item_read bytes text at i is u b).1)
 
-pub one_item : (bytes : List ℕ) (at : ℕ) (i j : Item) → IsUtf8 (drop at bytes) → begins_at bytes at i ≡ true → begins_at bytes at j ≡ true → i ≡ j
-one_item bytes at i j u a b =
-    let x = item_read bytes (drop at bytes) at i refl u a in
-    let y = item_read bytes (drop at bytes) at j refl u b in
-    ap (λ (z : Item × List ℕ). z.0) (same_Some (i, x.0) (j, y.0) (sym x.1 ∙ y.1))
-
 pub item_complete : (bytes text : List ℕ) (at : ℕ) → text ≡ drop at bytes → IsUtf8 text → None ≡ counts at (read_item (at == first_place bytes) (chars text)) → HasNoItem bytes at
 item_complete bytes text at is u e i = false_from_ne_true _ (λ b. item_there bytes text at i is u b e)
 
 pub item_complete_at : (bytes text : List ℕ) (at : ℕ) (first : Bool) → text ≡ drop at bytes → IsUtf8 text → first ≡ (at == first_place bytes) → None ≡ counts at (read_item first (chars text)) → HasNoItem bytes at
 item_complete_at bytes text at first is u f e = item_complete bytes text at is u (e ∙ ap (λ (b : Bool). counts at (read_item b (chars text))) f)
+
+-- an item begins at a place, or none does
+pub item_or_none : (bytes : List ℕ) (at : ℕ) → at ≤ length bytes → IsUtf8 (drop at bytes) → ((i : Item) × (begins_at bytes at i ≡ true)) ⊎ HasNoItem bytes at
+item_or_none bytes at within u = go (counts at (read_item (at == first_place bytes) (chars (drop at bytes)))) refl
+  where
+    go : (o : Option Counted) → o ≡ counts at (read_item (at == first_place bytes) (chars (drop at bytes))) → ((i : Item) × (begins_at bytes at i ≡ true)) ⊎ HasNoItem bytes at
+    go None e = inr (item_complete bytes (drop at bytes) at refl u e)
+    go (Some found) e = let s = item_sound bytes (drop at bytes) at found within refl u e in inl (s.is.item, s.is.begins)
 
 pub drop_some : (s r : List ℕ) (c : ℕ) → s ≡ c ∷ r → drop 1 s ≡ r
 drop_some s r c e = ap (drop 1) e

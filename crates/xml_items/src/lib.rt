@@ -249,6 +249,3 @@ pub fn next_item(bytes: &[u8], at: u32) -> Result<Option<Item>, ItemFault>
         Err(fault) => Err(fault),
     }
 }
-
-#[cfg(test)]
-mod tests;

@@ -150,6 +150,15 @@ pub struct Span {
     pub end: u32,
 }
 
+/// How many words each list of a document has, or is to have room for: its records, and the elements of depth 1, 2 and 3.
+#[derive(Clone, Copy, Debug, PartialEq)]
+pub struct Counts {
+    pub records: u32,
+    pub level1: u32,
+    pub level2: u32,
+    pub level3: u32,
+}
+
 /// Memory was not to be had.
 #[derive(Clone, Copy, Debug, PartialEq, Eq)]
 pub struct NoMemory;

@@ -1,4 +1,4 @@
-use Rattle.xml_items.proofs.WalkLemmas.{one_item}
+use Rattle.xml_items.proofs.OneItem.{one_item}
 use Rattle.xml_items.proofs.laws.one_item.Goals as goal
 
 pub returns : goal.returns

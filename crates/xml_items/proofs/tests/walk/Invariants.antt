@@ -1,5 +1,0 @@
-use Rattle.std.specs.Str.{IsUtf8, IsCharBoundary}
-use Rattle.xml_items.proofs.tests.walk.Given as goal
-
-abbrev pub invariant-loop-count : goal.invariant-loop-count
-invariant-loop-count l = record { place : IsCharBoundary l.bytes l.at; utf8 : IsUtf8 l.bytes }
