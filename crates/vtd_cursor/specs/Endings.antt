@@ -63,7 +63,7 @@ pub record HasTagOf (bytes words : List ℕ) (n : ℕ) : Type 0 where
   pub tag : Tag
   pub is : IsTagOf bytes rs n at closed tag
 
--- an item with a < in@prefix: a tag of any kind
+-- an item with a < in front: a tag of any kind
 abbrev pub is_tag_item : Item → Bool
 is_tag_item (leaf x) = false
 is_tag_item _ = true
