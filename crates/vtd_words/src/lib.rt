@@ -9,6 +9,3 @@ mod word_vec;
 pub use packing::{Parts, pack, unpack};
 pub use table::{Table, parts_at};
 pub use word_vec::{Counts, Part, WordVec, Words};
-
-#[cfg(test)]
-mod tests;
