@@ -13,3 +13,4 @@ mod CharsLemmas
 mod TextsLemmas
 mod AppendLemmas
 mod RawFacts
+pub mod FingerprintLemmas

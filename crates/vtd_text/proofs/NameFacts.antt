@@ -59,7 +59,7 @@ pub record NameIn (es : List Entry) (at : ℕ) (a : Attribute) : Type 0 where
   pub element : entry.what ≡ Thing.element tag inside
   pub number : ℕ
   pub holds : slice_get tag.attributes number ≡ Some a
-  pub place : at ≡ entry.index + suc (twice number)
+  pub index : at ≡ entry.index + suc (twice number)
 
 abbrev pub drop_first : List Record → List Record
 drop_first [] = []
@@ -112,7 +112,7 @@ name_says bytes rs at a e tag inside j is g p s r =
 pub name_of_says : (bytes : List ℕ) (lists : Lists) (nest : Forest) → IsNestOf bytes lists nest → (at : ℕ) (a : Attribute) → (n : IsNameOf bytes nest at a) → NameSays bytes (records nest (first_place bytes)) at a n.entry
 name_of_says bytes lists nest s at a n =
     let first = first_place bytes in
-    name_says bytes (records nest first) at a n.entry n.tag n.inside n.number n.element n.holds (omega (arith, n.place, twice_is n.number))
+    name_says bytes (records nest first) at a n.entry n.tag n.inside n.number n.element n.holds (omega (arith, n.index, twice_is n.number))
     (each_at (Says bytes) (all nest first) n.entry (all_say bytes nest s.accepted.utf8 s.accepted.document) n.there)
     (records_of_node nest first s.accepted.document.nests n.entry n.there)
 
@@ -141,13 +141,13 @@ pub record Found (es : List Entry) (at : ℕ) : Type 0 where
 found_by : (es fs : List Entry) (at : ℕ) → ((e : Entry) → Contains es e → Contains fs e) → Found es at → Found fs at
 found_by es fs at f k = record {
   attribute = k.attribute;
-  name = record { entry = k.name.entry; there = f k.name.entry k.name.there; tag = k.name.tag; inside = k.name.inside; element = k.name.element; number = k.name.number; holds = k.name.holds; place = k.name.place };
+  name = record { entry = k.name.entry; there = f k.name.entry k.name.there; tag = k.name.tag; inside = k.name.inside; element = k.name.element; number = k.name.number; holds = k.name.holds; index = k.name.index };
 }
 
 found_under : (i : ℕ) (es : List Entry) (at : ℕ) → Found es at → Found (map (under (child i)) es) at
 found_under i es at k = record {
   attribute = k.attribute;
-  name = record { entry = under (child i) k.name.entry; there = contains_map (under (child i)) es k.name.entry k.name.there; tag = k.name.tag; inside = k.name.inside; element = k.name.element; number = k.name.number; holds = k.name.holds; place = k.name.place };
+  name = record { entry = under (child i) k.name.entry; there = contains_map (under (child i)) es k.name.entry k.name.there; tag = k.name.tag; inside = k.name.inside; element = k.name.element; number = k.name.number; holds = k.name.holds; index = k.name.index };
 }
 
 contains_left : (es fs : List Entry) (e : Entry) → Contains es e → Contains (es ++ fs) e
@@ -209,7 +209,7 @@ tag_found h t inside stop (suc n) es k =
     let so = number_of t.attributes (length h.holders) (attributes_place h.at t) n k in
     record {
       attribute = so.attribute;
-      name = record { entry = element_entry h t inside stop; there = contains_here (element_entry h t inside stop) es; tag = t; inside = inside; element = refl; number = so.number; holds = so.holds; place = ap (λ (m : ℕ). h.index + suc m) so.place };
+      name = record { entry = element_entry h t inside stop; there = contains_here (element_entry h t inside stop) es; tag = t; inside = inside; element = refl; number = so.number; holds = so.holds; index = ap (λ (m : ℕ). h.index + suc m) so.place };
     }
 
 along : (es : List Entry) (m n : ℕ) → m ≡ n → Found es m → Found es n
@@ -282,7 +282,7 @@ name_found bytes nest (suc n) h =
         element = e.element;
         number = e.number;
         holds = e.holds;
-        place = omega (arith, e.place, twice_is e.number);
+        index = omega (arith, e.index, twice_is e.number);
       };
     }
 

@@ -72,7 +72,7 @@ not_before bytes lists nest s at a b n m lt =
     let rs = records nest first in
     let t : ℕ = m.entry.index - suc n.entry.index in
     let sum : m.entry.index ≡ n.entry.index + suc t = omega arith in
-    let low : t ≤ twice n.number = omega (arith, twice_is n.number, n.place, m.place, sum) in
+    let low : t ≤ twice n.number = omega (arith, twice_is n.number, n.index, m.index, sum) in
     let shows : FirstRecordShows rs m.entry = first_record_of_node nest first s.accepted.document.nests m.entry m.there in
     let kind : kind_of_token (record_at (n.entry.index + suc t) rs).token ≡ Some kinds.Element = ap (λ (k : ℕ). kind_of_token (record_at k rs).token) (sym sum) ∙ shows.kind ∙ ap (λ (x : Thing). Some (kind_of x)) m.element in
     inner_no_tag rs n.entry n.tag n.inside n.number t a (records_of_node nest first s.accepted.document.nests n.entry n.there) n.element n.holds low kind
@@ -92,7 +92,7 @@ one_name bytes lists nest s at a b n m =
     let p = same_place bytes lists nest s at a b n m in
     let e : n.entry ≡ m.entry = rising_nodes nest (first_place bytes) n.entry m.entry n.there m.there p in
     let t : n.tag ≡ m.tag = same_tag n.tag m.tag n.inside m.inside (sym n.element ∙ ap (λ (x : Entry). x.what) e ∙ m.element) in
-    let j : n.number ≡ m.number = omega (arith, n.place, m.place, p) in
+    let j : n.number ≡ m.number = omega (arith, n.index, m.index, p) in
     let o : Some a ≡ Some b = sym n.holds ∙ ap₂ (λ (x : Tag) (k : ℕ). slice_get x.attributes k) t j ∙ m.holds in
     cc
   where

@@ -1,5 +1,7 @@
--- The content of a row of records: that of their texts and CDATA sections, joined (XPath 1.0, sections 5.1, 5.2 and 5.7).
-use Rattle.std.specs.Prelude.{◌≡◌, ℕ, ◌+◌, ◌-◌, ◌/◌, ◌%◌, ◌^◌, ◌<◌, ◌≤◌, true, cond, ◌==◌, List, [], ◌∷◌, ◌++◌, length, take, drop, Option, Some, None}
+-- The content of a row of records: that of their texts and CDATA sections, joined (XPath 1.0, sections 5.1, 5.2 and
+-- 5.7).
+use Rattle.std.specs.Prelude.{◌≡◌, ℕ, ◌+◌, ◌-◌, ◌/◌, ◌%◌, ◌^◌, ◌<◌, ◌≤◌, true, cond, ◌==◌, List, [], ◌∷◌, ◌++◌, length}
+use Rattle.std.specs.Prelude.{take, drop, Option, Some, None}
 use Rattle.std.specs.List.{flat_map}
 use Rattle.std.specs.Str.{IsUtf8, chars}
 use Rattle.xml_model.specs.Records.{Record}
@@ -43,7 +45,8 @@ IsText bytes r = (r.offset + r.len ≤ length bytes) × IsUtf8 (slice_of bytes r
 
 -- each text and CDATA section from a record on, below another, is a text
 abbrev pub Readable : List ℕ → List Record → ℕ → ℕ → Type 0
-Readable bytes rs at past = (i : ℕ) → at ≤ i → i < past → is_text_token (record_at i rs).token ≡ true → IsText bytes (record_at i rs)
+Readable bytes rs at past = (i : ℕ) → at ≤ i → i < past → is_text_token (record_at i rs).token ≡ true →
+    IsText bytes (record_at i rs)
 
 -- words that show records, each text and CDATA section of which, from one on and below another, is a text
 pub record ShowsReadable (bytes words : List ℕ) (at past : ℕ) : Type 0 where
@@ -53,7 +56,8 @@ pub record ShowsReadable (bytes words : List ℕ) (at past : ℕ) : Type 0 where
 
 -- what is left: the rest of a token, and the records from one on, below another
 abbrev pub IsLeft : List ℕ → List Record → Rule → List ℕ → ℕ → ℕ → List ℕ → Type 0
-IsLeft bytes rs rule text at past content = InTwo (HasContent rule (chars text)) (Joined bytes (take (past - at) (drop at rs))) content
+IsLeft bytes rs rule text at past content = InTwo (HasContent rule (chars text))
+    (Joined bytes (take (past - at) (drop at rs))) content
 
 -- a content begins with a character, and the rest of it is left
 pub record LeavesTail (Left : List ℕ → Type 0) (content : List ℕ) (c : ℕ) : Type 0 where
@@ -68,7 +72,8 @@ pub record LeavesAfter (Left : List ℕ → Type 0) (content prefix : List ℕ) 
   pub left : Left tail
 
 -- a token is at its end, and the content is that of the records from one on, below another
-pub record BetweenTokens (bytes : List ℕ) (rs : List Record) (rule : Rule) (text : List ℕ) (at past : ℕ) (content : List ℕ) : Type 0 where
+pub record BetweenTokens (bytes : List ℕ) (rs : List Record) (rule : Rule) (text : List ℕ) (at past : ℕ)
+    (content : List ℕ) : Type 0 where
   pub ended : HasContent rule (chars text) []
   pub rest : Joined bytes (take (past - at) (drop at rs)) content
 
@@ -90,4 +95,5 @@ word_content bytes w = resolved_by (rule_of (w / 2 ^ 60)) (take ((w / 2 ^ 32) % 
 
 -- what is left: that of the rest of a token, and of the words from one on, below another
 unfoldable pub left_of : List ℕ → List ℕ → Rule → List ℕ → ℕ → ℕ → List ℕ
-left_of bytes words rule text at past = resolved rule (chars text) ++ flat_map (word_content bytes) (take (past - at) (drop at words))
+left_of bytes words rule text at past = resolved rule (chars text)
+    ++ flat_map (word_content bytes) (take (past - at) (drop at words))

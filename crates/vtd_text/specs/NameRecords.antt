@@ -1,5 +1,6 @@
--- The attribute, or the declaration of a namespace, whose name a record of a document is: XML 1.0, section 3.1, and Namespaces in XML 1.0,
--- section 3. A tag's record is followed by two for each attribute, its name and its value: this project's own.
+-- The attribute, or the declaration of a namespace, whose name a record of a document is: XML 1.0, section 3.1, and
+-- Namespaces in XML 1.0, section 3. A tag's record is followed by two for each attribute, its name and its value: this
+-- project's own.
 use Rattle.std.specs.Prelude.{◌≡◌, ℕ, ◌+◌, ◌*◌, Bool, ◌||◌, ◌==◌, List, slice_get, Some, Contains}
 use Rattle.xml_model.specs.Items.{Attribute, Tag, first_place}
 use Rattle.xml_model.specs.Nest.{Forest}
@@ -20,7 +21,7 @@ pub record IsNameOf (bytes : List ℕ) (nest : Forest) (at : ℕ) (attribute : A
   pub element : entry.what ≡ Thing.element tag inside
   pub number : ℕ
   pub holds : slice_get tag.attributes number ≡ Some attribute
-  pub place : at ≡ entry.index + 1 + 2 * number
+  pub index : at ≡ entry.index + 1 + 2 * number
 
 -- in some nest of a table the record with the index `at` is of the type 3, the name of a declaration
 pub record IsDeclaration (bytes : List ℕ) (lists : Lists) (at : ℕ) : Type 0 where

@@ -1,13 +1,14 @@
 -- A node's content where it is in the document as it is (this project's own).
-use Rattle.std.specs.Prelude.{◌≡◌, ℕ, cond, List, [], ◌∷◌, encode_utf8_all, bytes_eq, Option, Some, None, option_and_then}
+use Rattle.std.specs.Prelude.{◌≡◌, ℕ, cond, List, [], ◌∷◌, encode_utf8_all, bytes_eq, Option, Some, None}
+use Rattle.std.specs.Prelude.{option_and_then}
 use Rattle.xml_model.specs.Items.{Leaf, written_pieces}
 use Rattle.xml_model.specs.Records.{Record}
 use Rattle.xml_model.specs.Tree.{Thing}
 use Rattle.xml_model.specs.Content.{content}
 use Rattle.vtd_text.specs.Joined.{IsText, slice_of}
 
--- the characters that the content of a node is written in, where they are in one piece: not for the root, an element, or a text of
--- several texts or CDATA sections
+-- the characters that the content of a node is written in, where they are in one piece: not for the root, an element,
+-- or a text of several texts or CDATA sections
 abbrev pub written_content : Thing → Option (List ℕ)
 written_content (Thing.attribute a) = Some (written_pieces a.value)
 written_content (Thing.text (Leaf.text ps ∷ [])) = Some (written_pieces ps)
@@ -16,7 +17,8 @@ written_content (Thing.comment cs) = Some cs
 written_content (Thing.instruction i) = Some i.content
 written_content _ = None
 
--- the UTF-8 of a node's string-value (XPath 1.0, section 5), where its content is written in just these characters, in one piece
+-- the UTF-8 of a node's string-value (XPath 1.0, section 5), where its content is written in just these characters, in
+-- one piece
 unfoldable pub raw_content : Thing → Option (List ℕ)
 raw_content t = option_and_then (λ w. cond (bytes_eq (content t) w) (Some (encode_utf8_all w)) None) (written_content t)
 

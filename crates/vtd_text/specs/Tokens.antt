@@ -57,7 +57,8 @@ is_special Text c = c == 13 || c == 38
 is_special Literal c = c == 13
 is_special Value c = c == 9 || c == 10 || c == 13 || c == 38
 
--- characters at the start of what is left stand for themselves, and the rest of the content is that of what follows them
+-- characters at the start of what is left stand for themselves, and the rest of the content is that of what follows
+-- them
 pub record LeavesRest (rule : Rule) (content prefix left : List ℕ) : Type 0 where
   pub tail : List ℕ
   pub whole : content ≡ prefix ++ tail

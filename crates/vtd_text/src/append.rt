@@ -22,7 +22,8 @@ fn append<W: Words>(left: Chars<'_, W>, held: &mut String) -> Result<(), AllocEr
     Ok(())
 }
 
-/// Appends code points to a text; after `NoMemory` the text is as before. The allocator says that the call may take memory.
+/// Appends code points to a text; after `NoMemory` the text is as before. The allocator says that the call may take
+/// memory.
 pub fn append_to<W: Words>(
     _alloc: Global,
     chars: Chars<'_, W>,

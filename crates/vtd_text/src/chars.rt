@@ -1,7 +1,8 @@
 //! The code points of a text, resolved, one after another. No call takes memory.
 #![tactic(auto)]
 
-ghost use Rattle.std.specs.Prelude.{◌≡◌, ℕ, suc, ◌+◌, ◌-◌, ◌<◌, ◌≤◌, List, [], ◌∷◌, ◌++◌, length, take, drop, MatchOption, IsSome};
+ghost use Rattle.std.specs.Prelude.{◌≡◌, ℕ, suc, ◌+◌, ◌-◌, ◌<◌, ◌≤◌, List, [], ◌∷◌, ◌++◌, length, take, drop};
+ghost use Rattle.std.specs.Prelude.{MatchOption, IsSome};
 ghost use Rattle.std.specs.Iterator.{YieldsFirst, item_count};
 ghost use Rattle.std.specs.Str.{chars};
 ghost use Rattle.xml_model.specs.Content.{content, value_content};
@@ -22,8 +23,8 @@ use std::marker::Model;
 use vtd_words::{Part, Table, Words, parts_at};
 use xml_model::{Kind, Node};
 
-/// The code points that are left of a text, resolved: line ends, references, the white space of attribute values, and CDATA
-/// sections beside texts (XML 1.0, sections 2.11, 3.3.3, 4.1 and 4.6). Contracts see the list of them.
+/// The code points that are left of a text, resolved: line ends, references, the white space of attribute values, and
+/// CDATA sections beside texts (XML 1.0, sections 2.11, 3.3.3, 4.1 and 4.6). Contracts see the list of them.
 #[derive(Drop)]
 pub struct Chars<'a, W: Words> {
     row: Row<'a, W>,
@@ -36,9 +37,11 @@ impl<'a, W: Words> Model for Chars<'a, W> {
 
     ghost Value = { List ℕ };
 
-    ghost view = { λ s. left_of s.row.bytes.now (W.lists s.row.words.now).records s.row.token.rule s.row.token.text.now s.row.at s.row.past };
+    ghost view = { λ s. left_of s.row.bytes.now (W.lists s.row.words.now).records s.row.token.rule s.row.token.text.now
+        s.row.at s.row.past };
 
-    ghost invariant = { λ s. HasLeft s.row.bytes.now (W.lists s.row.words.now).records s.row.token.rule s.row.token.text.now s.row.at s.row.past };
+    ghost invariant = { λ s. HasLeft s.row.bytes.now (W.lists s.row.words.now).records s.row.token.rule
+        s.row.token.text.now s.row.at s.row.past };
 }
 
 /// The index after that of a record, where there is one.
@@ -52,8 +55,8 @@ pub(crate) fn after<W: Words>(words: &W, at: u32) -> u32
 }
 
 impl<'a, W: Words> Chars<'a, W> {
-    /// The code points of a node's string-value (XPath 1.0, section 5): for the root and an element those of all texts in it,
-    /// in document order.
+    /// The code points of a node's string-value (XPath 1.0, section 5): for the root and an element those of all texts
+    /// in it, in document order.
     pub fn of(table: &Table<'a, W>, node: Node) -> Chars<'a, W>
         requires { IsNodeOf table.now.bytes (W.lists table.now.words) node }
         ensures { (nest : Forest) → IsNestOf table.now.bytes (W.lists table.now.words) nest →
@@ -79,8 +82,8 @@ impl<'a, W: Words> Chars<'a, W> {
         }
     }
 
-    /// The code points of the value of a declaration of a namespace, by the index of the record of its name, which has the
-    /// type 3 (Namespaces in XML 1.0, section 3); its value is resolved as that of an attribute.
+    /// The code points of the value of a declaration of a namespace, by the index of the record of its name, which has
+    /// the type 3 (Namespaces in XML 1.0, section 3); its value is resolved as that of an attribute.
     pub fn of_declaration(table: &Table<'a, W>, at: u32) -> Chars<'a, W>
         requires { IsDeclaration table.now.bytes (W.lists table.now.words) at }
         ensures { (nest : Forest) → IsNestOf table.now.bytes (W.lists table.now.words) nest →

@@ -1,5 +1,5 @@
-//! Laws of the records that are names of attributes. Each function does nothing; its contract is the law, which the check proves.
-//! Other crates cite the lemmas of `proofs/NameFacts.antt` and `proofs/OneName.antt`, which say the same.
+//! Laws of the records that are names of attributes. Each function does nothing; its contract is the law, which the
+//! check proves. Other crates cite the lemmas of `proofs/NameFacts.antt` and `proofs/OneName.antt`, which say the same.
 #![tactic(auto)]
 
 ghost use Rattle.std.specs.Prelude.{◌≡◌, ℕ, List, true};
@@ -13,7 +13,8 @@ ghost use Rattle.vtd_text.specs.NameRecords.{HasName, IsNameOf, is_attribute_nam
 
 /// Each record of the type 2 or 3 is the name of an attribute or of a declaration of a namespace.
 pub fn some_name()
-    ensures { (bytes : List ℕ) (nest : Forest) (at : ℕ) → is_attribute_name (record_at at (records nest (first_place bytes))).token ≡ true → HasName bytes nest at }
+    ensures { (bytes : List ℕ) (nest : Forest) (at : ℕ) →
+        is_attribute_name (record_at at (records nest (first_place bytes))).token ≡ true → HasName bytes nest at }
 {}
 
 /// A record of a table is the name of at most one attribute or declaration of a namespace.

@@ -8,19 +8,27 @@ ghost use Rattle.vtd_words.specs.Lists.{list_of};
 ghost use Rattle.vtd_words.specs.Packed.{record_of};
 ghost use Rattle.vtd_words.specs.Table.{Shows};
 ghost use Rattle.xml_model.specs.Scan.{record_at, is_text_token};
-ghost use Rattle.vtd_text.specs.Joined.{rule_of, slice_of, Gives, Joined, IsText, ShowsReadable, IsLeft, LeavesTail, LeavesAfter, BetweenTokens, IsAtEnd};
+ghost use Rattle.vtd_text.specs.Joined.{rule_of, slice_of, Gives, Joined, IsText, ShowsReadable, IsLeft, LeavesTail};
+ghost use Rattle.vtd_text.specs.Joined.{LeavesAfter, BetweenTokens, IsAtEnd};
 ghost use Rattle.vtd_text.specs.Tokens.{HasContent};
 
 use crate::token::{Rule, TokenChars};
 use vtd_words::{Part, Parts, Words, parts_at};
+use xml_model::TokenKind;
+
+/// The number of a text's records.
+const TEXT: u8 = TokenKind::Text as u8;
+
+/// The number of a CDATA section's records.
+const CDATA: u8 = TokenKind::Cdata as u8;
 
 /// The rule for the token of a record; `None` exactly where it is of no text and of no CDATA section.
 fn rule_of(parts: Parts) -> Option<Rule>
     ensures { result ≡ rule_of parts.token }
 {
     match parts.token {
-        5 => Some(Rule::Text),
-        11 => Some(Rule::Literal),
+        TEXT => Some(Rule::Text),
+        CDATA => Some(Rule::Literal),
         _ => None,
     }
 }
@@ -38,7 +46,8 @@ pub(crate) fn text_of(bytes: &[u8], parts: Parts) -> &str
 /// The token of a record, of which all is left; an empty one where the record is of no text and of no CDATA section.
 fn record_of(bytes: &[u8], parts: Parts) -> TokenChars<'_>
     requires { is_text_token parts.token ≡ true → IsText bytes.now (record_of parts) }
-    ensures { (content : List ℕ) → Gives (rule_of parts.token) (slice_of bytes.now (record_of parts)) content → HasContent result.rule (chars result.text.now) content }
+    ensures { (content : List ℕ) → Gives (rule_of parts.token) (slice_of bytes.now (record_of parts)) content →
+        HasContent result.rule (chars result.text.now) content }
 {
     match rule_of(parts) {
         Some(rule) => TokenChars {
@@ -52,8 +61,8 @@ fn record_of(bytes: &[u8], parts: Parts) -> TokenChars<'_>
     }
 }
 
-/// What is left of the characters of a row of records: those left of one token, and those of the records from one on, below
-/// another.
+/// What is left of the characters of a row of records: those left of one token, and those of the records from one on,
+/// below another.
 #[derive(Drop)]
 pub(crate) struct Row<'a, W: Words> {
     pub(crate) bytes: &'a [u8],
@@ -68,9 +77,12 @@ pub(crate) struct Row<'a, W: Words> {
 impl<'a, W: Words> Row<'a, W> {
     /// The next character of the token; `None` exactly at its end.
     fn next_of_token(&mut self) -> Option<char>
-        ensures content { (rs : List Record) (content : List ℕ) → IsLeft self.old.bytes.now rs self.old.token.rule self.old.token.text.now self.old.at self.old.past content →
-            MatchOption result (BetweenTokens self.old.bytes.now rs self.new.token.rule self.new.token.text.now self.old.at self.old.past content)
-            (λ c. LeavesTail (IsLeft self.old.bytes.now rs self.new.token.rule self.new.token.text.now self.old.at self.old.past) content c) }
+        ensures content { (rs : List Record) (content : List ℕ) →
+            IsLeft self.old.bytes.now rs self.old.token.rule self.old.token.text.now self.old.at self.old.past content →
+            MatchOption result (BetweenTokens self.old.bytes.now rs self.new.token.rule self.new.token.text.now
+              self.old.at self.old.past content)
+            (λ c. LeavesTail (IsLeft self.old.bytes.now rs self.new.token.rule self.new.token.text.now self.old.at
+              self.old.past) content c) }
         ensures bytes { self.new.bytes ≡ self.old.bytes }
         ensures words { self.new.words ≡ self.old.words }
         ensures at { self.new.at ≡ self.old.at }
@@ -82,7 +94,8 @@ impl<'a, W: Words> Row<'a, W> {
     /// Goes on to the token of the next record.
     fn open_next(&mut self)
         requires { self.old.at < self.old.past }
-        ensures content { (rs : List Record) → Shows (list_of Part.Records (W.lists self.old.words.now)) rs → (content : List ℕ) →
+        ensures content { (rs : List Record) → Shows (list_of Part.Records (W.lists self.old.words.now)) rs →
+            (content : List ℕ) →
             Joined self.old.bytes.now (take (self.old.past - self.old.at) (drop self.old.at rs)) content →
             IsLeft self.old.bytes.now rs self.new.token.rule self.new.token.text.now self.new.at self.old.past content }
         ensures bytes { self.new.bytes ≡ self.old.bytes }
@@ -96,10 +109,13 @@ impl<'a, W: Words> Row<'a, W> {
 
     /// The next character; `None` exactly at the end.
     pub(crate) fn next(&mut self) -> Option<char>
-        ensures content { (rs : List Record) → Shows (list_of Part.Records (W.lists self.old.words.now)) rs → (content : List ℕ) →
+        ensures content { (rs : List Record) → Shows (list_of Part.Records (W.lists self.old.words.now)) rs →
+            (content : List ℕ) →
             IsLeft self.old.bytes.now rs self.old.token.rule self.old.token.text.now self.old.at self.old.past content →
-            MatchOption result (IsAtEnd (IsLeft self.old.bytes.now rs self.new.token.rule self.new.token.text.now self.new.at self.old.past) content)
-            (λ c. LeavesTail (IsLeft self.old.bytes.now rs self.new.token.rule self.new.token.text.now self.new.at self.old.past) content c) }
+            MatchOption result (IsAtEnd (IsLeft self.old.bytes.now rs self.new.token.rule self.new.token.text.now
+              self.new.at self.old.past) content)
+            (λ c. LeavesTail (IsLeft self.old.bytes.now rs self.new.token.rule self.new.token.text.now self.new.at
+              self.old.past) content c) }
         ensures bytes { self.new.bytes ≡ self.old.bytes }
         ensures words { self.new.words ≡ self.old.words }
         ensures past { self.new.past ≡ self.old.past }
@@ -118,8 +134,10 @@ impl<'a, W: Words> Row<'a, W> {
 
     /// Takes a prefix of what is left of the token, perhaps an empty one, whose characters stand for themselves.
     pub(crate) fn next_plain(&mut self) -> &'a str
-        ensures content { (rs : List Record) (content : List ℕ) → IsLeft self.old.bytes.now rs self.old.token.rule self.old.token.text.now self.old.at self.old.past content →
-            LeavesAfter (IsLeft self.old.bytes.now rs self.new.token.rule self.new.token.text.now self.old.at self.old.past) content (chars result.now) }
+        ensures content { (rs : List Record) (content : List ℕ) →
+            IsLeft self.old.bytes.now rs self.old.token.rule self.old.token.text.now self.old.at self.old.past content →
+            LeavesAfter (IsLeft self.old.bytes.now rs self.new.token.rule self.new.token.text.now self.old.at
+              self.old.past) content (chars result.now) }
         ensures bytes { self.new.bytes ≡ self.old.bytes }
         ensures words { self.new.words ≡ self.old.words }
         ensures at { self.new.at ≡ self.old.at }

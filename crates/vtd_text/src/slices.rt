@@ -18,12 +18,15 @@ use crate::texts::equals_str;
 use vtd_words::{Part, Table, Words, parts_at};
 use xml_model::{Kind, Node};
 
-/// The record that has the content of a node alone; `None` exactly for the root, an element, and a text whose run has several
-/// records.
+/// The record that has the content of a node alone; `None` exactly for the root, an element, and a text whose run has
+/// several records.
 fn content_record<W: Words>(table: &Table<'_, W>, node: Node) -> Option<u32>
     requires { IsNodeOf table.now.bytes (W.lists table.now.words) node }
-    ensures record { (nest : Forest) → IsNestOf table.now.bytes (W.lists table.now.words) nest → (e : Entry) → Identifies node.kind node.at e (nodes_of table.now.bytes nest) →
-        MatchOption result (written_content e.what ≡ None) (λ at. IsWritten table.now.bytes (record_at at (records nest (first_place table.now.bytes))) (written_content e.what)) }
+    ensures record { (nest : Forest) → IsNestOf table.now.bytes (W.lists table.now.words) nest → (e : Entry) →
+        Identifies node.kind node.at e (nodes_of table.now.bytes nest) →
+        MatchOption result (written_content e.what ≡ None)
+          (λ at. IsWritten table.now.bytes (record_at at (records nest (first_place table.now.bytes)))
+          (written_content e.what)) }
     ensures within { IfSome result (λ at. at < length (list_of Part.Records (W.lists table.now.words))) }
 {
     let words = table.words();
@@ -41,12 +44,13 @@ fn content_record<W: Words>(table: &Table<'_, W>, node: Node) -> Option<u32>
     }
 }
 
-/// The bytes of the content of an attribute, a comment, an instruction or a text, where they are the UTF-8 of the node's
-/// string-value (XPath 1.0, section 5); `None` exactly for the root and an element, for a text whose run has several records, and
-/// where the bytes are another text.
+/// The bytes of the content of an attribute, a comment, an instruction or a text, where they are the UTF-8 of the
+/// node's string-value (XPath 1.0, section 5); `None` exactly for the root and an element, for a text whose run has
+/// several records, and where the bytes are another text.
 pub fn raw<'a, W: Words>(table: &Table<'a, W>, node: Node) -> Option<&'a [u8]>
     requires { IsNodeOf table.now.bytes (W.lists table.now.words) node }
-    ensures { (nest : Forest) → IsNestOf table.now.bytes (W.lists table.now.words) nest → (e : Entry) → Identifies node.kind node.at e (nodes_of table.now.bytes nest) →
+    ensures { (nest : Forest) → IsNestOf table.now.bytes (W.lists table.now.words) nest → (e : Entry) →
+        Identifies node.kind node.at e (nodes_of table.now.bytes nest) →
         option_copied result ≡ raw_content e.what }
 {
     let at = content_record(table, node)?;

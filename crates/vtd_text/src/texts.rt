@@ -24,7 +24,8 @@ pub fn equals<W: Words, V: Words>(one: Chars<'_, W>, other: Chars<'_, V>) -> boo
 
 /// What follows the prefix, where the text begins with it.
 fn after_prefix<'a>(text: &'a str, prefix: &str) -> Option<&'a str>
-    ensures { MatchOption result ((rest : List ℕ) → chars text.now ≡ chars prefix.now ++ rest → ⊥) (λ r. chars text.now ≡ chars prefix.now ++ chars r.now) }
+    ensures { MatchOption result ((rest : List ℕ) → chars text.now ≡ chars prefix.now ++ rest →
+        ⊥) (λ r. chars text.now ≡ chars prefix.now ++ chars r.now) }
 {
     if text.as_bytes().starts_with(prefix.as_bytes()) {
         Some(text.split_at(prefix.len()).1)
@@ -35,7 +36,8 @@ fn after_prefix<'a>(text: &'a str, prefix: &str) -> Option<&'a str>
 
 /// What follows the character and then the prefix, where the text begins with them.
 fn after_both<'a>(text: &'a str, c: char, prefix: &str) -> Option<&'a str>
-    ensures { MatchOption result ((rest : List ℕ) → chars text.now ≡ c ∷ (chars prefix.now ++ rest) → ⊥) (λ r. chars text.now ≡ c ∷ (chars prefix.now ++ chars r.now)) }
+    ensures { MatchOption result ((rest : List ℕ) → chars text.now ≡ c ∷ (chars prefix.now ++ rest) →
+        ⊥) (λ r. chars text.now ≡ c ∷ (chars prefix.now ++ chars r.now)) }
 {
     let (first, rest) = step(text)?;
     if first == c {

