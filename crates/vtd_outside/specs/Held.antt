@@ -1,5 +1,6 @@
 -- How files are held in memory: a list, and the place of the next read. This project's own.
-use Rattle.std.specs.Prelude.{◌≡◌, ◌≤◌, ◌<◌, ℕ, zero, suc, Bool, false, List, [], ◌∷◌, length, drop, Option, Some, None, option_map, string_bytes, bytes_eq}
+use Rattle.std.specs.Prelude.{◌≡◌, ◌≤◌, ◌<◌, ℕ, zero, suc, Bool, false, List, [], ◌∷◌, length, drop, Option, Some, None}
+use Rattle.std.specs.Prelude.{option_map, string_bytes, bytes_eq}
 use Rattle.vtd_outside.specs.declared.memory_files.File.{File}
 use Rattle.vtd_outside.specs.declared.memory_files.Place.{Place}
 use Rattle.vtd_outside.specs.Known.{OpenFile}
@@ -39,7 +40,8 @@ IsSlot (file ∷ files) name (suc index) = (bytes_eq file.name name ≡ false) �
 
 -- the file being read, from its place on
 abbrev pub opened_place : List NamedFile → Option Place → Option OpenFile
-opened_place files = option_map (λ place. record { name = name_at files place.file; rest = drop place.at (held_at files place.file) })
+opened_place files = option_map (λ place. record { name = name_at files place.file;
+    rest = drop place.at (held_at files place.file) })
 
 -- the place is in a file that is there, or at its end
 abbrev pub IsPlace : List NamedFile → Option Place → Type 0

@@ -1,6 +1,7 @@
 -- What one call does to bytes that are known. An object says its bytes (`Some`) or not (`None`), and no call changes
 -- which of the two it is. This project's own.
-use Rattle.std.specs.Prelude.{◌≡◌, ℕ, ◌≤◌, ◌<◌, List, [], ◌++◌, length, take, drop, Option, Some, None, Result, Ok, Err, IsSome, option_map}
+use Rattle.std.specs.Prelude.{◌≡◌, ℕ, ◌≤◌, ◌<◌, List, [], ◌++◌, length, take, drop, Option, Some, None, Result, Ok, Err}
+use Rattle.std.specs.Prelude.{IsSome, option_map}
 
 -- from names, as the bytes of their text, to the bytes of the files of these names
 abbrev pub NameMap : Type 0
@@ -48,7 +49,8 @@ Begins (Some contents) name opened (Err e) = opened ≡ None
 abbrev pub ReadsFile : {E : Type 0} → Option OpenFile → Option OpenFile → List ℕ → List ℕ → Result ℕ E → Type 0
 ReadsFile None None old new result = Unit {0}
 ReadsFile None (Some after) old new result = ⊥
-ReadsFile (Some file) (Some after) old new (Ok n) = (after.name ≡ file.name) × ReadsPrefix file.rest after.rest old new n
+ReadsFile (Some file) (Some after) old new (Ok n) = (after.name ≡ file.name)
+    × ReadsPrefix file.rest after.rest old new n
 ReadsFile (Some file) None old new (Err e) = Unit {0}
 ReadsFile (Some file) None old new (Ok n) = ⊥
 ReadsFile (Some file) (Some after) old new (Err e) = ⊥

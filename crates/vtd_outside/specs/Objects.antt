@@ -1,5 +1,6 @@
 -- What contracts see of the objects that hold all in memory. This project's own.
-use Rattle.std.specs.Prelude.{ℕ, ◌+◌, ◌-◌, ◌^◌, min, Bool, cond, nat_eq, nat_lt, List, [], ◌∷◌, Option, Some, None, length, bytes_eq}
+use Rattle.std.specs.Prelude.{ℕ, ◌+◌, ◌-◌, ◌^◌, min, Bool, cond, nat_eq, nat_lt, List, [], ◌∷◌, Option, Some, None}
+use Rattle.std.specs.Prelude.{length, bytes_eq}
 use Rattle.std.specs.List.{list_any}
 use Rattle.vtd_outside.specs.Known.{NameMap, OpenFile}
 

@@ -14,7 +14,8 @@ mod memory_sink;
 mod memory_source;
 mod sending;
 
-ghost use Rattle.std.specs.Prelude.{◌≡◌, ℕ, ◌<◌, ◌≤◌, Bool, true, false, List, Option, Some, None, length, IfOk, OnOk, OnErr, IsSome, is_some};
+ghost use Rattle.std.specs.Prelude.{◌≡◌, ℕ, ◌<◌, ◌≤◌, Bool, true, false, List, Option, Some, None, length, IfOk, OnOk};
+ghost use Rattle.std.specs.Prelude.{OnErr, IsSome, is_some};
 ghost use Rattle.vtd_outside.specs.Causes.{HasCause, HasFileCause, is_missing};
 ghost use Rattle.vtd_outside.specs.Known.{NameMap, OpenFile, Reads, Takes, Begins, ReadsFile};
 
@@ -132,6 +133,3 @@ pub trait Files {
 
     ghost missed_known: { (s : Self) → contents s ≡ None → missed s ≡ 0 };
 }
-
-#[cfg(test)]
-mod tests;

@@ -1,13 +1,15 @@
 //! Files that are held in memory.
 
-ghost use Rattle.std.specs.Prelude.{◌≡◌, ◌++◌, ◌∷◌, ℕ, List, ◌+◌, ◌-◌, ◌<◌, ◌≤◌, ◌↔◌, ◌||◌, Bool, true, false, [], Some, None, min, length, map, vec_len, position, IfSome, IfNone, is_none, is_some, IfOk, IsErr, IsTrue, OnOk, OnErr, option_copied, if◌then◌else◌};
+ghost use Rattle.std.specs.Prelude.{◌≡◌, ◌++◌, ◌∷◌, ℕ, List, ◌+◌, ◌-◌, ◌<◌, ◌≤◌, ◌↔◌, ◌||◌, Bool, true, false, []};
+ghost use Rattle.std.specs.Prelude.{Some, None, min, length, map, vec_len, position, IfSome, IfNone, is_none, is_some};
+ghost use Rattle.std.specs.Prelude.{IfOk, IsErr, IsTrue, OnOk, OnErr, option_copied, if◌then◌else◌};
 ghost use Rattle.vtd_outside.specs.Causes.{HasFileCause, is_missing};
 ghost use Rattle.vtd_outside.specs.Known.{Begins, ReadsFile, OpenFile};
 ghost use Rattle.vtd_outside.specs.Objects.{is_listed, after_call, raised, rest_length, lookup, put_into};
 ghost use Rattle.vtd_outside.specs.Held.{shown, has_name, name_at, held_at, with_bytes, IsSlot};
 ghost use Rattle.std.proofs.Common.{rules};
 
-use crate::calls::Script;
+use crate::calls::FaultPlan;
 use crate::{Failed, Files};
 use std::alloc::Global;
 use std::marker::Model;
@@ -27,13 +29,13 @@ struct Place {
     at: usize,
 }
 
-/// Files in memory, for tests: a read gives bytes in pieces, and fails at the calls that they were known.
+/// Files in memory, for tests: a read gives bytes in pieces, and fails at the calls that they were given.
 #[derive(Drop)]
 pub struct MemoryFiles {
     alloc: Global,
     files: Vec<File>,
     reading: Option<Place>,
-    script: Script,
+    plan: FaultPlan,
     missed: u64,
     proper: u64,
 }
@@ -45,9 +47,12 @@ impl Model for MemoryFiles {
 
     ghost Value = { FilesState };
 
-    ghost view = { λ s. record { files = map shown s.files.items; opened = opened_place (map shown s.files.items) s.reading; calls = record { failing = s.script.failing.items; piece = s.script.piece; next = s.script.next }; missed = s.missed; proper = s.proper } };
+    ghost view = { λ s. record { files = map shown s.files.items;
+        opened = opened_place (map shown s.files.items) s.reading;
+        calls = record { failing = s.plan.failing.items; piece = s.plan.piece; next = s.plan.next };
+        missed = s.missed; proper = s.proper } };
 
-    ghost invariant = { λ s. IsPlace (map shown s.files.items) s.reading × (0 < s.script.piece) };
+    ghost invariant = { λ s. IsPlace (map shown s.files.items) s.reading × (0 < s.plan.piece) };
 }
 
 impl MemoryFiles {
@@ -55,13 +60,14 @@ impl MemoryFiles {
     /// numbered from 0, and those whose numbers are in `failing` fail. The counts of faults start at 0.
     pub fn new(alloc: Global, failing: Vec<u32>, piece: usize) -> MemoryFiles
         requires { 0 < piece }
-        ensures { result ≡ record { files = []; opened = None; calls = record { failing = failing.items; piece = piece; next = 0 }; missed = 0; proper = 0 } }
+        ensures { result ≡ record { files = []; opened = None;
+            calls = record { failing = failing.items; piece = piece; next = 0 }; missed = 0; proper = 0 } }
     {
         MemoryFiles {
             alloc,
             files: Vec::new(alloc),
             reading: None,
-            script: Script::new(failing, piece),
+            plan: FaultPlan::new(failing, piece),
             missed: 0,
             proper: 0,
         }
@@ -73,7 +79,8 @@ impl MemoryFiles {
     /// `NoMemory` only where the name was not there. The files are then as before.
     pub fn put(&mut self, name: &str, bytes: Vec<u8>) -> Result<(), NoMemory>
         requires { self.old.opened ≡ None }
-        ensures put { OnOk result ((other : List ℕ) → lookup self.new.files other ≡ put_into (lookup self.old.files) name.now bytes.items other) }
+        ensures put { OnOk result ((other : List ℕ) →
+            lookup self.new.files other ≡ put_into (lookup self.old.files) name.now bytes.items other) }
         ensures rest_stays { self.new ≡ record self.old { files = self.new.files } }
         ensures err { OnErr result (self.new ≡ self.old) }
         ensures absent { OnErr result (lookup self.old.files name.now ≡ None) }
@@ -97,7 +104,8 @@ impl MemoryFiles {
 /// Where in the list the first file of that name is.
 fn slot(files: &[File], name: &str) -> Option<usize>
     ensures some { IfSome result (λ index. IsSlot (map shown files.now) name.now index) }
-    ensures found { IfSome result (λ index. lookup (map shown files.now) name.now ≡ Some (held_at (map shown files.now) index)) }
+    ensures found { IfSome result (λ index. lookup (map shown files.now) name.now
+        ≡ Some (held_at (map shown files.now) index)) }
     ensures named { IfSome result (λ index. name_at (map shown files.now) index ≡ name.now) }
     ensures within { IfSome result (λ index. index < length files.now) }
     ensures none { IfNone result (lookup (map shown files.now) name.now ≡ None) }
@@ -123,7 +131,8 @@ fn bytes_at(files: &[File], index: usize) -> &[u8]
 /// Adds a file.
 #[tactic(auto, using(crate::proofs::Held::shown_push))]
 fn add(files: &mut Vec<File>, alloc: Global, name: &str, bytes: Vec<u8>) -> Result<(), NoMemory>
-    ensures ok { OnOk result (map shown files.new.items ≡ map shown files.old.items ++ record { name = name.now; bytes = bytes.items } ∷ []) }
+    ensures ok { OnOk result (map shown files.new.items ≡ map shown files.old.items
+        ++ record { name = name.now; bytes = bytes.items } ∷ []) }
     ensures err { OnErr result (map shown files.new.items ≡ map shown files.old.items) }
 {
     let Ok(name) = String::from_str(alloc, name) else {
@@ -167,12 +176,14 @@ impl Files for MemoryFiles {
         ensures files_stay { self.new.files ≡ self.old.files }
         ensures cause { HasFileCause (is_missing (Some (lookup self.old.files)) name.now) self.old.missed self.new.missed self.old.proper self.new.proper result }
         ensures fails { IsErr result ↔ IsTrue (is_listed self.old.calls || is_none (lookup self.old.files name.now)) }
-        ensures missed { self.new.missed ≡ (if is_none (lookup self.old.files name.now) then raised self.old.missed else self.old.missed) }
-        ensures proper { OnErr result (self.new.proper ≡ (if is_none (lookup self.old.files name.now) then self.old.proper else raised self.old.proper)) }
+        ensures missed { self.new.missed
+            ≡ (if is_none (lookup self.old.files name.now) then raised self.old.missed else self.old.missed) }
+        ensures proper { OnErr result (self.new.proper
+            ≡ (if is_none (lookup self.old.files name.now) then self.old.proper else raised self.old.proper)) }
         ensures calls { self.new.calls ≡ after_call self.old.calls }
     {
         self.reading = None;
-        let listed = self.script.fails();
+        let listed = self.plan.fails();
         let Some(file) = slot(&self.files, name) else {
             self.missed = self.missed.saturating_add(1);
             return Err(Failed);
@@ -195,13 +206,14 @@ impl Files for MemoryFiles {
         ensures cause { HasFileCause false self.old.missed self.new.missed self.old.proper self.new.proper result }
         ensures fails { IsErr result ↔ IsTrue (is_listed self.old.calls) }
         ensures counts { OnErr result (self.new.proper ≡ raised self.old.proper) }
-        ensures moves { IfOk result (λ n. n ≡ min (min (rest_length self.old.opened) (length into.old)) self.old.calls.piece) }
+        ensures moves { IfOk result (λ n. n
+            ≡ min (min (rest_length self.old.opened) (length into.old)) self.old.calls.piece) }
         ensures calls { self.new.calls ≡ after_call self.old.calls }
     {
         let Some(place) = self.reading else {
             unreachable!()
         };
-        if self.script.fails() {
+        if self.plan.fails() {
             self.reading = None;
             self.proper = self.proper.saturating_add(1);
             return Err(Failed);
@@ -209,7 +221,7 @@ impl Files for MemoryFiles {
         let bytes = bytes_at(&self.files, place.file);
         let count = (bytes.len() - place.at)
             .min(into.len())
-            .min(self.script.piece);
+            .min(self.plan.piece);
         let end = place.at + count;
         into[..count].copy_from_slice(&bytes[place.at..end]);
         self.reading = Some(Place {
