@@ -19,16 +19,6 @@ use Rattle.xml_items.proofs.WalkLemmas.{one_item}
 use Rattle.vtd_cursor.specs.Endings.{record_end, ends_tag, is_tag_item, EndTagAt, EndTags, HasTagAt, HasTagOf, IsNearestTag, IsTagOf, IsLastPiece, in_leaf, in_tag, IsEnding}
 use Rattle.vtd_cursor.proofs.TagPlaces.{tag_place}
 
--- a starting tag with none after it up to a record is the nearest
-pub nearest_is : (rs : List Record) (at n m : ℕ) → ((k : ℕ) → n < k → k ≤ at → (record_at k rs).token ≡ 0 → ⊥) → n ≤ at → (record_at n rs).token ≡ 0 → IsNearestTag rs at m → n ≡ m
-nearest_is rs at n m none within tag h = elim (cases_lt n m) [
-  | inl low ↦ absurd (none m low h.within h.tag)
-  | inr high ↦ elim (cases_lt m n) [
-    | inl low ↦ absurd (h.none n low within tag)
-    | inr same ↦ omega arith
-  ]
-]
-
 -- an item found at a place is the one that begins there
 pub item_is : (bytes : List ℕ) (at : ℕ) (found : ItemShown) (i : Item) → IsUtf8 bytes → HasTagAt bytes at → IsItemAt bytes at found → begins_at bytes at i ≡ true → found ≡ item_shown at i
 item_is bytes at found i u h f b = f.shown ∙ ap (item_shown at) (one_item bytes at f.item i (IsUtf8-drop bytes at u (tag_place bytes at h).boundary) f.begins b)
@@ -54,10 +44,6 @@ tag_found bytes rs n place first closed t parts is f p = ap (λ r. r.offset) p �
 pub found_there : (bytes : List ℕ) (rs : List Record) (n place offset : ℕ) (closed : Bool) (t : Tag) → IsTagOf bytes rs n place closed t → offset ≡ place + 1 → HasTagAt bytes (offset - 1)
 found_there bytes rs n place offset closed t is e =
     let before : place ≡ offset - 1 = omega (arith, e) in subst (HasTagAt bytes) before (tag_there bytes place closed t is.begins)
-
-pub found_shown : (bytes : List ℕ) (place offset : ℕ) (i : Item) (found : ItemShown) → begins_at bytes place i ≡ true → offset ≡ place + 1 → ((j : Item) → begins_at bytes (offset - 1) j ≡ true → found ≡ item_shown (offset - 1) j) → found ≡ item_shown place i
-found_shown bytes place offset i found b e f =
-    let before : offset - 1 ≡ place = omega (arith, e) in f i (ap (λ k. begins_at bytes k i) before ∙ b) ∙ ap (λ k. item_shown k i) before
 
 -- The last piece, where it is a tag.
 
@@ -87,18 +73,6 @@ empty_kind kind false e h = absurd cc
 pub start_kind : (kind : ItemKind) (c : Bool) → (kind ≡ kinds.EmptyTag → ⊥) → kind ≡ tag_kind c → c ≡ false
 start_kind kind true e h = absurd (e h)
 start_kind kind false e h = refl
-
-pub leaf_piece_end : (bytes : List ℕ) (rs : List Record) (level last place opened : ℕ) (parts : Parts) → record_of parts ≡ record_at last rs → ends_tag parts.token ≡ false → IsLastPiece bytes rs level last place opened → record_end (record_of parts) ≡ place
-leaf_piece_end bytes rs level last place opened parts p e (in_leaf t q d) = ap record_end p ∙ sym q
-leaf_piece_end bytes rs level last place opened parts p e (in_tag at closed t k is q d) = absurd (false≢true (sym e ∙ ap (λ r. ends_tag r.token) p ∙ k))
-
-pub leaf_piece_opened : (bytes : List ℕ) (rs : List Record) (level last place opened : ℕ) (parts : Parts) → record_of parts ≡ record_at last rs → ends_tag parts.token ≡ false → IsLastPiece bytes rs level last place opened → parts.depth + 1 ≡ level + opened
-leaf_piece_opened bytes rs level last place opened parts p e (in_leaf t q d) = ap (λ r. r.depth + 1) p ∙ d
-leaf_piece_opened bytes rs level last place opened parts p e (in_tag at closed t k is q d) = absurd (false≢true (sym e ∙ ap (λ r. ends_tag r.token) p ∙ k))
-
-pub tag_piece_has : (bytes words : List ℕ) (rs : List Record) (level last place opened : ℕ) (parts : Parts) → Shows words rs → record_of parts ≡ record_at last rs → ends_tag parts.token ≡ true → IsLastPiece bytes rs level last place opened → HasTagOf bytes words last
-tag_piece_has bytes words rs level last place opened parts s p e (in_leaf t q d) = absurd (false≢true (sym t ∙ ap (λ r. ends_tag r.token) (sym p) ∙ e))
-tag_piece_has bytes words rs level last place opened parts s p e (in_tag at closed t k is q d) = record { rs = rs; shows = s; at = at; closed = closed; tag = t; is = is }
 
 -- End tags, one after another.
 

@@ -21,40 +21,10 @@ use Rattle.vtd_words.proofs.Fitting.{nest_shown}
 use Rattle.vtd_words.proofs.Shown.{shown_length}
 use Rattle.xml_model.proofs.Indexes.{index_found, is_there, one_kind}
 use Rattle.xml_model.proofs.Things.{attribute_kind, attribute_thing, attribute_token, child_kind}
+use Rattle.xml_model.proofs.AttributeRuns.{attribute_part}
 use Rattle.xml_model.proofs.Inside.{levels_shown, child_after}
-use Rattle.vtd_cursor.specs.Searches.{IsWanted, NodeAt, NodeOfLevel, FirstFrom, LastBefore}
-
--- Nodes by the index of their first record.
-
-none_there : (o : Option Entry) → None ≡ option_map node_of o → is_some o ≡ true → ⊥
-none_there None h k = false≢true k
-none_there (Some e) h k = none-some _ h
-
-pub none_at : (want : Thing → Bool) (es : List Entry) (at : ℕ) → None ≡ option_map node_of (at_index at es) → NodeAt want es at None
-none_at want es at h = λ x c w p. none_there (at_index at es) h (is_there at es x c p)
-
-record NodeThere (es : List Entry) (at : ℕ) (node : Node) : Type 0 where
-  entry : Entry
-  contains : Contains es entry
-  shown : node ≡ node_of entry
-  index : entry.index ≡ at
-
-some_there : (es : List Entry) (at : ℕ) (node : Node) (o : Option Entry) → at_index at es ≡ o → Some node ≡ option_map node_of o → NodeThere es at node
-some_there es at node None e h = absurd (none-some _ (sym h))
-some_there es at node (Some x) e h = let f = index_found at es x e in record { entry = x; contains = f.0; shown = cc; index = f.1 }
-
--- a node that was found is wanted, or it is not
-pub wanted_at : (want : Thing → Bool) (es : List Entry) (at : ℕ) (node : Node) → Some node ≡ option_map node_of (at_index at es) → ((what : Thing) → kind_of what ≡ node.kind → want what ≡ true) → NodeAt want es at (Some node)
-wanted_at want es at node h w =
-    let n = some_there es at node (at_index at es) refl h in
-    record { entry = n.entry; there = n.contains; shown = n.shown; index = n.index; wanted = w n.entry.what (sym (ap (λ k. k.kind) n.shown)) }
-
-pub unwanted_at : (bytes : List ℕ) (lists : Lists) (nest : Forest) → IsNestOf bytes lists nest → (want : Thing → Bool) (at : ℕ) (node : Node) → Some node ≡ option_map node_of (at_index at (nodes_of bytes nest)) →
-    ((what : Thing) → kind_of what ≡ node.kind → want what ≡ true → ⊥) → NodeAt want (nodes_of bytes nest) at None
-unwanted_at bytes lists nest s want at node h w = λ x c t p.
-    let es = nodes_of bytes nest in
-    let n = some_there es at node (at_index at es) refl h in
-    w x.what (one_kind nest (first_place bytes) x n.entry c n.contains (p ∙ sym n.index) ∙ sym (ap (λ k. k.kind) n.shown)) t
+use Rattle.vtd_cursor.specs.Searches.{IsWanted, NodeOfLevel, FirstFrom, LastBefore}
+use Rattle.vtd_words.specs.Found.{NodeAt}
 
 pub child_wanted : (kind : Kind) → is_child_kind kind ≡ true → (what : Thing) → kind_of what ≡ kind → is_child_thing what ≡ true
 child_wanted kind h what e = child_kind what ∙ ap is_child_kind e ∙ h
@@ -85,12 +55,6 @@ NoneAt want level es at = (x : Entry) → Contains es x → IsWanted want level 
 -- the first record of a wanted node passes
 abbrev pub WantedPass : (Record → Bool) → (Thing → Bool) → ℕ → List Record → List Entry → Type 0
 WantedPass pass want level rs es = (x : Entry) → Contains es x → IsWanted want level x → pass (record_at x.index rs) ≡ true
-
-pub start_from : (pass : Record → Bool) (want : Thing → Bool) (level : ℕ) (rs : List Record) (es : List Entry) (from : ℕ) → PassedFrom pass want level rs es from from
-start_from pass want level rs es from = record { passes = λ k l h. absurd (omega (arith, l, h)); none = λ x c w l h. omega (arith, l, h) }
-
-pub start_before : (pass : Record → Bool) (want : Thing → Bool) (level : ℕ) (rs : List Record) (es : List Entry) (end : ℕ) → PassedBefore pass want level rs es end end
-start_before pass want level rs es end = record { passes = λ k l h. absurd (omega (arith, l, h)); none = λ x c w l h. omega (arith, l, h) }
 
 pub on_from : (pass : Record → Bool) (want : Thing → Bool) (level : ℕ) (rs : List Record) (es : List Entry) (from at : ℕ) → PassedFrom pass want level rs es from at → pass (record_at at rs) ≡ true → NoneAt want level es at →
     PassedFrom pass want level rs es from (at + 1)
@@ -188,10 +152,8 @@ child_pass bytes lists nest s level x c w =
 
 pub attribute_pass : (bytes : List ℕ) (lists : Lists) (nest : Forest) → IsNestOf bytes lists nest → (level : ℕ) → WantedPass (is_attribute_part level) is_attribute_thing level (records nest (first_place bytes)) (nodes_of bytes nest)
 attribute_pass bytes lists nest s level x c w =
-    let rs = records nest (first_place bytes) in
-    let f : FirstRecordShows rs x = first_record_of_node nest (first_place bytes) s.accepted.document.nests x c in
-    let token : (record_at x.index rs).token ≡ 2 = attribute_token _ (f.kind ∙ ap (λ k. Some k) (attribute_kind x.what w.wanted)) in
-    ap₂ (λ b d. b && d) (ap (λ t. t == 2 || t == 3 || t == 4) token) (eq-eqb _ level (f.level ∙ w.held))
+    ap (λ l. is_attribute_part l (record_at x.index (records nest (first_place bytes)))) (sym w.held)
+    ∙ attribute_part nest (first_place bytes) s.accepted.document.nests x c w.wanted
 
 pub other_level : (bytes : List ℕ) (lists : Lists) (nest : Forest) → IsNestOf bytes lists nest → (want : Thing → Bool) (level found at : ℕ) → found ≡ level_of (record_at at (records nest (first_place bytes))) → (found ≡ level → ⊥) →
     NodeOfLevel want level found (nodes_of bytes nest) at None

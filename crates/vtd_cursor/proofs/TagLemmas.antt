@@ -24,6 +24,7 @@ use Rattle.vtd_words.specs.declared.packing.Parts.{Parts}
 use Rattle.vtd_words.specs.Packed.{record_of}
 use Rattle.vtd_words.specs.Table.{ArePartsAt, IsNestOf, IsNodeOf, Shows, nodes_of}
 use Rattle.vtd_words.proofs.Fitting.{nest_shown}
+use Rattle.vtd_words.proofs.Nodes.{record_shown}
 use Rattle.xml_model.specs.declared.Span.{Span}
 use Rattle.xml_chars.specs.Places.{span_from}
 use Rattle.xml_items.specs.declared.Item.{Item as ItemShown}
@@ -212,6 +213,24 @@ value_of bytes lists few node past q parts p nest s e w a is =
 
 same_span : (a a' b b' : ℕ) → a ≡ a' → b ≡ b' → ◌≡◌ {A = Span} (record { start = a; end = b }) (record { start = a'; end = b' })
 same_span a a' b b' p q = cc
+
+-- the first record of an element is that of its name
+pub name_found : (bytes : List ℕ) (lists : Lists) → length bytes < 2 ^ 30 → (node : Node) (parts : Parts) → ArePartsAt lists.records node.at parts →
+    (nest : Forest) → IsNestOf bytes lists nest → (e : Entry) → Identifies node.kind node.at e (nodes_of bytes nest) →
+    (t : Tag) (inside : Forest) → e.what ≡ Thing.element t inside →
+    ◌≡◌ {A = Span} (record { start = parts.offset; end = parts.offset + parts.length }) (span_from (e.start + 1) t.name)
+name_found bytes lists few node parts p nest s e w t inside is =
+    let first = first_place bytes in
+    let rs = records nest first in
+    let l = length e.holders in
+    let own = tag_records l e.start t ++ forest_records (suc l) (past_start e.start t) inside in
+    let r : HasRecords rs e = records_of_node nest first s.accepted.document.nests e w.0 in
+    let mine : records_of e.what l e.start ≡ own = ap (λ x. records_of x l e.start) is in
+    let head : record_at e.index rs ≡ named 0 l t.name (e.start + 1) =
+    first_in rs r.prefix own r.rest e.index (r.split ∙ ap (λ ts. r.prefix ++ ts ++ r.rest) mine) r.begins (omega arith) in
+    let same : record_of parts ≡ named 0 l t.name (e.start + 1) =
+    record_shown bytes lists few node.at parts p nest s ∙ ap (λ n. record_at n rs) (sym w.2) ∙ head in
+    same_span _ _ _ _ (ap (λ x. x.offset) same) (ap (λ x. x.offset + x.len) same)
 
 pub value_found : (bytes : List ℕ) (lists : Lists) → length bytes < 2 ^ 30 → (node : Node) → (past : ℕ) → PastOf bytes lists node past → (parts : Parts) → ArePartsAt lists.records (past - 1) parts → (nest : Forest) → IsNestOf bytes lists nest →
     (e : Entry) → Identifies node.kind node.at e (nodes_of bytes nest) → (a : Attribute) → e.what ≡ Thing.attribute a →

@@ -10,11 +10,17 @@ use Rattle.xml_model.specs.declared.TokenKind.TheVariants as token
 
 -- how many bytes of a piece are before the token of its first record: `<` of a tag, `<![CDATA[`, `<!--`, `<?`
 abbrev pub opening : ℕ → ℕ
-opening n = cond (n == kind_number token.StartTag) 1 (cond (n == kind_number token.Cdata) 9 (cond (n == kind_number token.Comment) 4 (cond (n == kind_number token.Target) 2 0)))
+opening n =
+    cond (n == kind_number token.StartTag) 1
+    (cond (n == kind_number token.Cdata) 9
+    (cond (n == kind_number token.Comment) 4 (cond (n == kind_number token.Target) 2 0)))
 
 -- how many bytes of a piece are after the token of its last record: the quote of a value, `?>`, `]]>`, `-->`
 abbrev pub closing : ℕ → ℕ
-closing n = cond (n == kind_number token.Value) 1 (cond (n == kind_number token.Data) 2 (cond (n == kind_number token.Cdata || n == kind_number token.Comment) 3 0))
+closing n =
+    cond (n == kind_number token.Value) 1
+    (cond (n == kind_number token.Data) 2
+    (cond (n == kind_number token.Cdata || n == kind_number token.Comment) 3 0))
 
 -- where the piece ends whose last record this is
 abbrev pub record_end : Record → ℕ
@@ -33,7 +39,8 @@ pub record EndTagAt (bytes : List ℕ) (at : ℕ) : Type 0 where
 -- so many end tags stand one after another, from a place to another
 abbrev pub EndTags : List ℕ → ℕ → ℕ → ℕ → Type 0
 EndTags bytes zero from to = from ≡ to
-EndTags bytes (suc n) from to = (tag : EndTagAt bytes from) × EndTags bytes n (from + length (spelling (end_tag tag.name tag.space))) to
+EndTags bytes (suc n) from to =
+    (tag : EndTagAt bytes from) × EndTags bytes n (from + length (spelling (end_tag tag.name tag.space))) to
 
 -- some place where so many end tags end
 pub record HasEndTags (bytes : List ℕ) (n from : ℕ) : Type 0 where
@@ -75,8 +82,10 @@ pub record HasTagAt (bytes : List ℕ) (at : ℕ) : Type 0 where
 
 -- the piece whose last record has an index: where it ends, and how many elements are open there from a level on
 pub data IsLastPiece (bytes : List ℕ) (rs : List Record) (level last place opened : ℕ) : Type 0 where
-  in_leaf : ends_tag (record_at last rs).token ≡ false → place ≡ record_end (record_at last rs) → (record_at last rs).depth + 1 ≡ level + opened → IsLastPiece bytes rs level last place opened
-  in_tag : (at : ℕ) (closed : Bool) (t : Tag) → ends_tag (record_at last rs).token ≡ true → IsTagOf bytes rs last at closed t → place ≡ at + length (spelling (tag_item closed t)) →
+  in_leaf : ends_tag (record_at last rs).token ≡ false → place ≡ record_end (record_at last rs) →
+      (record_at last rs).depth + 1 ≡ level + opened → IsLastPiece bytes rs level last place opened
+  in_tag : (at : ℕ) (closed : Bool) (t : Tag) → ends_tag (record_at last rs).token ≡ true →
+      IsTagOf bytes rs last at closed t → place ≡ at + length (spelling (tag_item closed t)) →
       (record_at last rs).depth + one_if (not closed) ≡ level + opened → IsLastPiece bytes rs level last place opened
 
 -- some piece whose last record has an index

@@ -20,8 +20,8 @@ last_of es = first_of (reverse es)
 abbrev pub root_node : Node
 root_node = record { kind = kinds.Root; at = 0 }
 
--- what a cursor is: the document's bytes and what its words are read from, the node where it is, and the nodes that were saved, the
--- last of them at the end
+-- what a cursor is: the document's bytes and what its words are read from, the node where it is, and the nodes that
+-- were saved, the last of them at the end
 pub record CursorOf (W : Type 0) : Type 0 where
   pub bytes : List ℕ
   pub words : W

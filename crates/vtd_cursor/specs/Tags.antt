@@ -10,11 +10,21 @@ use Rattle.vtd_words.specs.Lists.{Lists}
 use Rattle.vtd_words.specs.Table.{IsNestOf, nodes_of}
 use Rattle.vtd_cursor.specs.declared.spans.Tags.{Tags}
 
--- the places of an element's tags, by whether it is one empty tag: its name, after its first tag, and at the < of its end tag; of an
--- empty tag both places are where it ends
+-- the places of an element's tags, by whether it is one empty tag: its name, after its first tag, and at the < of its
+-- end tag; of an empty tag both places are where it ends
 abbrev pub tags_by : Bool → Tag → Forest → ℕ → ℕ → Tags
-tags_by true t inside start stop = record { name = span_from (start + 1) t.name; head_end = stop; tail_start = stop; empty = true }
-tags_by false t inside start stop = record { name = span_from (start + 1) t.name; head_end = past_start start t; tail_start = past_forest (past_start start t) inside; empty = false }
+tags_by true t inside start stop = record {
+  name = span_from (start + 1) t.name;
+  head_end = stop;
+  tail_start = stop;
+  empty = true;
+}
+tags_by false t inside start stop = record {
+  name = span_from (start + 1) t.name;
+  head_end = past_start start t;
+  tail_start = past_forest (past_start start t) inside;
+  empty = false;
+}
 
 -- a node is an element that is not one empty tag
 pub record HasEndTag (bytes : List ℕ) (lists : Lists) (node : Node) : Type 0 where

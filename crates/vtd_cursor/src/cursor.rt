@@ -54,15 +54,26 @@ impl<'n, 'a, W: Words> Model for Cursor<'n, 'a, W> {
 
     ghost Value = { CursorOf W };
 
-    ghost view = { λ c. record { bytes = c.table.now.bytes; words = c.table.now.words; node = c.node; saved = map (λ p. p.node) c.saved.items } };
+    ghost view = { λ c. record {
+      bytes = c.table.now.bytes;
+      words = c.table.now.words;
+      node = c.node;
+      saved = map (λ p. p.node) c.saved.items;
+    } };
 
-    ghost invariant = { λ c. IsCursor c.table.now.bytes (W.lists c.table.now.words) c.node (map (λ p. p.node) c.saved.items) c.saved.capacity };
+    ghost invariant = { λ c. IsCursor c.table.now.bytes (W.lists c.table.now.words) c.node
+      (map (λ p. p.node) c.saved.items) c.saved.capacity };
 }
 
 impl<'n, 'a, W: Words> Cursor<'n, 'a, W> {
     /// A cursor on the root of a document, with no node saved.
     pub fn new(alloc: Global, nav: &'n Nav<'a, W>) -> Cursor<'n, 'a, W>
-        ensures { result ≡ record { bytes = nav.entry.now.bytes; words = nav.entry.now.words; node = root_node; saved = [] } }
+        ensures { result ≡ record {
+            bytes = nav.entry.now.bytes;
+            words = nav.entry.now.words;
+            node = root_node;
+            saved = [];
+        } }
     {
         Cursor {
             table: nav.table(),
@@ -123,8 +134,8 @@ impl<'n, 'a, W: Words> Cursor<'n, 'a, W> {
         self.go(target)
     }
 
-    /// Moves to the sibling before this one; false, with nothing moved, exactly where there is none. An attribute has no
-    /// siblings.
+    /// Moves to the sibling before this one; false, with nothing moved, exactly where there is none. An attribute has
+    /// no siblings.
     pub fn to_previous(&mut self) -> bool
         ensures { ForEachEntry self.old.bytes (W.lists self.old.words) self.old.node (λ nest e.
             Goes (first_of (axis_list axes.PrecedingSibling e.path
@@ -143,8 +154,8 @@ impl<'n, 'a, W: Words> Cursor<'n, 'a, W> {
         self.go(target)
     }
 
-    /// Moves from an attribute to the next of its element; false, with nothing moved, exactly where there is none, and at
-    /// what is no attribute.
+    /// Moves from an attribute to the next of its element; false, with nothing moved, exactly where there is none,
+    /// and at what is no attribute.
     pub fn to_next_attribute(&mut self) -> bool
         ensures attribute { ForEachEntry self.old.bytes (W.lists self.old.words) self.old.node (λ nest e.
             (z : Entry) → Contains (nodes_of self.old.bytes nest) z → on_axis axes.Attribute z.path e.path ≡ true →
@@ -168,11 +179,12 @@ impl<'n, 'a, W: Words> Cursor<'n, 'a, W> {
         }
     }
 
-    /// Goes back to the node that was saved last, which is then no longer saved; false, with nothing moved, exactly where
-    /// none is saved.
+    /// Goes back to the node that was saved last, which is then no longer saved; false, with nothing moved, exactly
+    /// where none is saved.
     pub fn pop(&mut self) -> bool
         ensures none { (result ≡ false) ↔ (self.old.saved ≡ []) }
-        ensures back { result ≡ true → self.old ≡ record self.new { node = self.old.node; saved = self.new.saved ++ self.new.node ∷ [] } }
+        ensures back { result ≡ true →
+            self.old ≡ record self.new { node = self.old.node; saved = self.new.saved ++ self.new.node ∷ [] } }
         ensures stays { result ≡ false → self.new ≡ self.old }
     {
         match self.saved.pop() {

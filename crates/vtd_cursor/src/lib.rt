@@ -8,4 +8,4 @@ mod searches;
 mod spans;
 
 pub use cursor::Cursor;
-pub use spans::{Tags, span, tags_of, value_span};
+pub use spans::{Tags, name_span, span, tags_of, value_span};

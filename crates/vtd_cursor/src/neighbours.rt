@@ -8,8 +8,8 @@ ghost use Rattle.vtd_words.specs.Lists.{list_of};
 ghost use Rattle.vtd_words.specs.Table.{ForEachEntry, IsNestOf, IsNodeOf, nodes_of};
 ghost use Rattle.vtd_cursor.specs.Moves.{first_of, last_of};
 
-use crate::searches::{attribute_from, child_before, child_from, is_child};
-use vtd_words::{Part, Table, Words, level_of, parts_at};
+use crate::searches::{attribute_from, child_before, child_from};
+use vtd_words::{Part, Table, Words};
 use xml_model::{Kind, Node};
 
 /// The parent; `None` for the root.
@@ -32,8 +32,8 @@ pub fn first_child_of<W: Words>(table: &Table<'_, W>, node: Node) -> Option<Node
     match node.kind {
         Kind::Root => child_from(table, 1, 0),
         Kind::Element => {
-            let level = level_at(table, node);
-            child_from(table, index_after(table, node.at), level + 1)
+            let level = table.level_at(node);
+            child_from(table, table.after_first(node), level + 1)
         }
         _ => None,
     }
@@ -48,7 +48,7 @@ pub fn last_child_of<W: Words>(table: &Table<'_, W>, node: Node) -> Option<Node>
 {
     match node.kind {
         Kind::Root => child_before(table, past_of(table, node), 0),
-        Kind::Element => child_before(table, past_of(table, node), level_at(table, node) + 1),
+        Kind::Element => child_before(table, past_of(table, node), table.level_at(node) + 1),
         _ => None,
     }
 }
@@ -60,10 +60,10 @@ pub fn next_of<W: Words>(table: &Table<'_, W>, node: Node) -> Option<Node>
         result ≡ first_of (axis_list axes.FollowingSibling e.path (nodes_of table.now.bytes nest))) }
     ensures node { IfSome result (λ found. IsNodeOf table.now.bytes (W.lists table.now.words) found) }
 {
-    if !is_child(node.kind) {
+    if !node.kind.is_child() {
         return None;
     }
-    child_from(table, table.end_of(node), level_at(table, node))
+    child_from(table, table.end_of(node), table.level_at(node))
 }
 
 /// The sibling before this one; an attribute has none.
@@ -73,10 +73,10 @@ pub fn previous_of<W: Words>(table: &Table<'_, W>, node: Node) -> Option<Node>
         result ≡ first_of (axis_list axes.PrecedingSibling e.path (nodes_of table.now.bytes nest))) }
     ensures node { IfSome result (λ found. IsNodeOf table.now.bytes (W.lists table.now.words) found) }
 {
-    if !is_child(node.kind) {
+    if !node.kind.is_child() {
         return None;
     }
-    child_before(table, node.at, level_at(table, node))
+    child_before(table, node.at, table.level_at(node))
 }
 
 /// The first attribute.
@@ -88,8 +88,8 @@ pub fn first_attribute_of<W: Words>(table: &Table<'_, W>, node: Node) -> Option<
 {
     match node.kind {
         Kind::Element => {
-            let level = level_at(table, node);
-            attribute_from(table, index_after(table, node.at), level + 1)
+            let level = table.level_at(node);
+            attribute_from(table, table.after_first(node), level + 1)
         }
         _ => None,
     }
@@ -106,29 +106,9 @@ pub fn next_attribute_of<W: Words>(table: &Table<'_, W>, node: Node) -> Option<N
     ensures node { IfSome result (λ found. IsNodeOf table.now.bytes (W.lists table.now.words) found) }
 {
     match node.kind {
-        Kind::Attribute => attribute_from(table, table.end_of(node), level_at(table, node)),
+        Kind::Attribute => attribute_from(table, table.end_of(node), table.level_at(node)),
         _ => None,
     }
-}
-
-/// The level of a node: how many elements hold it.
-fn level_at<W: Words>(table: &Table<'_, W>, node: Node) -> u32
-    requires { IsNodeOf table.now.bytes (W.lists table.now.words) node }
-    ensures level { ForEachEntry table.now.bytes (W.lists table.now.words) node (λ nest e.
-        result ≡ length e.holders) }
-    ensures small { result ≤ 256 }
-    ensures within { node.at < length (list_of Part.Records (W.lists table.now.words)) }
-{
-    level_of(parts_at(table.words(), node.at))
-}
-
-/// The index after that of a record.
-fn index_after<W: Words>(table: &Table<'_, W>, at: u32) -> u32
-    requires { at < length (list_of Part.Records (W.lists table.now.words)) }
-    ensures { result ≡ at + 1 }
-{
-    let records = table.words().len(Part::Records);
-    if at < records { at + 1 } else { records }
 }
 
 /// The first record past those of a node and of all that is in it, which is at most the number of records.

@@ -99,7 +99,8 @@ pub fn tag_of<W: Words>(bytes: &[u8], words: &W, at: u32) -> Item
     requires within { at < length (list_of Part.Records (W.lists words.now)) }
     requires tag { HasTagOf bytes.now (list_of Part.Records (W.lists words.now)) at }
     ensures { (rs : List Record) → Shows (list_of Part.Records (W.lists words.now)) rs →
-        (place : ℕ) (closed : Bool) (t : Tag) → IsTagOf bytes.now rs at place closed t → result ≡ item_shown place (tag_item closed t) }
+        (place : ℕ) (closed : Bool) (t : Tag) → IsTagOf bytes.now rs at place closed t →
+        result ≡ item_shown place (tag_item closed t) }
 {
     let first = nearest_tag(words, at);
     tag_at(bytes, parts_at(words, first).offset - 1)

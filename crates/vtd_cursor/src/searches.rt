@@ -9,7 +9,8 @@ ghost use Rattle.xml_model.specs.Scan.{level_of as level_of_record, record_at, i
 ghost use Rattle.vtd_words.specs.Lists.{list_of};
 ghost use Rattle.vtd_words.specs.Packed.{record_of};
 ghost use Rattle.vtd_words.specs.Table.{ArePartsAt, ForEachNest, IsNodeOf, nodes_of};
-ghost use Rattle.vtd_cursor.specs.Searches.{FirstFrom, LastBefore, NodeAt, NodeOfLevel};
+ghost use Rattle.vtd_cursor.specs.Searches.{FirstFrom, LastBefore, NodeOfLevel};
+ghost use Rattle.vtd_words.specs.Found.{NodeAt};
 
 use vtd_words::{Part, Parts, Table, Words, level_of, parts_at};
 use xml_model::{Kind, Node, TokenKind};
@@ -26,13 +27,6 @@ fn is_attribute_part(parts: Parts, level: u32) -> bool
     matches!(parts.token, ATTRIBUTE_NAME | NAMESPACE_NAME | VALUE) && level_of(parts) == level
 }
 
-/// Whether nodes of a kind are children where they are.
-pub fn is_child(kind: Kind) -> bool
-    ensures { result ≡ is_child_kind kind }
-{
-    !matches!(kind, Kind::Root | Kind::Attribute)
-}
-
 /// The node that begins at a record with these parts, if it is a child where it is.
 fn child_at<W: Words>(table: &Table<'_, W>, at: u32, parts: Parts) -> Option<Node>
     requires within { at < length (list_of Part.Records (W.lists table.now.words)) }
@@ -44,7 +38,7 @@ fn child_at<W: Words>(table: &Table<'_, W>, at: u32, parts: Parts) -> Option<Nod
     let Some(node) = table.node_from(at, parts) else {
         return None;
     };
-    if is_child(node.kind) {
+    if node.kind.is_child() {
         Some(node)
     } else {
         None
@@ -58,7 +52,8 @@ fn child_of_level<W: Words>(table: &Table<'_, W>, at: u32, parts: Parts, level: 
     requires shown { ForEachNest table.now.bytes (W.lists table.now.words) (λ nest.
         record_of parts ≡ record_at at (records nest (first_place table.now.bytes))) }
     ensures at { ForEachNest table.now.bytes (W.lists table.now.words) (λ nest.
-        NodeOfLevel is_child_thing level (level_of_record (record_of parts)) (nodes_of table.now.bytes nest) at result) }
+        NodeOfLevel is_child_thing level (level_of_record (record_of parts))
+        (nodes_of table.now.bytes nest) at result) }
     ensures node { IfSome result (λ node. IsNodeOf table.now.bytes (W.lists table.now.words) node) }
 {
     let found = level_of(parts);

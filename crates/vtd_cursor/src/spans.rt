@@ -78,6 +78,22 @@ pub fn span<W: Words>(nav: &Nav<'_, W>, node: Node) -> Span
     }
 }
 
+/// Where the name in the first tag of an element is (XML 1.0, productions 40 and 44). It reads one record, where `tags_of`
+/// goes over all that is in the element.
+pub fn name_span<W: Words>(nav: &Nav<'_, W>, node: Node) -> Span
+    requires node { IsNodeOf nav.now.bytes (W.lists nav.now.words) node }
+    requires element { node.kind ≡ Kind.Element }
+    ensures { ForEachEntry nav.now.bytes (W.lists nav.now.words) node (λ nest e.
+        (t : Tag) (inside : Forest) → e.what ≡ Thing.element t inside → result ≡ span_from (e.start + 1) t.name) }
+{
+    let table = nav.table();
+    let name = parts_at(table.words(), node.at);
+    Span {
+        start: name.offset,
+        end: name.offset + name.length,
+    }
+}
+
 /// Where the tags of an element are (XML 1.0, productions 40, 42 and 44).
 pub fn tags_of<W: Words>(nav: &Nav<'_, W>, node: Node) -> Tags
     requires node { IsNodeOf nav.now.bytes (W.lists nav.now.words) node }

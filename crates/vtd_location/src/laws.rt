@@ -1,5 +1,5 @@
-//! Laws of documents that are accepted whole. Each function does nothing; its contract is the law, which the check proves.
-//! Other crates cite the lemmas of `proofs/NavLaws.antt`, which say the same.
+//! Laws of documents that are accepted whole. Each function does nothing; its contract is the law, which the check
+//! proves. Other crates cite the lemmas of `proofs/NavLaws.antt`, which say the same.
 
 ghost use Rattle.std.specs.Prelude.{ℕ, List};
 ghost use Rattle.xml_model.specs.Nest.{Forest};

@@ -7,3 +7,4 @@ pub mod Begins
 pub mod Nodes
 pub mod Owners
 pub mod Same
+pub mod Found

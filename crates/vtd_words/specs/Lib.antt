@@ -1,3 +1,4 @@
 pub mod Packed
 pub mod Lists
 pub mod Table
+pub mod Found

@@ -1,6 +1,6 @@
 -- The attributes of an element: records of attributes and declarations alone are before each of them.
 use Rattle.std.proofs.Common.{◌≡◌, ℕ, zero, suc, ◌+◌, ◌-◌, ◌<◌, ◌≤◌, Bool, true, false, cond, ◌&&◌, ◌||◌, ◌==◌, List, [], ◌∷◌, ◌++◌, length}
-use Rattle.std.proofs.Common.{refl, ap, sym, ◌∙◌, subst, arith, Some, inl, inr, length-append, eq-eqb, append_assoc}
+use Rattle.std.proofs.Common.{refl, ap, ap₂, sym, ◌∙◌, subst, arith, Some, inl, inr, length-append, eq-eqb, append_assoc}
 use Rattle.std.specs.List.{Contains, AllByRecursion as Each}
 use Rattle.std.proofs.lemmas.Bool.{cases_lt, false≢true}
 use Rattle.xml_model.specs.declared.Kind.TheVariants as kinds
@@ -150,3 +150,12 @@ pub attribute_held : (nest : Forest) (first : ℕ) → is_nest nest ≡ true →
 attribute_held nest first n e c h =
     let k : KnownNode (all nest first) e = known_node nest first n e (in_nodes nest first e c (attribute_no_root e.what h)) in
     held_thing e.what (length e.holders) h k.held
+
+-- the first record of an attribute is a part of it
+pub attribute_part : (nest : Forest) (first : ℕ) → is_nest nest ≡ true → (x : Entry) → Contains (all nest first) x → is_attribute_thing x.what ≡ true →
+    is_attribute_part (length x.holders) (record_at x.index (records nest first)) ≡ true
+attribute_part nest first n x c h =
+    let rs = records nest first in
+    let f : FirstRecordShows rs x = first_record_of_node nest first n x c in
+    let token : (record_at x.index rs).token ≡ 2 = attribute_token _ (f.kind ∙ ap (λ k. Some k) (attribute_kind x.what h)) in
+    ap₂ (λ b d. b && d) (ap (λ t. t == 2 || t == 3 || t == 4) token) (eq-eqb _ (length x.holders) f.level)

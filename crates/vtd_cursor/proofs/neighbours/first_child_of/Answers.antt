@@ -8,7 +8,7 @@ returns-in-Root-clause-axis g c = λ nest s e w. root_first_child _ _ nest s c.a
 
 pub returns-in-Element-clause-axis : goal.returns-in-Element-clause-axis
 returns-in-Element-clause-axis g c = λ nest s e w.
-    element_first_child _ _ nest s c.args.node.kind c.args.node.at e w c.in-Element.is c.level_at-level.result c.index_after.result (c.level_at-level.ensures.level nest s e w) c.index_after.ensures c.child_from-in-Element.result (c.child_from-in-Element.ensures.first nest s)
+    element_first_child _ _ nest s c.args.node.kind c.args.node.at e w c.in-Element.is c.level_at-level.result c.after_first.result (c.level_at-level.ensures.level nest s e w) c.after_first.ensures.index c.child_from-in-Element.result (c.child_from-in-Element.ensures.first nest s)
 
 pub returns-in_default : goal.returns-in_default
 returns-in_default g c = record {

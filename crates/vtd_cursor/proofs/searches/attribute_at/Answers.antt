@@ -1,6 +1,7 @@
 use Rattle.std.proofs.Common.{◌∙◌, sym}
 use Rattle.xml_model.specs.Laws.{is_attribute_thing}
-use Rattle.vtd_cursor.proofs.SearchLemmas.{none_at, wanted_at, unwanted_at, attribute_wanted, attribute_unwanted}
+use Rattle.vtd_cursor.proofs.SearchLemmas.{attribute_wanted, attribute_unwanted}
+use Rattle.vtd_words.proofs.Found.{none_at, wanted_at, unwanted_at}
 use Rattle.vtd_cursor.proofs.searches.attribute_at.Goals as goal
 
 pub returns-in_default-clause-at : goal.returns-in_default-clause-at
@@ -12,6 +13,6 @@ returns-in-Attribute-clause-at g c = λ nest s.
 
 pub returns-in_default-kind : goal.returns-in_default-kind
 returns-in_default-kind g c = record {
-  at = λ nest s. unwanted_at _ _ nest s is_attribute_thing c.args.at c.in-Some.node (sym c.in-Some.is ∙ c.node_from.ensures.node nest s) (attribute_unwanted c.in-Some.node.kind c.in_default-kind.not-Attribute);
+  at = λ nest s. unwanted_at _ nest is_attribute_thing c.args.at c.in-Some.node (sym c.in-Some.is ∙ c.node_from.ensures.node nest s) (attribute_unwanted c.in-Some.node.kind c.in_default-kind.not-Attribute);
   node = tt;
 }

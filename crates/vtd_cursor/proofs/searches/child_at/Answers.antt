@@ -1,6 +1,7 @@
 use Rattle.std.proofs.Common.{◌∙◌, sym}
 use Rattle.xml_model.specs.Laws.{is_child_thing}
-use Rattle.vtd_cursor.proofs.SearchLemmas.{none_at, wanted_at, unwanted_at, child_wanted, child_unwanted}
+use Rattle.vtd_cursor.proofs.SearchLemmas.{child_wanted, child_unwanted}
+use Rattle.vtd_words.proofs.Found.{none_at, wanted_at, unwanted_at}
 use Rattle.vtd_cursor.proofs.searches.child_at.Goals as goal
 
 pub returns-in_default-clause-at : goal.returns-in_default-clause-at
@@ -12,4 +13,4 @@ returns-then-is_child-clause-at g c = λ nest s.
 
 pub returns-else-is_child-clause-at : goal.returns-else-is_child-clause-at
 returns-else-is_child-clause-at g c = λ nest s.
-    unwanted_at _ _ nest s is_child_thing c.args.at c.in-Some.node (sym c.in-Some.is ∙ c.node_from.ensures.node nest s) (child_unwanted c.in-Some.node.kind (sym c.is_child.ensures ∙ c.if-is_child.false))
+    unwanted_at _ nest is_child_thing c.args.at c.in-Some.node (sym c.in-Some.is ∙ c.node_from.ensures.node nest s) (child_unwanted c.in-Some.node.kind (sym c.is_child.ensures ∙ c.if-is_child.false))
