@@ -11,7 +11,7 @@ returns-then-name-prefix c = λ cs p e f. other_length c.args.name.now c.args.pr
 
 pub returns-then-eq : goal.returns-then-eq
 returns-then-eq c = λ cs p e f.
-    rest_there c.args.name.now c.args.prefix.now c.split_at.result.0.now c.split_at.result.1.now cs p e f (some_length c.args.prefix.now (sym c.is_empty.ensures ∙ c.if-is_empty.false)) c.if-name-prefix.false c.split_at.ensures.mark c.split_at.ensures.back c.eq-then-eq.result c.eq-then-eq.ensures
+    rest_there c.args.name.now c.args.prefix.now c.split_at.result.0.now c.split_at.result.1.now cs p e f (some_length c.args.prefix.now (sym c.is_empty.ensures ∙ c.if-is_empty.false)) c.if-name-prefix.false c.split_at.ensures.front c.split_at.ensures.back c.eq-then-eq.result c.eq-then-eq.ensures
     (sym c.eq-2.ensures ∙ c.if-eq.true)
 
 pub returns-else-eq : goal.returns-else-eq
