@@ -21,7 +21,7 @@ use Rattle.vtd_words.proofs.Fitting.{nest_shown}
 use Rattle.vtd_text.specs.NameRecords.{IsDeclaration, IsNameOf}
 use Rattle.vtd_namespaces.specs.NameRecords.{IsAttributeRecord}
 use Rattle.vtd_namespaces.specs.Scope.{HolderIn}
-use Rattle.vtd_namespaces.specs.Uris.{IsScope, same_uri}
+use Rattle.vtd_namespaces.specs.Reach.{IsScope, same_uri}
 use Rattle.vtd_namespaces.specs.Offences.{is_twin, seen_after, IsFine}
 use Rattle.vtd_namespaces.proofs.QNameLemmas.{unprefixed}
 use Rattle.vtd_namespaces.proofs.ScopeLemmas.{uri_by}

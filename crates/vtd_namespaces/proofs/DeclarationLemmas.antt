@@ -17,7 +17,9 @@ use Rattle.xml_model.specs.Names.{declaring, declaration_of, nearest, first_of}
 use Rattle.xml_model.specs.Accepted.{name_place}
 use Rattle.vtd_words.specs.declared.packing.Parts.{Parts}
 use Rattle.vtd_words.specs.Packed.{record_of}
-use Rattle.vtd_namespaces.specs.NameRecords.{slice_of, is_attribute_token, AreAttributeRecords, IsTagRecord, IsRecordOfThing, HasNameRecord}
+use Rattle.vtd_text.specs.Joined.{slice_of}
+use Rattle.vtd_text.specs.NameRecords.{is_attribute_name}
+use Rattle.vtd_namespaces.specs.NameRecords.{AreAttributeRecords, IsTagRecord, IsRecordOfThing, HasNameRecord}
 use Rattle.vtd_namespaces.specs.Repeats.{HasNoAttribute}
 use Rattle.vtd_namespaces.specs.Scope.{IsDeclaredAt, IsDeclarationIn, IsNearestAt, IsNearest, HolderIn, Chain, Opened, tags_in}
 use Rattle.vtd_words.specs.Lists.{Lists}
@@ -91,14 +93,14 @@ unfolding declares
 declares_own [] = refl
 declares_own (c ∷ p) = refl
 
-no_declaration : (cs p : List ℕ) → declares cs ≡ false → bytes_eq cs (declaring p) ≡ false
+pub no_declaration : (cs p : List ℕ) → declares cs ≡ false → bytes_eq cs (declaring p) ≡ false
 no_declaration cs p h = false_from_ne_true _ (λ t. false≢true (sym h ∙ ap declares ((bytes_eq-Decides cs (declaring p)).0 t) ∙ declares_own p))
 
 token_three : (b : Bool) → ◌≡◌ {A = ℕ} (cond b 3 2) 3 → b ≡ true
 token_three true h = refl
 token_three false h = absurd (omega (arith, h))
 
-token_two : (b : Bool) → (◌≡◌ {A = ℕ} (cond b 3 2) 3 → ⊥) → b ≡ false
+pub token_two : (b : Bool) → (◌≡◌ {A = ℕ} (cond b 3 2) 3 → ⊥) → b ≡ false
 token_two true h = absurd (h refl)
 token_two false h = refl
 
@@ -132,13 +134,13 @@ pub record NextSought (bytes : List ℕ) (rs : List Record) (first n : ℕ) (t :
   pub miss : bytes_eq characters (declaring p) ≡ false → Sought bytes rs first (n + 1) t p
   pub other : (parts.token ≡ 3 → ⊥) → Sought bytes rs first (n + 1) t p
 
-pub next_sought : (bytes : List ℕ) (rs : List Record) (first n : ℕ) (t : Tag) (p : List ℕ) (parts : Parts) (name : List ℕ) → Sought bytes rs first n t p → record_of parts ≡ record_at (first + 2 * n) rs → is_attribute_token parts.token ≡ true →
+pub next_sought : (bytes : List ℕ) (rs : List Record) (first n : ℕ) (t : Tag) (p : List ℕ) (parts : Parts) (name : List ℕ) → Sought bytes rs first n t p → record_of parts ≡ record_at (first + 2 * n) rs → is_attribute_name parts.token ≡ true →
     name ≡ slice_of bytes (record_of parts) → NextSought bytes rs first n t p parts name
 next_sought bytes rs first n t p parts name s here kind is = by s.left s.hold s.same s.number
   where
     by : (left : List Attribute) → AreAttributeRecords bytes rs (first + 2 * n) s.place left → declaration_of p t ≡ find (λ a. bytes_eq a.name (declaring p)) left → ((k : ℕ) → slice_get t.attributes (n + k) ≡ slice_get left k) →
         NextSought bytes rs first n t p parts name
-    by [] k e i = absurd (false≢true (sym k ∙ ap (λ r. is_attribute_token r.token) (sym here) ∙ kind))
+    by [] k e i = absurd (false≢true (sym k ∙ ap (λ r. is_attribute_name r.token) (sym here) ∙ kind))
     by (a ∷ left) k e i =
         let here_zero : n + 0 ≡ n = omega arith in
         let miss : bytes_eq a.name (declaring p) ≡ false → Sought bytes rs first (n + 1) t p = λ h. record {

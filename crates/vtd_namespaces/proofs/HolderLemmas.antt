@@ -23,7 +23,7 @@ use Rattle.vtd_namespaces.specs.NameRecords.{AreAttributeRecords}
 use Rattle.vtd_namespaces.specs.Scope.{Chain, IsDeclarationIn, IsNearest, tags_in}
 use Rattle.vtd_namespaces.proofs.NameRecordLemmas.{document_holds}
 use Rattle.vtd_namespaces.proofs.DeclarationLemmas.{chain_attributes}
-use Rattle.vtd_namespaces.specs.NodeNames.{IsElementAt}
+use Rattle.vtd_namespaces.specs.Reach.{IsElementAt}
 use Rattle.vtd_namespaces.proofs.ChainLemmas.{document_chain}
 use Rattle.vtd_namespaces.proofs.OpenLemmas.{chain_holds}
 

@@ -12,7 +12,8 @@ use Rattle.xml_model.specs.Accepted.{name_place, repeated, is_bound, declaration
 use Rattle.xml_model.proofs.Each.{each_append}
 use Rattle.vtd_words.specs.declared.packing.Parts.{Parts}
 use Rattle.vtd_words.specs.Packed.{record_of}
-use Rattle.vtd_namespaces.specs.NameRecords.{is_attribute_token, AreAttributeRecords}
+use Rattle.vtd_text.specs.NameRecords.{is_attribute_name}
+use Rattle.vtd_namespaces.specs.NameRecords.{AreAttributeRecords}
 use Rattle.vtd_namespaces.specs.Repeats.{HasNoAttribute}
 use Rattle.vtd_namespaces.specs.Faults.{first_of}
 use Rattle.vtd_namespaces.specs.Offences.{seen_after, IsFine}
@@ -92,13 +93,13 @@ pub record NextInspected (bytes : List ℕ) (rs : List Record) (first n at : ℕ
   pub hit : attribute_offends tags (seen_after tags [] done) attribute ≡ true → Some p.offset ≡ first_of (offending_attributes tags at [] others)
   pub miss : attribute_offends tags (seen_after tags [] done) attribute ≡ false → Inspected bytes rs first (n + 1) at tags others
 
-pub next_inspected : (bytes : List ℕ) (rs : List Record) (first n at : ℕ) (tags : List Tag) (others : List Attribute) (p : Parts) → Inspected bytes rs first n at tags others → record_of p ≡ record_at (first + 2 * n) rs → is_attribute_token p.token ≡ true →
+pub next_inspected : (bytes : List ℕ) (rs : List Record) (first n at : ℕ) (tags : List Tag) (others : List Attribute) (p : Parts) → Inspected bytes rs first n at tags others → record_of p ≡ record_at (first + 2 * n) rs → is_attribute_name p.token ≡ true →
     NextInspected bytes rs first n at tags others p
 next_inspected bytes rs first n at tags others p i here kind = by i.left i.split i.hold i.same
   where
     by : (left : List Attribute) → others ≡ i.done ++ left → AreAttributeRecords bytes rs (first + 2 * n) i.place left → first_of (offending_attributes tags at [] others) ≡ first_of (offending_attributes tags i.place (seen_after tags [] i.done) left) →
         NextInspected bytes rs first n at tags others p
-    by [] w s e = absurd (false≢true (sym s ∙ ap (λ r. is_attribute_token r.token) (sym here) ∙ kind))
+    by [] w s e = absurd (false≢true (sym s ∙ ap (λ r. is_attribute_name r.token) (sym here) ∙ kind))
     by (a ∷ left) w s e =
         let more = offending_attributes tags (i.place + size (written_attribute a)) (seen_with tags a (seen_after tags [] i.done)) left in
         let offset : p.offset ≡ name_place i.place a = ap (λ r. r.offset) here ∙ s.0.offset in

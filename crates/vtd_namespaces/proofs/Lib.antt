@@ -4,8 +4,8 @@ pub mod FaultLemmas
 pub mod NodeLemmas
 pub mod ChainLemmas
 pub mod OpenLemmas
-pub mod FilterLemmas
 pub mod DeclarationLemmas
+pub mod UndeclaredLemmas
 pub mod QNameLemmas
 pub mod ScopeLemmas
 pub mod OffenceLemmas
@@ -16,6 +16,6 @@ pub mod CheckLemmas
 pub mod NodeNameLemmas
 pub mod HolderLemmas
 pub mod UriLemmas
+pub mod ResolverLemmas
 pub mod RepeatLemmas
 pub mod SieveLemmas
-pub mod TestTables

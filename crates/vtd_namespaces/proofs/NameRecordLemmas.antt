@@ -15,7 +15,8 @@ use Rattle.xml_model.specs.Accepted.{IsDocument, name_place}
 use Rattle.xml_model.proofs.Each.{each_append, each_option, each_map, if_some_cond, if_some_second}
 use Rattle.xml_model.proofs.Fits.{first_part, second_part, after_length}
 use Rattle.vtd_words.proofs.Fitting.{past_items}
-use Rattle.vtd_namespaces.specs.NameRecords.{is_attribute_token, IsNameRecord, IsAttributeRecord, AreAttributeRecords, IsTagRecord, IsInstructionRecord, HasNameRecord}
+use Rattle.vtd_text.specs.NameRecords.{is_attribute_name}
+use Rattle.vtd_namespaces.specs.NameRecords.{IsNameRecord, IsAttributeRecord, AreAttributeRecords, IsTagRecord, IsInstructionRecord, HasNameRecord}
 use Rattle.vtd_namespaces.proofs.SpelledLemmas.{Spelled, spelled_from, spelled_prefix, spelled_back, spelled_slice, spelled_at, size_append, size_angle, size_question}
 
 -- records by their index
@@ -29,7 +30,7 @@ at_rest whole prefix rest n e l =
 
 -- the first record is of no attribute
 abbrev pub NoAttribute : List Record → Type 0
-NoAttribute rest = is_attribute_token (record_at 0 rest).token ≡ false
+NoAttribute rest = is_attribute_name (record_at 0 rest).token ≡ false
 
 no_attribute_leaf : (x : Leaf) (l at : ℕ) (rest : List Record) → NoAttribute rest → NoAttribute (leaf_records l at x ++ rest)
 no_attribute_leaf (text ps) zero at rest h = h
@@ -87,7 +88,7 @@ attribute_holds bytes whole prefix rest d n at a e l s m =
 
 attributes_hold : (others : List Attribute) (bytes : List ℕ) (whole prefix rest : List Record) (d n at : ℕ) → whole ≡ prefix ++ (attributes_records d at others ++ rest) → length prefix ≡ n →
     Spelled bytes at (written_attributes others) → list_all meets_attribute others ≡ true → NoAttribute rest → AreAttributeRecords bytes whole n at others
-attributes_hold [] bytes whole prefix rest d n at e l s m b = ap (λ r. is_attribute_token r.token) (at_rest whole prefix rest n e l) ∙ b
+attributes_hold [] bytes whole prefix rest d n at e l s m b = ap (λ r. is_attribute_name r.token) (at_rest whole prefix rest n e l) ∙ b
 attributes_hold (a ∷ others) bytes whole prefix rest d n at e l s m b =
     let mine = attribute_records d (at + size a.space) a in
     let more = attributes_records d (at + size (written_attribute a)) others in

@@ -22,7 +22,8 @@ use Rattle.vtd_words.specs.Packed.{record_of}
 use Rattle.vtd_words.specs.Lists.{Lists}
 use Rattle.vtd_words.specs.Table.{IsNestOf, Shows, nodes_of}
 use Rattle.vtd_words.proofs.Fitting.{nest_shown}
-use Rattle.vtd_namespaces.specs.NameRecords.{slice_of, IsRecordOfThing, HasNameRecord}
+use Rattle.vtd_text.specs.Joined.{slice_of}
+use Rattle.vtd_namespaces.specs.NameRecords.{IsRecordOfThing, HasNameRecord}
 use Rattle.vtd_namespaces.specs.NodeNames.{HasName, node_prefix, node_local}
 use Rattle.vtd_namespaces.proofs.NameRecordLemmas.{document_holds}
 use Rattle.vtd_namespaces.proofs.RepeatLemmas.{eq_encoded}

@@ -19,8 +19,9 @@ use Rattle.vtd_words.specs.declared.packing.Parts.{Parts}
 use Rattle.vtd_words.specs.Packed.{record_of}
 use Rattle.vtd_words.specs.Lists.{Lists}
 use Rattle.vtd_words.specs.Table.{nodes_of}
-use Rattle.vtd_namespaces.specs.NameRecords.{slice_of, IsAttributeRecord, AreAttributeRecords}
-use Rattle.vtd_namespaces.specs.Uris.{IsScope, same_uri}
+use Rattle.vtd_text.specs.Joined.{slice_of}
+use Rattle.vtd_namespaces.specs.NameRecords.{IsAttributeRecord, AreAttributeRecords}
+use Rattle.vtd_namespaces.specs.Reach.{IsScope, same_uri}
 use Rattle.vtd_namespaces.proofs.NameRecordLemmas.{document_holds}
 use Rattle.vtd_namespaces.proofs.DeclarationLemmas.{chain_attributes}
 use Rattle.vtd_namespaces.specs.Offences.{is_twin, IsWritten}

@@ -12,9 +12,11 @@ use Rattle.xml_model.specs.Scan.{record_at}
 use Rattle.xml_model.specs.Accepted.{repeated, name_place}
 use Rattle.vtd_words.specs.declared.packing.Parts.{Parts}
 use Rattle.vtd_words.specs.Packed.{record_of}
-use Rattle.vtd_namespaces.specs.NameRecords.{slice_of, is_attribute_token, IsAttributeRecord, AreAttributeRecords}
+use Rattle.vtd_text.specs.Joined.{slice_of}
+use Rattle.vtd_text.specs.NameRecords.{is_attribute_name}
+use Rattle.vtd_namespaces.specs.NameRecords.{IsAttributeRecord, AreAttributeRecords}
 use Rattle.vtd_namespaces.specs.Repeats.{names_before, HasNoAttribute}
-use Rattle.vtd_namespaces.specs.Filter.{is_taken}
+use Rattle.vtd_text.specs.Fingerprints.{is_taken}
 use Rattle.vtd_namespaces.specs.Faults.{first_of}
 
 -- texts are equal where their bytes are
@@ -31,12 +33,12 @@ any_encoded x [] = refl
 any_encoded x (y ∷ seen) = ap₂ (λ a b. a || b) (eq_encoded x y) (any_encoded x seen)
 
 -- a name of either type is an attribute's
-pub name_is_attribute : (b : Bool) → is_attribute_token (cond b 3 2) ≡ true
+pub name_is_attribute : (b : Bool) → is_attribute_name (cond b 3 2) ≡ true
 name_is_attribute true = refl
 name_is_attribute false = refl
 
-pub record_is_attribute : (bytes : List ℕ) (rs : List Record) (n at : ℕ) (a : Attribute) → IsAttributeRecord bytes rs n at a → is_attribute_token (record_at n rs).token ≡ true
-record_is_attribute bytes rs n at a r = ap is_attribute_token r.token ∙ name_is_attribute (declares a.name)
+pub record_is_attribute : (bytes : List ℕ) (rs : List Record) (n at : ℕ) (a : Attribute) → IsAttributeRecord bytes rs n at a → is_attribute_name (record_at n rs).token ≡ true
+record_is_attribute bytes rs n at a r = ap is_attribute_name r.token ∙ name_is_attribute (declares a.name)
 
 pub no_attribute_there : (bytes : List ℕ) (rs : List Record) (n at : ℕ) (a : Attribute) → IsAttributeRecord bytes rs n at a → HasNoAttribute rs n → ⊥
 no_attribute_there bytes rs n at a r h = ⊎_elim (λ e. false≢true (sym e ∙ record_is_attribute bytes rs n at a r)) (λ l. omega (arith, r.room, l)) h
@@ -70,12 +72,12 @@ pub record Next (bytes : List ℕ) (rs : List Record) (first n at : ℕ) (others
   pub hit : list_any (bytes_eq name) (names_before bytes rs first n) ≡ true → Some p.offset ≡ first_of (repeated at [] others)
   pub miss : list_any (bytes_eq name) (names_before bytes rs first n) ≡ false → Passed bytes rs first (n + 1) at others
 
-pub next_name : (bytes : List ℕ) (rs : List Record) (first n at : ℕ) (others : List Attribute) (p : Parts) (name : List ℕ) → Passed bytes rs first n at others → record_of p ≡ record_at (first + 2 * n) rs → is_attribute_token p.token ≡ true →
+pub next_name : (bytes : List ℕ) (rs : List Record) (first n at : ℕ) (others : List Attribute) (p : Parts) (name : List ℕ) → Passed bytes rs first n at others → record_of p ≡ record_at (first + 2 * n) rs → is_attribute_name p.token ≡ true →
     name ≡ slice_of bytes (record_of p) → Next bytes rs first n at others p name
 next_name bytes rs first n at others p name d here kind is = by d.left d.hold d.same
   where
     by : (left : List Attribute) → AreAttributeRecords bytes rs (first + 2 * n) d.place left → first_of (repeated at [] others) ≡ first_of (repeated d.place d.seen left) → Next bytes rs first n at others p name
-    by [] s e = absurd (false≢true (sym s ∙ ap (λ r. is_attribute_token r.token) (sym here) ∙ kind))
+    by [] s e = absurd (false≢true (sym s ∙ ap (λ r. is_attribute_name r.token) (sym here) ∙ kind))
     by (a ∷ left) s e =
         let slice : name ≡ encode_utf8_all a.name = is ∙ ap (slice_of bytes) here ∙ s.0.name.slice in
         let place : p.offset ≡ name_place d.place a = ap (λ r. r.offset) here ∙ s.0.offset in

@@ -13,8 +13,8 @@ use Rattle.xml_model.specs.Records.{declares, name_token}
 use Rattle.xml_model.specs.Names.{attribute_uri}
 use Rattle.xml_model.specs.Accepted.{expanded_of, same_expanded}
 use Rattle.xml_model.proofs.Each.{each_append}
-use Rattle.vtd_namespaces.specs.Filter.{mixed, is_taken}
-use Rattle.vtd_namespaces.specs.Uris.{same_uri}
+use Rattle.vtd_text.specs.Fingerprints.{mixed, is_taken}
+use Rattle.vtd_namespaces.specs.Reach.{same_uri}
 use Rattle.vtd_namespaces.specs.Offences.{is_twin, key_of, IsNoted, IsWritten}
 use Rattle.vtd_namespaces.proofs.OffenceLemmas.{OtherName, same_expanded_is}
 use Rattle.vtd_namespaces.proofs.AttributeLemmas.{taken}

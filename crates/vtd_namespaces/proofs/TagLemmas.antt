@@ -23,9 +23,11 @@ use Rattle.vtd_words.specs.Packed.{record_of}
 use Rattle.vtd_words.specs.Lists.{Lists}
 use Rattle.vtd_words.specs.Table.{IsNestOf, Shows, nodes_of}
 use Rattle.vtd_words.proofs.Fitting.{nest_shown}
-use Rattle.vtd_namespaces.specs.NameRecords.{slice_of, IsTagRecord, IsRecordOfThing, HasNameRecord}
-use Rattle.vtd_namespaces.specs.Scope.{HolderIn, Chain, IsOpenBefore, tags_in}
-use Rattle.vtd_namespaces.specs.Uris.{IsScope}
+use Rattle.vtd_text.specs.Joined.{slice_of}
+use Rattle.vtd_namespaces.specs.NameRecords.{IsTagRecord, IsRecordOfThing, HasNameRecord}
+use Rattle.vtd_namespaces.specs.Scope.{HolderIn, Chain, tags_in}
+use Rattle.vtd_namespaces.specs.OpenTags.{open_before}
+use Rattle.vtd_namespaces.specs.Reach.{IsScope}
 use Rattle.vtd_namespaces.specs.Faults.{first_of, node_faults, thing_faults, OffenceAt}
 use Rattle.vtd_words.proofs.Shown.{shown_length}
 use Rattle.vtd_namespaces.proofs.NameRecordLemmas.{document_holds}
@@ -131,9 +133,9 @@ shown_depth r t = ap (λ b. cond b r.depth (cond (r.depth == 255) 0 (suc r.depth
 same_kind : (j k : Kind) → Some j ≡ Some k → j ≡ k
 same_kind j k h = cc
 
-pub tag_known : (bytes : List ℕ) (lists : Lists) (nest : Forest) → length bytes < 2 ^ 30 → IsNestOf bytes lists nest → (open_tags : List ℕ) (at depth : ℕ) → IsOpenBefore open_tags (records nest (first_place bytes)) (at + 1) → (record_at at (records nest (first_place bytes))).token ≡ 0 →
-    (record_at at (records nest (first_place bytes))).depth ≡ depth → (e : Entry) → e.index ≡ at → Known bytes nest e → TagKnown bytes lists nest open_tags depth at e
-tag_known bytes lists nest few s open_tags at depth o t d e h k = by e.what refl kind k.holds k.unrepeated
+pub tag_known : (bytes : List ℕ) (lists : Lists) (nest : Forest) → length bytes < 2 ^ 30 → IsNestOf bytes lists nest → (open_tags : List ℕ) (at depth : ℕ) → open_tags ≡ open_before (at + 1) (records nest (first_place bytes)) → (record_at at (records nest (first_place bytes))).token ≡ 0 →
+    (record_at at (records nest (first_place bytes))).depth ≡ depth → depth < 256 → (e : Entry) → e.index ≡ at → Known bytes nest e → TagKnown bytes lists nest open_tags depth at e
+tag_known bytes lists nest few s open_tags at depth o t d w e h k = by e.what refl kind k.holds k.unrepeated
   where
     rs : List Record
     rs = records nest (first_place bytes)
@@ -148,17 +150,17 @@ tag_known bytes lists nest few s open_tags at depth o t d e h k = by e.what refl
     many = sym k.shows.level ∙ shown_depth (record_at e.index rs) token ∙ ap (λ n. (record_at n rs).depth) h ∙ d
 
     by : (what : Thing) → e.what ≡ what → kind_of what ≡ kinds.Element → IsRecordOfThing bytes rs e.index e.start what → thing_faults repeats e.start (tags_of e) what ≡ [] → TagKnown bytes lists nest open_tags depth at e
-    by (Thing.element u inside) w c v f =
-        let holder : HolderIn (nodes_of bytes nest) (record { tag = u; index = at }) e.holders = record { entry = e; there = k.there; inside = inside; what = w; index = h; holders = refl } in
+    by (Thing.element u inside) w' c v f =
+        let holder : HolderIn (nodes_of bytes nest) (record { tag = u; index = at }) e.holders = record { entry = e; there = k.there; inside = inside; what = w'; index = h; holders = refl } in
         record {
           tag = u;
           inside = inside;
-          what = w;
+          what = w';
           scope = record {
             few = few;
             shown = s;
             chain = (holder, k.chain);
-            opened = opened_at nest (first_place bytes) (nest_shallow nest s.accepted.document.nests) e (record { tag = u; index = at }) holder k.chain open_tags o;
+            opened = opened_at nest (first_place bytes) s.accepted.document.nests e k.there (ap kind_of w') (record { tag = u; index = at }) h open_tags o (omega (arith, many, w));
             many = omega (arith, many);
           };
           holds = subst (λ n. IsTagRecord bytes rs n e.start u) h v;
@@ -171,13 +173,13 @@ tag_known bytes lists nest few s open_tags at depth o t d e h k = by e.what refl
     by (Thing.instruction i) w c v r = absurd (cc)
 
 pub element_offence : (bytes : List ℕ) (lists : Lists) (nest : Forest) → length bytes < 2 ^ 30 → IsNestOf bytes lists nest → over_names repeats [] (first_place bytes) nest ≡ [] → (open_tags : List ℕ) (at depth : ℕ) (r : Option ℕ) →
-    IsOpenBefore open_tags (records nest (first_place bytes)) (at + 1) → (record_at at (records nest (first_place bytes))).token ≡ 0 → (record_at at (records nest (first_place bytes))).depth ≡ depth →
+    open_tags ≡ open_before (at + 1) (records nest (first_place bytes)) → (record_at at (records nest (first_place bytes))).token ≡ 0 → (record_at at (records nest (first_place bytes))).depth ≡ depth → depth < 256 →
     ((x : Holder) (xs : List Holder) → IsScope bytes lists open_tags depth nest (x ∷ xs) → at ≡ x.index → (start : ℕ) → IsTagRecord bytes (records nest (first_place bytes)) at start x.tag → repeated (attributes_place start x.tag) [] x.tag.attributes ≡ [] →
     r ≡ first_of (offending_tag start (tags_in xs) x.tag)) → OffenceAt at r (nodes_of bytes nest)
-element_offence bytes lists nest few s h open_tags at depth r o t d known =
+element_offence bytes lists nest few s h open_tags at depth r o t d w known =
     each_more (Known bytes nest) (λ e. e.index ≡ at → r ≡ first_of (node_faults offences e))
     (λ e k p.
-    let x = tag_known bytes lists nest few s open_tags at depth o t d e p k in
+    let x = tag_known bytes lists nest few s open_tags at depth o t d w e p k in
     known (record { tag = x.tag; index = at }) e.holders x.scope refl e.start x.holds x.unrepeated ∙ sym (ap (λ w. first_of (thing_faults offences e.start (tags_of e) w)) x.what))
     (nodes_of bytes nest) (all_known bytes lists nest s h)
 

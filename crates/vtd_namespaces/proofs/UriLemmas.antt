@@ -20,7 +20,8 @@ use Rattle.vtd_words.specs.Table.{IsNestOf, IsNodeOf, IsParent, nodes_of}
 use Rattle.vtd_text.specs.NameRecords.{IsNameOf}
 use Rattle.xml_model.proofs.Each.{each_at}
 use Rattle.vtd_namespaces.specs.Scope.{IsNearest, Chain, tags_in}
-use Rattle.vtd_namespaces.specs.NodeNames.{HasName, HasExpandedName, with_own, reaching, node_prefix, node_local, uri_in, IsElementAt}
+use Rattle.vtd_namespaces.specs.Reach.{with_own, reaching, IsElementAt}
+use Rattle.vtd_namespaces.specs.NodeNames.{HasName, HasExpandedName, node_prefix, node_local, uri_in}
 use Rattle.vtd_namespaces.proofs.ChainLemmas.{document_chain}
 use Rattle.vtd_namespaces.proofs.DeclarationLemmas.{empty_encoded}
 use Rattle.vtd_namespaces.proofs.OffenceLemmas.{eq_nil}
@@ -98,7 +99,7 @@ owner_element bytes lists node n owner p h =
 
 -- what reaches a node is a chain
 
-chain_by : (es : List Entry) (e : Entry) (what : Thing) → e.what ≡ what → Contains es e → Chain es e.holders → Chain es (with_own what e.index e.holders)
+pub chain_by : (es : List Entry) (e : Entry) (what : Thing) → e.what ≡ what → Contains es e → Chain es e.holders → Chain es (with_own what e.index e.holders)
 chain_by es e (Thing.element t inside) w c k = (record { entry = e; there = c; inside = inside; what = w; index = refl; holders = refl }, k)
 chain_by es e (Thing.root first f) w c k = k
 chain_by es e (Thing.attribute a) w c k = k

@@ -1,8 +1,13 @@
+-- What callers read.
+pub mod NodeNames
+pub mod Uris
+pub mod OpenTags
+pub mod Undeclared
+
+-- What private functions promise.
 pub mod NameRecords
 pub mod Faults
-pub mod Filter
 pub mod Repeats
 pub mod Scope
-pub mod Uris
+pub mod Reach
 pub mod Offences
-pub mod NodeNames

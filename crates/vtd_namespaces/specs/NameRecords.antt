@@ -1,6 +1,7 @@
--- How the names of a document are in its bytes and its records (this project's own). A tag's record is followed by two for each
--- attribute: its name, of type 2, or 3 where it declares a namespace, and its value.
-use Rattle.std.specs.Prelude.{◌≡◌, ℕ, ◌+◌, ◌<◌, Bool, true, false, ◌||◌, List, [], ◌∷◌, length, take, drop, ◌==◌, encode_utf8_all}
+-- How the names of a document are in its bytes and its records (this project's own). A tag's record is followed by two
+-- for each attribute: its name, of type 2, or 3 where it declares a namespace, and its value.
+use Rattle.std.specs.Prelude.{◌≡◌, ℕ, ◌+◌, ◌<◌, Bool, true, false, ◌||◌, List, [], ◌∷◌, length, take, drop, ◌==◌}
+use Rattle.std.specs.Prelude.{encode_utf8_all}
 use Rattle.std.specs.Prelude.{⊤}
 use Rattle.xml_model.specs.Chars.{size, prefix_of, is_name}
 use Rattle.xml_model.specs.Items.{Attribute, Tag, Instruction, written_attribute}
@@ -9,15 +10,9 @@ use Rattle.xml_model.specs.Scan.{record_at}
 use Rattle.xml_model.specs.Tree.{Thing, Entry}
 use Rattle.xml_model.specs.Accepted.{name_place}
 use Rattle.xml_model.specs.Records.{kind_number}
+use Rattle.vtd_text.specs.Joined.{slice_of}
+use Rattle.vtd_text.specs.NameRecords.{is_attribute_name}
 use Rattle.xml_model.specs.declared.TokenKind.TheVariants as token
-
--- the bytes of the token that a record is of
-abbrev pub slice_of : List ℕ → Record → List ℕ
-slice_of bytes r = take r.len (drop r.offset bytes)
-
--- the types of the records of an attribute's name
-abbrev pub is_attribute_token : ℕ → Bool
-is_attribute_token n = n == kind_number token.AttributeName || n == kind_number token.NamespaceName
 
 -- a record is of this name
 pub record IsNameRecord (bytes : List ℕ) (r : Record) (name : List ℕ) : Type 0 where
@@ -32,11 +27,12 @@ pub record IsAttributeRecord (bytes : List ℕ) (rs : List Record) (n at : ℕ) 
   pub offset : (record_at n rs).offset ≡ at
   pub room : n + 1 < length rs
 
--- the records from an index on are those of these attributes, the white space before the first of which begins at a place, and no
--- attribute's follows them
+-- the records from an index on are those of these attributes, the white space before the first of which begins at a
+-- place, and no attribute's follows them
 abbrev pub AreAttributeRecords : List ℕ → List Record → ℕ → ℕ → List Attribute → Type 0
-AreAttributeRecords bytes rs n at [] = is_attribute_token (record_at n rs).token ≡ false
-AreAttributeRecords bytes rs n at (a ∷ others) = IsAttributeRecord bytes rs n (name_place at a) a × AreAttributeRecords bytes rs (n + 2) (at + size (written_attribute a)) others
+AreAttributeRecords bytes rs n at [] = is_attribute_name (record_at n rs).token ≡ false
+AreAttributeRecords bytes rs n at (a ∷ others) = IsAttributeRecord bytes rs n (name_place at a) a ×
+    AreAttributeRecords bytes rs (n + 2) (at + size (written_attribute a)) others
 
 -- the record with an index is of this tag, which begins at a place
 pub record IsTagRecord (bytes : List ℕ) (rs : List Record) (n at : ℕ) (t : Tag) : Type 0 where

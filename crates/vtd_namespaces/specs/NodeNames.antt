@@ -1,15 +1,13 @@
 -- The names of nodes: Namespaces in XML 1.0, sections 2.1 and 6, and XPath 1.0, sections 2.3 and 5.
-use Rattle.std.specs.Prelude.{ℕ, List, [], ◌∷◌, Option, Some, None}
+use Rattle.std.specs.Prelude.{ℕ, List, [], Option, Some, None}
 use Rattle.std.specs.Str.{chars}
 use Rattle.xml_model.specs.declared.Kind.{Kind}
 use Rattle.xml_model.specs.declared.Kind.TheVariants as kinds
 use Rattle.xml_model.specs.declared.NameTest.{NameTest as Tested}
 use Rattle.xml_model.specs.declared.NameTest.TheVariants as tested
 use Rattle.xml_model.specs.Chars.{prefix_of, local_of}
-use Rattle.xml_model.specs.Tree.{Thing, Entry, Holder}
+use Rattle.xml_model.specs.Tree.{Thing}
 use Rattle.xml_model.specs.Names.{Expanded, NameTest, any, any_in, named}
-use Rattle.vtd_words.specs.Lists.{Lists}
-use Rattle.vtd_words.specs.Table.{IsNodeOf}
 
 -- the kinds of node that have a name
 abbrev pub HasName : Kind → Type 0
@@ -42,21 +40,8 @@ abbrev pub uri_in : Option Expanded → Option (List ℕ)
 uri_in None = None
 uri_in (Some x) = x.uri
 
--- the elements whose declarations reach a thing at a record, which others hold
-abbrev pub with_own : Thing → ℕ → List Holder → List Holder
-with_own (Thing.element t inside) at hs = record { tag = t; index = at } ∷ hs
-with_own _ at hs = hs
-
--- the elements whose declarations reach a node: itself, where it is one, and those that hold it
-abbrev pub reaching : Entry → List Holder
-reaching e = with_own e.what e.index e.holders
-
 -- a name test, by its texts
 abbrev pub test_of : Tested → NameTest
 test_of tested.Any = any
 test_of (tested.AnyIn uri) = any_in (chars uri.now)
 test_of (tested.Named uri local) = named (chars uri.now) (chars local.now)
-
--- an element of a table, by its first record
-abbrev pub IsElementAt : List ℕ → Lists → ℕ → Type 0
-IsElementAt bytes lists at = IsNodeOf bytes lists (record { kind = kinds.Element; at = at })

@@ -6,9 +6,10 @@ use Rattle.xml_model.specs.Items.{Attribute, Tag}
 use Rattle.xml_model.specs.Records.{declares}
 use Rattle.xml_model.specs.Names.{Expanded}
 use Rattle.xml_model.specs.Accepted.{expanded_of, seen_with, same_expanded, is_bound}
-use Rattle.vtd_namespaces.specs.Filter.{is_taken}
+use Rattle.vtd_text.specs.Fingerprints.{is_taken}
 
--- whether an attribute under tags has the expanded name of another; a declaration has none: Namespaces in XML 1.0, section 6.3
+-- whether an attribute under tags has the expanded name of another; a declaration has none: Namespaces in XML 1.0,
+-- section 6.3
 abbrev pub is_twin : List Tag → Attribute → Attribute → Bool
 is_twin tags a b = not (declares b.name) && same_expanded (expanded_of tags a) (expanded_of tags b)
 
@@ -34,4 +35,5 @@ key_of tags a = unwrap_or (expanded_of tags a).uri [] ++ encode_utf8_all (expand
 
 -- a filter has noted an attribute, where it is one with a prefix and no declaration
 abbrev pub IsNoted : List Tag → List ℕ → Attribute → Type 0
-IsNoted tags slots a = not (declares a.name) ≡ true → (prefix_of a.name ≡ [] → ⊥) → is_taken slots (key_of tags a) ≡ true
+IsNoted tags slots a = not (declares a.name) ≡ true → (prefix_of a.name ≡ [] → ⊥) →
+    is_taken slots (key_of tags a) ≡ true

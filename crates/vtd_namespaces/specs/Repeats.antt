@@ -2,7 +2,8 @@
 use Rattle.std.specs.Prelude.{◌≡◌, ℕ, zero, suc, ◌+◌, ◌*◌, ◌≤◌, ◌⊎◌, false, List, [], ◌∷◌, length}
 use Rattle.xml_model.specs.Records.{Record}
 use Rattle.xml_model.specs.Scan.{record_at}
-use Rattle.vtd_namespaces.specs.NameRecords.{slice_of, is_attribute_token}
+use Rattle.vtd_text.specs.Joined.{slice_of}
+use Rattle.vtd_text.specs.NameRecords.{is_attribute_name}
 
 -- the bytes of so many names of attributes, the last one first: the record of the first of them has an index
 abbrev pub names_before : List ℕ → List Record → ℕ → ℕ → List (List ℕ)
@@ -11,4 +12,4 @@ names_before bytes rs first (suc n) = slice_of bytes (record_at (first + 2 * n) 
 
 -- no attribute's name and value have the records from an index on
 abbrev pub HasNoAttribute : List Record → ℕ → Type 0
-HasNoAttribute rs n = (is_attribute_token (record_at n rs).token ≡ false) ⊎ (length rs ≤ n + 1)
+HasNoAttribute rs n = (is_attribute_name (record_at n rs).token ≡ false) ⊎ (length rs ≤ n + 1)

@@ -1,5 +1,6 @@
 -- The elements that hold what is at a record, with the declarations in their tags (this project's own).
-use Rattle.std.specs.Prelude.{◌≡◌, ℕ, ◌+◌, ◌*◌, ◌<◌, List, [], ◌∷◌, map, length, Option, Some, None, Contains, slice_get, MatchOption, ⊤}
+use Rattle.std.specs.Prelude.{◌≡◌, ℕ, ◌+◌, ◌*◌, ◌<◌, List, [], ◌∷◌, map, length, Option, Some, None, Contains}
+use Rattle.std.specs.Prelude.{slice_get, MatchOption, ⊤}
 use Rattle.std.specs.List.{slice_index_or}
 use Rattle.xml_model.specs.Items.{Attribute, Tag}
 use Rattle.xml_model.specs.Nest.{Forest}
@@ -8,8 +9,6 @@ use Rattle.xml_model.specs.Scan.{record_at}
 use Rattle.xml_model.specs.Tree.{Thing, Entry, Holder}
 use Rattle.xml_model.specs.Content.{value_content}
 use Rattle.xml_model.specs.Names.{declaration_of, nearest}
-use Rattle.xml_model.specs.Records.{kind_number}
-use Rattle.xml_model.specs.declared.TokenKind.TheVariants as token
 
 -- an element that holds others is a node, which others hold
 pub record HolderIn (es : List Entry) (x : Holder) (xs : List Holder) : Type 0 where
@@ -34,7 +33,8 @@ Opened open_tags (x ∷ xs) = (slice_index_or open_tags (length xs) 0 ≡ x.inde
 abbrev pub tags_in : List Holder → List Tag
 tags_in hs = map (λ x. x.tag) hs
 
--- the record with an index is of the name of a tag's declaration of a prefix; the records of the tag's attributes begin at another
+-- the record with an index is of the name of a tag's declaration of a prefix; the records of the tag's attributes begin
+-- at another
 pub record IsDeclaredAt (first : ℕ) (t : Tag) (prefix : List ℕ) (n : ℕ) : Type 0 where
   pub declaration : Attribute
   pub found : declaration_of prefix t ≡ Some declaration
@@ -59,9 +59,3 @@ pub record IsNearestAt (es : List Entry) (hs : List Holder) (prefix : List ℕ) 
 -- the record of the nearest declaration of a prefix, or none
 abbrev pub IsNearest : List Entry → List Holder → List ℕ → Option ℕ → Type 0
 IsNearest es hs prefix r = MatchOption r (nearest prefix (tags_in hs) ≡ None) (IsNearestAt es hs prefix)
-
--- where each depth below 256 has an index: that of the last tag of the depth before a record, where there is one
-pub record IsOpenBefore (open_tags : List ℕ) (rs : List Record) (at : ℕ) : Type 0 where
-  pub within : (k : ℕ) → slice_index_or open_tags k 0 < length rs
-  pub last : (q : ℕ) → q < at → (record_at q rs).token ≡ kind_number token.StartTag → ((j : ℕ) → q < j → j < at → (record_at j rs).token ≡ kind_number token.StartTag → (record_at j rs).depth ≡ (record_at q rs).depth → ⊥) →
-      slice_index_or open_tags (record_at q rs).depth 0 ≡ q

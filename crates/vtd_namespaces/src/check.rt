@@ -10,12 +10,13 @@ use crate::walk::first_offence;
 use vtd_words::{Table, Words};
 use xml_model::DocFault;
 
-/// Whether the names of a document are accepted: no name of an attribute or a declaration repeats an earlier one of its tag, or
-/// else `Twice` at the first that does, and then no name offends Namespaces in XML 1.0, or else `Namespace` at the first that
-/// does, in the order of the records. A `Namespace` comes only where in no tag a name repeats an earlier one. It takes no
-/// memory.
+/// Whether the names of a document are accepted: no name of an attribute or a declaration repeats an earlier one of its
+/// tag, or else `Twice` at the first that does, and then no name offends Namespaces in XML 1.0, or else `Namespace` at
+/// the first that does, in the order of the records. A `Namespace` comes only where in no tag a name repeats an earlier
+/// one. It takes no memory.
 pub fn check_names<W: Words>(table: &Table<'_, W>) -> Result<(), DocFault>
-    ensures accepted { OnOk result ((nest : Forest) → IsNestOf table.now.bytes (W.lists table.now.words) nest → Accepted 8 table.now.bytes nest) }
+    ensures accepted { OnOk result ((nest : Forest) → IsNestOf table.now.bytes (W.lists table.now.words) nest →
+        Accepted 8 table.now.bytes nest) }
     ensures layer { IfErr result (λ fault. 7 ≤ layer fault) }
     ensures refused { IfErr result (IsRefusal table.now.bytes) }
 {

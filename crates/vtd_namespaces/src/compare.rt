@@ -3,7 +3,8 @@
 ghost use Rattle.std.specs.Prelude.{◌≡◌, [], bytes_eq};
 ghost use Rattle.std.specs.Option.{unwrap_or};
 ghost use Rattle.std.specs.Str.{chars};
-ghost use Rattle.vtd_namespaces.specs.Uris.{same_uri, uri_value};
+ghost use Rattle.vtd_namespaces.specs.Reach.{same_uri};
+ghost use Rattle.vtd_namespaces.specs.Uris.{uri_value};
 
 use crate::uri::{Uri, XML_URI};
 use vtd_text::{equals, equals_str};

@@ -10,7 +10,8 @@ ghost use Rattle.vtd_words.specs.Table.{IsNestOf, IsNodeOf, nodes_of};
 ghost use Rattle.vtd_text.specs.NameRecords.{IsDeclaration};
 ghost use Rattle.vtd_namespaces.specs.Scope.{tags_in, Chain, IsNearest};
 ghost use Rattle.vtd_namespaces.specs.Uris.{uri_value};
-ghost use Rattle.vtd_namespaces.specs.NodeNames.{reaching, HasExpandedName, IsElementAt};
+ghost use Rattle.vtd_namespaces.specs.Reach.{reaching, IsElementAt};
+ghost use Rattle.vtd_namespaces.specs.NodeNames.{HasExpandedName};
 
 use crate::declarations::declaration_in;
 use crate::uri::Uri;
@@ -19,12 +20,14 @@ use vtd_words::{Part, Table, Words};
 use xml_model::{Kind, Node};
 
 /// The prefix that is always bound.
-const XML: &[u8] = b"xml";
+pub const XML: &[u8] = b"xml";
 
 /// The record of the element that holds an element, by its record; 0 where none does.
 fn holder_of<W: Words>(table: &Table<'_, W>, tag: u32) -> u32
     requires { IsElementAt table.now.bytes (W.lists table.now.words) tag }
-    ensures found { (nest : Forest) → IsNestOf table.now.bytes (W.lists table.now.words) nest → (x : Holder) (xs : List Holder) → Chain (nodes_of table.now.bytes nest) (x ∷ xs) → x.index ≡ tag → result ≡ holder_index xs }
+    ensures found { (nest : Forest) → IsNestOf table.now.bytes (W.lists table.now.words) nest →
+        (x : Holder) (xs : List Holder) → Chain (nodes_of table.now.bytes nest) (x ∷ xs) → x.index ≡ tag →
+        result ≡ holder_index xs }
     ensures lower { result < tag }
     ensures element { result ≢ 0 → IsElementAt table.now.bytes (W.lists table.now.words) result }
 {
@@ -49,11 +52,12 @@ fn first_attribute<W: Words>(table: &Table<'_, W>, tag: u32) -> u32
     tag + 1
 }
 
-/// The record of the name of the nearest declaration of a prefix in an element and those that hold it, by the element's record,
-/// or `None` where they have none; 0 stands for no element.
+/// The record of the name of the nearest declaration of a prefix in an element and those that hold it, by the element's
+/// record, or `None` where they have none; 0 stands for no element.
 fn declaration_above<W: Words>(table: &Table<'_, W>, tag: u32, prefix: &[u8]) -> Option<u32>
     requires { tag ≢ 0 → IsElementAt table.now.bytes (W.lists table.now.words) tag }
-    ensures found { (nest : Forest) → IsNestOf table.now.bytes (W.lists table.now.words) nest → (hs : List Holder) → Chain (nodes_of table.now.bytes nest) hs → holder_index hs ≡ tag →
+    ensures found { (nest : Forest) → IsNestOf table.now.bytes (W.lists table.now.words) nest → (hs : List Holder) →
+        Chain (nodes_of table.now.bytes nest) hs → holder_index hs ≡ tag →
         (p : List ℕ) → prefix.now ≡ encode_utf8_all p → IsNearest (nodes_of table.now.bytes nest) hs p result }
     ensures declares { IfSome result (IsDeclaration table.now.bytes (W.lists table.now.words)) }
 {
@@ -69,17 +73,22 @@ fn declaration_above<W: Words>(table: &Table<'_, W>, tag: u32, prefix: &[u8]) ->
     None
 }
 
-/// The URI to which a prefix is bound under an element, by the element's record, 0 being for none; none where it is not bound.
-/// The empty prefix has the default namespace, and none where that is taken away (Namespaces in XML 1.0, section 6.2).
-pub fn uri_of_prefix<'a, W: Words>(table: &Table<'a, W>, tag: u32, prefix: &[u8]) -> Uri<'a, W>
-    requires { tag ≢ 0 → IsElementAt table.now.bytes (W.lists table.now.words) tag }
-    ensures { (nest : Forest) → IsNestOf table.now.bytes (W.lists table.now.words) nest → (hs : List Holder) → Chain (nodes_of table.now.bytes nest) hs → holder_index hs ≡ tag →
-        (p : List ℕ) → prefix.now ≡ encode_utf8_all p → uri_value result ≡ binding p (tags_in hs) }
+/// The URI to which a prefix is bound, by the record of its nearest declaration; none where it is not bound. The empty
+/// prefix has the default namespace, and none where that is taken away (Namespaces in XML 1.0, section 6.2).
+pub fn uri_by<'a, W: Words>(
+    table: &Table<'a, W>,
+    prefix: &[u8],
+    declaration: Option<u32>,
+) -> Uri<'a, W>
+    requires { IfSome declaration (IsDeclaration table.now.bytes (W.lists table.now.words)) }
+    ensures { (nest : Forest) → IsNestOf table.now.bytes (W.lists table.now.words) nest → (hs : List Holder) →
+        (p : List ℕ) → prefix.now ≡ encode_utf8_all p → IsNearest (nodes_of table.now.bytes nest) hs p declaration →
+        uri_value result ≡ binding p (tags_in hs) }
 {
     if prefix == XML {
         return Uri::Xml;
     }
-    match declaration_above(table, tag, prefix) {
+    match declaration {
         None => Uri::None,
         Some(at) => {
             if prefix.is_empty() && equals_str(Chars::of_declaration(table, at), "") {
@@ -90,11 +99,26 @@ pub fn uri_of_prefix<'a, W: Words>(table: &Table<'a, W>, tag: u32, prefix: &[u8]
     }
 }
 
+/// The URI to which a prefix is bound under an element, by the element's record, 0 being for none; none where it is not
+/// bound.
+pub fn uri_of_prefix<'a, W: Words>(table: &Table<'a, W>, tag: u32, prefix: &[u8]) -> Uri<'a, W>
+    requires { tag ≢ 0 → IsElementAt table.now.bytes (W.lists table.now.words) tag }
+    ensures { (nest : Forest) → IsNestOf table.now.bytes (W.lists table.now.words) nest →
+        (hs : List Holder) → Chain (nodes_of table.now.bytes nest) hs → holder_index hs ≡ tag →
+        (p : List ℕ) → prefix.now ≡ encode_utf8_all p → uri_value result ≡ binding p (tags_in hs) }
+{
+    if prefix == XML {
+        return Uri::Xml;
+    }
+    uri_by(table, prefix, declaration_above(table, tag, prefix))
+}
+
 /// The record of the nearest element whose declarations reach an element or an attribute: its own, or its element's.
 pub fn nearest_element<W: Words>(table: &Table<'_, W>, node: Node) -> u32
     requires node { IsNodeOf table.now.bytes (W.lists table.now.words) node }
     requires named { HasExpandedName node.kind }
-    ensures found { (nest : Forest) → IsNestOf table.now.bytes (W.lists table.now.words) nest → (e : Entry) → Identifies node.kind node.at e (nodes_of table.now.bytes nest) → result ≡ holder_index (reaching e) }
+    ensures found { (nest : Forest) → IsNestOf table.now.bytes (W.lists table.now.words) nest → (e : Entry) →
+        Identifies node.kind node.at e (nodes_of table.now.bytes nest) → result ≡ holder_index (reaching e) }
     ensures element { result ≢ 0 → IsElementAt table.now.bytes (W.lists table.now.words) result }
 {
     match node.kind {

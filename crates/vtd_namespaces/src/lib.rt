@@ -1,27 +1,27 @@
-//! Names as Namespaces in XML 1.0 has them: which names of a document repeat or offend, and prefixes, local parts, URIs and
-//! name tests of its nodes. No call takes memory.
+//! Names as Namespaces in XML 1.0 has them: which names of a document repeat or offend, and prefixes, local parts, URIs
+//! and name tests of its nodes. No call takes memory.
 #![tactic(auto)]
 
 mod check;
 mod compare;
 mod declarations;
-mod filter;
 mod holders;
+pub mod laws;
 mod nodes;
 mod offences;
+mod open_tags;
 mod qnames;
 mod records;
 mod repeats;
+mod resolver;
 mod scope;
 mod sieve;
 mod uri;
 mod walk;
 
 pub use check::check_names;
+pub use declarations::declarations_end;
 pub use nodes::{local_of, matches, prefix_of, uri_of};
+pub use open_tags::OpenTags;
+pub use resolver::Resolver;
 pub use uri::Uri;
-
-#[cfg(test)]
-mod many;
-#[cfg(test)]
-mod tests;

@@ -1,5 +1,5 @@
-//! The names of nodes: prefixes, local parts, URIs and name tests (Namespaces in XML 1.0, sections 2.1 and 6, and XPath 1.0,
-//! sections 2.3 and 5).
+//! The names of nodes: prefixes, local parts, URIs and name tests (Namespaces in XML 1.0, sections 2.1 and 6, and XPath
+//! 1.0, sections 2.3 and 5).
 
 ghost use Rattle.std.specs.Prelude.{◌≡◌, encode_utf8_all};
 ghost use Rattle.xml_model.specs.Nest.{Forest};
@@ -15,46 +15,49 @@ use crate::qnames;
 use crate::records::slice_of;
 use crate::uri::Uri;
 use vtd_words::{Table, Words, parts_at};
-use xml_model::{Kind, NameTest, Node};
+use xml_model::{Kind, NameTest, Node, TokenKind};
 
-/// The prefix in a node's name, in UTF-8; it is empty where the name has none, and for an instruction. The node is an element,
-/// an attribute or an instruction of the table.
+/// The prefix in a node's name, in UTF-8; it is empty where the name has none, and for an instruction. The node is an
+/// element, an attribute or an instruction of the table.
 pub fn prefix_of<'a, W: Words>(table: &Table<'a, W>, node: Node) -> &'a [u8]
     requires node { IsNodeOf table.now.bytes (W.lists table.now.words) node }
     requires named { HasName node.kind }
-    ensures { (nest : Forest) → IsNestOf table.now.bytes (W.lists table.now.words) nest → (e : Entry) → Identifies node.kind node.at e (nodes_of table.now.bytes nest) →
+    ensures { (nest : Forest) → IsNestOf table.now.bytes (W.lists table.now.words) nest → (e : Entry) →
+        Identifies node.kind node.at e (nodes_of table.now.bytes nest) →
         result.now ≡ encode_utf8_all (node_prefix e.what) }
 {
     let parts = parts_at(table.words(), node.at);
-    if parts.token == 7 {
+    if parts.token == TokenKind::Target as u8 {
         return &[];
     }
     qnames::prefix_of(slice_of(table.bytes(), parts), parts.prefix)
 }
 
-/// The local part of a node's name, in UTF-8: what follows the colon, or the whole; an instruction's is its target. The node
-/// is an element, an attribute or an instruction of the table.
+/// The local part of a node's name, in UTF-8: what follows the colon, or the whole; an instruction's is its target. The
+/// node is an element, an attribute or an instruction of the table.
 pub fn local_of<'a, W: Words>(table: &Table<'a, W>, node: Node) -> &'a [u8]
     requires node { IsNodeOf table.now.bytes (W.lists table.now.words) node }
     requires named { HasName node.kind }
-    ensures { (nest : Forest) → IsNestOf table.now.bytes (W.lists table.now.words) nest → (e : Entry) → Identifies node.kind node.at e (nodes_of table.now.bytes nest) →
+    ensures { (nest : Forest) → IsNestOf table.now.bytes (W.lists table.now.words) nest → (e : Entry) →
+        Identifies node.kind node.at e (nodes_of table.now.bytes nest) →
         result.now ≡ encode_utf8_all (node_local e.what) }
 {
     let parts = parts_at(table.words(), node.at);
     let name = slice_of(table.bytes(), parts);
-    if parts.token == 7 {
+    if parts.token == TokenKind::Target as u8 {
         return name;
     }
     qnames::local_of(name, parts.prefix)
 }
 
-/// The URI of a node's expanded name (Namespaces in XML 1.0, sections 2.1 and 6): that of the prefix, or of the default for an
-/// element without one; an attribute without a prefix and an instruction have none. The node is an element, an attribute or an
-/// instruction of the table.
+/// The URI of a node's expanded name (Namespaces in XML 1.0, sections 2.1 and 6): that of the prefix, or of the default
+/// for an element without one; an attribute without a prefix and an instruction have none. The node is an element, an
+/// attribute or an instruction of the table.
 pub fn uri_of<'a, W: Words>(table: &Table<'a, W>, node: Node) -> Uri<'a, W>
     requires node { IsNodeOf table.now.bytes (W.lists table.now.words) node }
     requires named { HasName node.kind }
-    ensures { (nest : Forest) → IsNestOf table.now.bytes (W.lists table.now.words) nest → (e : Entry) → Identifies node.kind node.at e (nodes_of table.now.bytes nest) →
+    ensures { (nest : Forest) → IsNestOf table.now.bytes (W.lists table.now.words) nest → (e : Entry) →
+        Identifies node.kind node.at e (nodes_of table.now.bytes nest) →
         uri_value result ≡ uri_in (expanded e) }
 {
     let prefix = prefix_of(table, node);
@@ -70,12 +73,13 @@ pub fn uri_of<'a, W: Words>(table: &Table<'a, W>, node: Node) -> Uri<'a, W>
     }
 }
 
-/// Whether a node passes a name test (XPath 1.0, section 2.3), by its expanded name; an empty URI is no namespace. The node is
-/// an element or an attribute of the table.
+/// Whether a node passes a name test (XPath 1.0, section 2.3), by its expanded name; an empty URI is no namespace. The
+/// node is an element or an attribute of the table.
 pub fn matches<W: Words>(table: &Table<'_, W>, node: Node, test: &NameTest<'_>) -> bool
     requires node { IsNodeOf table.now.bytes (W.lists table.now.words) node }
     requires named { HasExpandedName node.kind }
-    ensures { (nest : Forest) → IsNestOf table.now.bytes (W.lists table.now.words) nest → (e : Entry) → Identifies node.kind node.at e (nodes_of table.now.bytes nest) →
+    ensures { (nest : Forest) → IsNestOf table.now.bytes (W.lists table.now.words) nest → (e : Entry) →
+        Identifies node.kind node.at e (nodes_of table.now.bytes nest) →
         result ≡ name_passes (test_of test.now) (expanded e) }
 {
     match *test {

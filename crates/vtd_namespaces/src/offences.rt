@@ -1,6 +1,7 @@
 //! Names that offend Namespaces in XML 1.0 (sections 3, 5, 6.3 and 7).
 
-ghost use Rattle.std.specs.Prelude.{◌≡◌, ℕ, ◌+◌, ◌*◌, ◌<◌, ◌≤◌, ◌^◌, true, false, List, [], ◌∷◌, ◌++◌, length, take, is_some, encode_utf8_all, bytes_eq, codes, IfSome};
+ghost use Rattle.std.specs.Prelude.{◌≡◌, ℕ, ◌+◌, ◌*◌, ◌<◌, ◌≤◌, ◌^◌, true, false, List, [], ◌∷◌, ◌++◌, length, take};
+ghost use Rattle.std.specs.Prelude.{is_some, encode_utf8_all, bytes_eq, codes, IfSome};
 ghost use Rattle.std.specs.List.{AllByRecursion, list_any};
 ghost use Rattle.xml_model.specs.Scan.{record_at};
 ghost use Rattle.vtd_words.specs.Packed.{record_of};
@@ -11,39 +12,44 @@ ghost use Rattle.xml_model.specs.Chars.{prefix_of as prefix_of_chars};
 ghost use Rattle.xml_model.specs.Records.{Record, attributes_place, records};
 ghost use Rattle.xml_model.specs.Tree.{Holder};
 ghost use Rattle.xml_model.specs.Names.{attribute_uri};
-ghost use Rattle.xml_model.specs.Accepted.{attribute_offends as offends_as_attribute, declaration_offends as offends_by_declaration, is_reserved as is_reserved_uri, offending_attributes, offending_tag, repeated, tag_offends};
+ghost use Rattle.xml_model.specs.Accepted.{attribute_offends as offends_as_attribute};
+ghost use Rattle.xml_model.specs.Accepted.{declaration_offends as offends_by_declaration};
+ghost use Rattle.xml_model.specs.Accepted.{is_reserved as is_reserved_uri, offending_attributes, offending_tag};
+ghost use Rattle.xml_model.specs.Accepted.{repeated, tag_offends};
 ghost use Rattle.vtd_words.specs.Lists.{list_of};
 ghost use Rattle.vtd_words.specs.Table.{IsNestOf, Shows, nodes_of};
 ghost use Rattle.vtd_text.specs.NameRecords.{IsDeclaration, IsNameOf};
 ghost use Rattle.vtd_namespaces.specs.NameRecords.{AreAttributeRecords, IsAttributeRecord, IsTagRecord};
 ghost use Rattle.vtd_namespaces.specs.Faults.{first_of};
 ghost use Rattle.vtd_namespaces.specs.Scope.{IsNearest, tags_in};
-ghost use Rattle.vtd_namespaces.specs.Uris.{IsScope};
+ghost use Rattle.vtd_namespaces.specs.Reach.{IsScope};
 ghost use Rattle.vtd_namespaces.specs.Offences.{is_twin, seen_after, IsFine, IsWritten};
 
-use crate::filter::Filter;
 use crate::qnames::{after_prefix, is_qname, prefix_of};
 use crate::records::{attribute_at, slice_of};
 use crate::scope::Scope;
 use crate::sieve::note_attribute;
 use crate::uri::{XML_URI, XMLNS_URI};
-use vtd_text::{Chars, equals_str};
+use vtd_text::{Chars, FingerprintFilter, equals_str};
 use vtd_words::{Part, Parts, Table, Words, parts_at};
+use xml_model::TokenKind;
 
 /// Whether the value of a declaration is one of the two URIs that are bound to `xml` and `xmlns` for ever.
 fn is_reserved<W: Words>(table: &Table<'_, W>, at: u32) -> bool
     requires { IsDeclaration table.now.bytes (W.lists table.now.words) at }
-    ensures { (nest : Forest) → IsNestOf table.now.bytes (W.lists table.now.words) nest → (a : Attribute) → IsNameOf table.now.bytes nest at a → result ≡ is_reserved_uri (value_content a.value) }
+    ensures { (nest : Forest) → IsNestOf table.now.bytes (W.lists table.now.words) nest → (a : Attribute) →
+        IsNameOf table.now.bytes nest at a → result ≡ is_reserved_uri (value_content a.value) }
 {
     equals_str(Chars::of_declaration(table, at), XML_URI)
         || equals_str(Chars::of_declaration(table, at), XMLNS_URI)
 }
 
-/// Whether a declaration offends, by its name and its value (Namespaces in XML 1.0, section 3, constraint 'Reserved Prefixes
-/// and Namespace Names', and section 5, constraint 'No Prefix Undeclaring').
+/// Whether a declaration offends, by its name and its value (Namespaces in XML 1.0, section 3, constraint 'Reserved
+/// Prefixes and Namespace Names', and section 5, constraint 'No Prefix Undeclaring').
 fn declaration_offends<W: Words>(table: &Table<'_, W>, at: u32, name: &[u8]) -> bool
     requires { IsDeclaration table.now.bytes (W.lists table.now.words) at }
-    ensures { (nest : Forest) → IsNestOf table.now.bytes (W.lists table.now.words) nest → (a : Attribute) → IsNameOf table.now.bytes nest at a →
+    ensures { (nest : Forest) → IsNestOf table.now.bytes (W.lists table.now.words) nest → (a : Attribute) →
+        IsNameOf table.now.bytes nest at a →
         name.now ≡ encode_utf8_all a.name → result ≡ offends_by_declaration a.name (value_content a.value) }
 {
     if name == DEFAULT {
@@ -70,8 +76,8 @@ const DECLARES_XML: &[u8] = b"xmlns:xml";
 /// The name that would declare the prefix `xmlns`.
 const DECLARES_XMLNS: &[u8] = b"xmlns:xmlns";
 
-/// Whether the attribute whose name is a record has the local part and the URI of another, whose prefix is not empty and is
-/// bound by the declaration of a record (Namespaces in XML 1.0, section 6.3, constraint 'Attributes Unique').
+/// Whether the attribute whose name is a record has the local part and the URI of another, whose prefix is not empty
+/// and is bound by the declaration of a record (Namespaces in XML 1.0, section 6.3, constraint 'Attributes Unique').
 fn is_twin_at<W: Words>(
     scope: &Scope<'_, '_, W>,
     at: u32,
@@ -81,14 +87,19 @@ fn is_twin_at<W: Words>(
 ) -> bool
     requires room { at < length (list_of Part.Records (W.lists scope.now.table.now.words)) }
     requires prefix { 0 < prefix_len }
-    requires declaration { IfSome declaration (IsDeclaration scope.now.table.now.bytes (W.lists scope.now.table.now.words)) }
-    ensures { (nest : Forest) (hs : List Holder) → IsScope scope.now.table.now.bytes (W.lists scope.now.table.now.words) scope.now.open_tags.now scope.now.depth nest hs →
-        (a : Attribute) → IsWritten name.now prefix_len a → is_some (attribute_uri (prefix_of_chars a.name) (tags_in hs)) ≡ true → IsNearest (nodes_of scope.now.table.now.bytes nest) hs (prefix_of_chars a.name) declaration →
-        (rs : List Record) → Shows (list_of Part.Records (W.lists scope.now.table.now.words)) rs → (place : ℕ) (b : Attribute) → IsAttributeRecord scope.now.table.now.bytes rs at place b →
+    requires declaration { IfSome declaration
+        (IsDeclaration scope.now.table.now.bytes (W.lists scope.now.table.now.words)) }
+    ensures { (nest : Forest) (hs : List Holder) → IsScope scope.now.table.now.bytes (W.lists scope.now.table.now.words)
+        scope.now.open_tags.now scope.now.depth nest hs →
+        (a : Attribute) → IsWritten name.now prefix_len a →
+        is_some (attribute_uri (prefix_of_chars a.name) (tags_in hs)) ≡ true →
+        IsNearest (nodes_of scope.now.table.now.bytes nest) hs (prefix_of_chars a.name) declaration →
+        (rs : List Record) → Shows (list_of Part.Records (W.lists scope.now.table.now.words)) rs →
+        (place : ℕ) (b : Attribute) → IsAttributeRecord scope.now.table.now.bytes rs at place b →
         result ≡ is_twin (tags_in hs) a b }
 {
     let other = parts_at(scope.table.words(), at);
-    if other.token != 2 {
+    if other.token != TokenKind::AttributeName as u8 {
         return false;
     }
     if other.prefix == 0 {
@@ -105,8 +116,8 @@ fn is_twin_at<W: Words>(
     false
 }
 
-/// Whether one of so many attributes of the nearest tag has the local part and the URI of an attribute whose prefix is not
-/// empty and is bound; the record of the first of them has the index `first`.
+/// Whether one of so many attributes of the nearest tag has the local part and the URI of an attribute whose prefix is
+/// not empty and is bound; the record of the first of them has the index `first`.
 fn has_twin<W: Words>(
     scope: &Scope<'_, '_, W>,
     first: u32,
@@ -117,9 +128,11 @@ fn has_twin<W: Words>(
     requires room { first + 2 * count ≤ length (list_of Part.Records (W.lists scope.now.table.now.words)) }
     requires bound { first + 2 * count < 2 ^ 32 }
     requires prefix { 0 < prefix_len }
-    ensures { (nest : Forest) (x : Holder) (xs : List Holder) → IsScope scope.now.table.now.bytes (W.lists scope.now.table.now.words) scope.now.open_tags.now scope.now.depth nest (x ∷ xs) →
+    ensures { (nest : Forest) (x : Holder) (xs : List Holder) → IsScope scope.now.table.now.bytes
+        (W.lists scope.now.table.now.words) scope.now.open_tags.now scope.now.depth nest (x ∷ xs) →
         first ≡ x.index + 1 → count ≤ length x.tag.attributes →
-        (a : Attribute) → IsWritten name.now prefix_len a → is_some (attribute_uri (prefix_of_chars a.name) (tags_in (x ∷ xs))) ≡ true →
+        (a : Attribute) → IsWritten name.now prefix_len a →
+        is_some (attribute_uri (prefix_of_chars a.name) (tags_in (x ∷ xs))) ≡ true →
         result ≡ list_any (is_twin (tags_in (x ∷ xs)) a) (take count x.tag.attributes) }
 {
     let own = scope.declaration(prefix_of(name, prefix_len));
@@ -131,9 +144,9 @@ fn has_twin<W: Words>(
     false
 }
 
-/// Whether an attribute or a declaration of the nearest tag offends, by the number of attributes before it, none of which
-/// offends; the record of the first of them has the index `first`. No two of them have one name. Where it is known to be new,
-/// none of them has its expanded name.
+/// Whether an attribute or a declaration of the nearest tag offends, by the number of attributes before it, none of
+/// which offends; the record of the first of them has the index `first`. No two of them have one name. Where it is
+/// known to be new, none of them has its expanded name.
 fn attribute_offends<W: Words>(
     scope: &Scope<'_, '_, W>,
     first: u32,
@@ -143,18 +156,22 @@ fn attribute_offends<W: Words>(
 ) -> bool
     requires room { first + 2 * number < length (list_of Part.Records (W.lists scope.now.table.now.words)) }
     requires bound { first + 2 * number < 2 ^ 32 }
-    requires here { (rs : List Record) → Shows (list_of Part.Records (W.lists scope.now.table.now.words)) rs → record_of parts ≡ record_at (first + 2 * number) rs }
-    ensures { (nest : Forest) (x : Holder) (xs : List Holder) → IsScope scope.now.table.now.bytes (W.lists scope.now.table.now.words) scope.now.open_tags.now scope.now.depth nest (x ∷ xs) →
-        first ≡ x.index + 1 → (done left : List Attribute) (a : Attribute) → x.tag.attributes ≡ done ++ (a ∷ left) → length done ≡ number →
+    requires here { (rs : List Record) → Shows (list_of Part.Records (W.lists scope.now.table.now.words)) rs →
+        record_of parts ≡ record_at (first + 2 * number) rs }
+    ensures { (nest : Forest) (x : Holder) (xs : List Holder) → IsScope scope.now.table.now.bytes
+        (W.lists scope.now.table.now.words) scope.now.open_tags.now scope.now.depth nest (x ∷ xs) →
+        first ≡ x.index + 1 → (done left : List Attribute) (a : Attribute) → x.tag.attributes ≡ done ++ (a ∷ left) →
+        length done ≡ number →
         AllByRecursion (IsFine (tags_in (x ∷ xs))) done → AllByRecursion (λ b. bytes_eq a.name b.name ≡ false) done →
-        (is_new ≡ true → is_some (attribute_uri (prefix_of_chars a.name) (tags_in (x ∷ xs))) ≡ true → list_any (is_twin (tags_in (x ∷ xs)) a) done ≡ false) →
+        (is_new ≡ true → is_some (attribute_uri (prefix_of_chars a.name) (tags_in (x ∷ xs))) ≡ true →
+        list_any (is_twin (tags_in (x ∷ xs)) a) done ≡ false) →
         result ≡ offends_as_attribute (tags_in (x ∷ xs)) (seen_after (tags_in (x ∷ xs)) [] done) a }
 {
     let name = slice_of(scope.table.bytes(), parts);
     if !is_qname(name, parts.prefix) {
         return true;
     }
-    if parts.token == 3 {
+    if parts.token == TokenKind::NamespaceName as u8 {
         return declaration_offends(scope.table, first + 2 * number, name);
     }
     if parts.prefix == 0 {
@@ -172,16 +189,19 @@ fn attribute_offends<W: Words>(
 /// The number of attributes from which on a filter is worth its making.
 const MANY: u32 = 64;
 
-/// Where the first name of an attribute or a declaration of the nearest tag begins that offends; no two of them have one
-/// name, and the record of the first of them has the index `first`. Each is compared with those before it only where a filter
-/// takes its expanded name for one of theirs.
+/// Where the first name of an attribute or a declaration of the nearest tag begins that offends; no two of them have
+/// one name, and the record of the first of them has the index `first`. Each is compared with those before it only
+/// where a filter takes its expanded name for one of theirs.
 fn attributes_offence_in_many<W: Words>(scope: &Scope<'_, '_, W>, first: u32) -> Option<u32>
     requires { first ≤ length (list_of Part.Records (W.lists scope.now.table.now.words)) }
-    ensures { (nest : Forest) (x : Holder) (xs : List Holder) → IsScope scope.now.table.now.bytes (W.lists scope.now.table.now.words) scope.now.open_tags.now scope.now.depth nest (x ∷ xs) →
-        first ≡ x.index + 1 → (at : ℕ) → AreAttributeRecords scope.now.table.now.bytes (records nest (first_place scope.now.table.now.bytes)) first at x.tag.attributes →
-        repeated at [] x.tag.attributes ≡ [] → result ≡ first_of (offending_attributes (tags_in (x ∷ xs)) at [] x.tag.attributes) }
+    ensures { (nest : Forest) (x : Holder) (xs : List Holder) → IsScope scope.now.table.now.bytes
+        (W.lists scope.now.table.now.words) scope.now.open_tags.now scope.now.depth nest (x ∷ xs) →
+        first ≡ x.index + 1 → (at : ℕ) → AreAttributeRecords scope.now.table.now.bytes
+          (records nest (first_place scope.now.table.now.bytes)) first at x.tag.attributes →
+        repeated at [] x.tag.attributes ≡ [] →
+        result ≡ first_of (offending_attributes (tags_in (x ∷ xs)) at [] x.tag.attributes) }
 {
-    let mut filter = Filter::new();
+    let mut filter = FingerprintFilter::new();
     let mut number = 0;
     while let Some(parts) = attribute_at(scope.table.words(), first + 2 * number) {
         let is_new = note_attribute(scope, &mut filter, parts);
@@ -193,12 +213,17 @@ fn attributes_offence_in_many<W: Words>(scope: &Scope<'_, '_, W>, first: u32) ->
     None
 }
 
-/// The same. Each is compared with those before it; where one with a prefix is not among the first few, by a filter.
+/// Where the first name of an attribute or a declaration of the nearest tag begins that offends; no two of them have
+/// one name, and the record of the first of them has the index `first`. Each is compared with those before it; where
+/// one with a prefix is not among the first few, only where a filter takes its expanded name for one of theirs.
 fn attributes_offence<W: Words>(scope: &Scope<'_, '_, W>, first: u32) -> Option<u32>
     requires { first ≤ length (list_of Part.Records (W.lists scope.now.table.now.words)) }
-    ensures { (nest : Forest) (x : Holder) (xs : List Holder) → IsScope scope.now.table.now.bytes (W.lists scope.now.table.now.words) scope.now.open_tags.now scope.now.depth nest (x ∷ xs) →
-        first ≡ x.index + 1 → (at : ℕ) → AreAttributeRecords scope.now.table.now.bytes (records nest (first_place scope.now.table.now.bytes)) first at x.tag.attributes →
-        repeated at [] x.tag.attributes ≡ [] → result ≡ first_of (offending_attributes (tags_in (x ∷ xs)) at [] x.tag.attributes) }
+    ensures { (nest : Forest) (x : Holder) (xs : List Holder) → IsScope scope.now.table.now.bytes
+        (W.lists scope.now.table.now.words) scope.now.open_tags.now scope.now.depth nest (x ∷ xs) →
+        first ≡ x.index + 1 → (at : ℕ) → AreAttributeRecords scope.now.table.now.bytes
+          (records nest (first_place scope.now.table.now.bytes)) first at x.tag.attributes →
+        repeated at [] x.tag.attributes ≡ [] →
+        result ≡ first_of (offending_attributes (tags_in (x ∷ xs)) at [] x.tag.attributes) }
 {
     let mut number = 0;
     while let Some(parts) = attribute_at(scope.table.words(), first + 2 * number) {
@@ -218,9 +243,12 @@ const XMLNS: &[u8] = b"xmlns";
 
 /// Whether the name of the nearest tag offends, by the parts of its record.
 fn tag_name_offends<W: Words>(scope: &Scope<'_, '_, W>, tag: u32, parts: Parts) -> bool
-    requires { (rs : List Record) → Shows (list_of Part.Records (W.lists scope.now.table.now.words)) rs → record_of parts ≡ record_at tag rs }
-    ensures { (nest : Forest) (x : Holder) (xs : List Holder) → IsScope scope.now.table.now.bytes (W.lists scope.now.table.now.words) scope.now.open_tags.now scope.now.depth nest (x ∷ xs) →
-        (at : ℕ) → IsTagRecord scope.now.table.now.bytes (records nest (first_place scope.now.table.now.bytes)) tag at x.tag →
+    requires { (rs : List Record) → Shows (list_of Part.Records (W.lists scope.now.table.now.words)) rs →
+        record_of parts ≡ record_at tag rs }
+    ensures { (nest : Forest) (x : Holder) (xs : List Holder) → IsScope scope.now.table.now.bytes
+        (W.lists scope.now.table.now.words) scope.now.open_tags.now scope.now.depth nest (x ∷ xs) →
+        (at : ℕ) → IsTagRecord scope.now.table.now.bytes (records nest (first_place scope.now.table.now.bytes)) tag at
+          x.tag →
         result ≡ tag_offends (tags_in (x ∷ xs)) x.tag.name }
 {
     let name = slice_of(scope.table.bytes(), parts);
@@ -238,9 +266,12 @@ fn tag_name_offends<W: Words>(scope: &Scope<'_, '_, W>, tag: u32, parts: Parts) 
 /// attributes and declarations are one.
 pub fn tag_offence<W: Words>(scope: &Scope<'_, '_, W>, tag: u32) -> Option<u32>
     requires { tag < length (list_of Part.Records (W.lists scope.now.table.now.words)) }
-    ensures { (nest : Forest) (x : Holder) (xs : List Holder) → IsScope scope.now.table.now.bytes (W.lists scope.now.table.now.words) scope.now.open_tags.now scope.now.depth nest (x ∷ xs) →
-        tag ≡ x.index → (at : ℕ) → IsTagRecord scope.now.table.now.bytes (records nest (first_place scope.now.table.now.bytes)) tag at x.tag →
-        repeated (attributes_place at x.tag) [] x.tag.attributes ≡ [] → result ≡ first_of (offending_tag at (tags_in xs) x.tag) }
+    ensures { (nest : Forest) (x : Holder) (xs : List Holder) → IsScope scope.now.table.now.bytes
+        (W.lists scope.now.table.now.words) scope.now.open_tags.now scope.now.depth nest (x ∷ xs) →
+        tag ≡ x.index → (at : ℕ) →
+        IsTagRecord scope.now.table.now.bytes (records nest (first_place scope.now.table.now.bytes)) tag at x.tag →
+        repeated (attributes_place at x.tag) [] x.tag.attributes ≡ [] →
+        result ≡ first_of (offending_tag at (tags_in xs) x.tag) }
 {
     let parts = parts_at(scope.table.words(), tag);
     if tag_name_offends(scope, tag, parts) {

@@ -6,16 +6,20 @@ ghost use Rattle.xml_model.specs.Scan.{record_at};
 ghost use Rattle.vtd_words.specs.Lists.{list_of};
 ghost use Rattle.vtd_words.specs.Packed.{record_of};
 ghost use Rattle.vtd_words.specs.Table.{Shows};
-ghost use Rattle.vtd_namespaces.specs.NameRecords.{slice_of, is_attribute_token};
+ghost use Rattle.vtd_text.specs.Joined.{slice_of};
+ghost use Rattle.vtd_text.specs.NameRecords.{is_attribute_name};
 ghost use Rattle.vtd_namespaces.specs.Repeats.{HasNoAttribute};
 
 use vtd_words::{Part, Parts, Words, parts_at};
+use xml_model::TokenKind;
 
 /// The parts of the record with an index, where it is of an attribute's name and the value's record follows it.
 pub fn attribute_at<W: Words>(words: &W, at: u32) -> Option<Parts>
-    ensures none { (rs : List Record) → Shows (list_of Part.Records (W.lists words.now)) rs → IfNone result (HasNoAttribute rs at) }
-    ensures some { (rs : List Record) → Shows (list_of Part.Records (W.lists words.now)) rs → IfSome result (λ p. record_of p ≡ record_at at rs) }
-    ensures kind { IfSome result (λ p. is_attribute_token p.token ≡ true) }
+    ensures none { (rs : List Record) → Shows (list_of Part.Records (W.lists words.now)) rs →
+        IfNone result (HasNoAttribute rs at) }
+    ensures some { (rs : List Record) → Shows (list_of Part.Records (W.lists words.now)) rs →
+        IfSome result (λ p. record_of p ≡ record_at at rs) }
+    ensures kind { IfSome result (λ p. is_attribute_name p.token ≡ true) }
     ensures room { IfSome result (λ p. at + 2 ≤ length (list_of Part.Records (W.lists words.now))) }
     ensures bound { IfSome result (λ p. at + 2 < 2 ^ 32) }
 {
@@ -24,7 +28,9 @@ pub fn attribute_at<W: Words>(words: &W, at: u32) -> Option<Parts>
         return None;
     }
     let parts = parts_at(words, at);
-    if parts.token == 2 || parts.token == 3 {
+    if parts.token == TokenKind::AttributeName as u8
+        || parts.token == TokenKind::NamespaceName as u8
+    {
         Some(parts)
     } else {
         None

@@ -12,9 +12,10 @@ ghost use Rattle.vtd_namespaces.specs.NameRecords.{AreAttributeRecords};
 ghost use Rattle.vtd_namespaces.specs.Repeats.{names_before};
 ghost use Rattle.vtd_namespaces.specs.Faults.{first_of};
 
-use crate::filter::Filter;
 use crate::records::{attribute_at, slice_of};
+use vtd_text::FingerprintFilter;
 use vtd_words::{Part, Words, parts_at};
+use xml_model::TokenKind;
 
 /// The number of names from which on a filter is worth its making.
 const MANY: u32 = 64;
@@ -23,7 +24,8 @@ const MANY: u32 = 64;
 fn is_among<W: Words>(bytes: &[u8], words: &W, first: u32, count: u32, name: &[u8]) -> bool
     requires room { first + 2 * count ≤ length (list_of Part.Records (W.lists words.now)) }
     requires bound { first + 2 * count < 2 ^ 32 }
-    ensures { (rs : List Record) → Shows (list_of Part.Records (W.lists words.now)) rs → result ≡ list_any (bytes_eq name.now) (names_before bytes.now rs first count) }
+    ensures { (rs : List Record) → Shows (list_of Part.Records (W.lists words.now)) rs →
+        result ≡ list_any (bytes_eq name.now) (names_before bytes.now rs first count) }
 {
     for number in 0..count {
         if slice_of(bytes, parts_at(words, first + 2 * number)) == name {
@@ -33,14 +35,15 @@ fn is_among<W: Words>(bytes: &[u8], words: &W, first: u32, count: u32, name: &[u
     false
 }
 
-/// Where the first name of a tag begins that repeats an earlier one; the records of the tag's attributes begin at `first`.
-/// Each name is compared with those before it only where a filter takes it for one of them.
+/// Where the first name of a tag begins that repeats an earlier one; the records of the tag's attributes begin at
+/// `first`. Each name is compared with those before it only where a filter takes it for one of them.
 fn repeat_in_many<W: Words>(bytes: &[u8], words: &W, first: u32) -> Option<u32>
     requires { first ≤ length (list_of Part.Records (W.lists words.now)) }
-    ensures { (rs : List Record) → Shows (list_of Part.Records (W.lists words.now)) rs → (at : ℕ) (others : List Attribute) →
+    ensures { (rs : List Record) → Shows (list_of Part.Records (W.lists words.now)) rs →
+        (at : ℕ) (others : List Attribute) →
         AreAttributeRecords bytes.now rs first at others → result ≡ first_of (repeated at [] others) }
 {
-    let mut filter = Filter::new();
+    let mut filter = FingerprintFilter::new();
     let mut earlier = 0;
     while let Some(parts) = attribute_at(words, first + 2 * earlier) {
         let name = slice_of(bytes, parts);
@@ -52,10 +55,12 @@ fn repeat_in_many<W: Words>(bytes: &[u8], words: &W, first: u32) -> Option<u32>
     None
 }
 
-/// The same. Each name is compared with those before it, where they are few.
+/// Where the first name of a tag begins that repeats an earlier one; the records of the tag's attributes begin at
+/// `first`. Each name is compared with those before it, where they are few.
 fn repeat_in<W: Words>(bytes: &[u8], words: &W, first: u32) -> Option<u32>
     requires { first ≤ length (list_of Part.Records (W.lists words.now)) }
-    ensures { (rs : List Record) → Shows (list_of Part.Records (W.lists words.now)) rs → (at : ℕ) (others : List Attribute) →
+    ensures { (rs : List Record) → Shows (list_of Part.Records (W.lists words.now)) rs →
+        (at : ℕ) (others : List Attribute) →
         AreAttributeRecords bytes.now rs first at others → result ≡ first_of (repeated at [] others) }
 {
     let mut earlier = 0;
@@ -74,11 +79,12 @@ fn repeat_in<W: Words>(bytes: &[u8], words: &W, first: u32) -> Option<u32>
 /// Where the first name of a document begins that repeats an earlier one of its tag; `None` exactly where none does.
 pub fn first_repeat<W: Words>(bytes: &[u8], words: &W) -> Option<u32>
     requires { length bytes.now < 2 ^ 30 }
-    ensures { (nest : Forest) → IsNestOf bytes.now (W.lists words.now) nest → result ≡ first_of (over_names repeats [] (first_place bytes.now) nest) }
+    ensures { (nest : Forest) → IsNestOf bytes.now (W.lists words.now) nest →
+        result ≡ first_of (over_names repeats [] (first_place bytes.now) nest) }
 {
     let records = words.len(Part::Records);
     for at in 0..records {
-        if parts_at(words, at).token != 0 {
+        if parts_at(words, at).token != TokenKind::StartTag as u8 {
             continue;
         }
         if let Some(place) = repeat_in(bytes, words, at + 1) {

@@ -1,5 +1,5 @@
-//! A sieve for the expanded names of a tag's attributes (Namespaces in XML 1.0, section 6.3): a filter that is keyed by the URI
-//! and the local part.
+//! A sieve for the expanded names of a tag's attributes (Namespaces in XML 1.0, section 6.3): a fingerprint filter
+//! whose keys are the URI and the local part.
 
 ghost use Rattle.std.specs.Prelude.{◌≡◌, ℕ, ◌<◌, ◌^◌, true, false, not, List, [], fold};
 ghost use Rattle.std.specs.Option.{unwrap_or};
@@ -8,18 +8,20 @@ ghost use Rattle.xml_model.specs.Nest.{Forest};
 ghost use Rattle.xml_model.specs.Records.{name_token};
 ghost use Rattle.xml_model.specs.Tree.{Holder};
 ghost use Rattle.vtd_words.specs.Packed.{record_of};
-ghost use Rattle.vtd_namespaces.specs.Filter.{mixed, is_taken};
+ghost use Rattle.vtd_text.specs.Fingerprints.{mixed, is_taken};
 ghost use Rattle.vtd_namespaces.specs.NameRecords.{IsNameRecord};
 ghost use Rattle.vtd_namespaces.specs.Scope.{tags_in};
-ghost use Rattle.vtd_namespaces.specs.Uris.{IsScope, uri_value};
+ghost use Rattle.vtd_namespaces.specs.Reach.{IsScope};
+ghost use Rattle.vtd_namespaces.specs.Uris.{uri_value};
 ghost use Rattle.vtd_namespaces.specs.Offences.{key_of, IsNoted, IsWritten};
 
-use crate::filter::{Filter, mix_bytes, mix_chars};
 use crate::qnames::{after_prefix, prefix_of};
 use crate::records::slice_of;
 use crate::scope::Scope;
 use crate::uri::{Uri, XML_URI};
+use vtd_text::{FingerprintFilter, mix_bytes, mix_chars};
 use vtd_words::{Parts, Words};
+use xml_model::TokenKind;
 
 /// The number of a URI as the start of a key; that of none is of no code points.
 fn number_of_uri<W: Words>(uri: Uri<'_, W>) -> u64
@@ -33,34 +35,42 @@ fn number_of_uri<W: Words>(uri: Uri<'_, W>) -> u64
     }
 }
 
-/// Notes the expanded name of an attribute whose prefix is not empty; true where no attribute that was noted before has it.
+/// Notes the expanded name of an attribute whose prefix is not empty; true where no attribute that was noted before has
+/// it.
 fn note_name<W: Words>(
     scope: &Scope<'_, '_, W>,
-    filter: &mut Filter,
+    filter: &mut FingerprintFilter,
     name: &[u8],
     prefix_len: u32,
 ) -> bool
     requires prefix { 0 < prefix_len }
-    ensures new { (nest : Forest) (hs : List Holder) → IsScope scope.now.table.now.bytes (W.lists scope.now.table.now.words) scope.now.open_tags.now scope.now.depth nest hs →
-        (a : Attribute) → IsWritten name.now prefix_len a → result ≡ not (is_taken filter.old.slots (key_of (tags_in hs) a)) }
-    ensures noted { (nest : Forest) (hs : List Holder) → IsScope scope.now.table.now.bytes (W.lists scope.now.table.now.words) scope.now.open_tags.now scope.now.depth nest hs →
-        (a : Attribute) → IsWritten name.now prefix_len a → is_taken filter.new.slots (key_of (tags_in hs) a) ≡ true }
-    ensures kept { (key : List ℕ) → is_taken filter.old.slots key ≡ true → is_taken filter.new.slots key ≡ true }
+    ensures new { (nest : Forest) (hs : List Holder) → IsScope scope.now.table.now.bytes
+        (W.lists scope.now.table.now.words) scope.now.open_tags.now scope.now.depth nest hs →
+        (a : Attribute) → IsWritten name.now prefix_len a → result ≡ not (is_taken filter.old (key_of (tags_in hs) a)) }
+    ensures noted { (nest : Forest) (hs : List Holder) → IsScope scope.now.table.now.bytes
+        (W.lists scope.now.table.now.words) scope.now.open_tags.now scope.now.depth nest hs →
+        (a : Attribute) → IsWritten name.now prefix_len a → is_taken filter.new (key_of (tags_in hs) a) ≡ true }
+    ensures kept { (key : List ℕ) → is_taken filter.old key ≡ true → is_taken filter.new key ≡ true }
 {
     let uri = number_of_uri(scope.uri_of_prefix(prefix_of(name, prefix_len)));
-    filter.note_number(mix_bytes(uri, after_prefix(name, prefix_len)))
+    filter.note_fingerprint(mix_bytes(uri, after_prefix(name, prefix_len)))
 }
 
-/// Notes an attribute of the nearest tag, where it is one with a prefix and no declaration; true only where no attribute that
-/// was noted before has its expanded name.
-pub fn note_attribute<W: Words>(scope: &Scope<'_, '_, W>, filter: &mut Filter, parts: Parts) -> bool
-    ensures new { (nest : Forest) (hs : List Holder) → IsScope scope.now.table.now.bytes (W.lists scope.now.table.now.words) scope.now.open_tags.now scope.now.depth nest hs →
-        (a : Attribute) → parts.token ≡ name_token a.name → IsNameRecord scope.now.table.now.bytes (record_of parts) a.name → result ≡ true → is_taken filter.old.slots (key_of (tags_in hs) a) ≡ false }
-    ensures noted { (nest : Forest) (hs : List Holder) → IsScope scope.now.table.now.bytes (W.lists scope.now.table.now.words) scope.now.open_tags.now scope.now.depth nest hs →
-        (a : Attribute) → parts.token ≡ name_token a.name → IsNameRecord scope.now.table.now.bytes (record_of parts) a.name → IsNoted (tags_in hs) filter.new.slots a }
-    ensures kept { (key : List ℕ) → is_taken filter.old.slots key ≡ true → is_taken filter.new.slots key ≡ true }
+/// Notes an attribute of the nearest tag, where it is one with a prefix and no declaration; true only where no
+/// attribute that was noted before has its expanded name.
+pub fn note_attribute<W: Words>(scope: &Scope<'_, '_, W>, filter: &mut FingerprintFilter, parts: Parts) -> bool
+    ensures new { (nest : Forest) (hs : List Holder) → IsScope scope.now.table.now.bytes
+        (W.lists scope.now.table.now.words) scope.now.open_tags.now scope.now.depth nest hs →
+        (a : Attribute) → parts.token ≡ name_token a.name →
+        IsNameRecord scope.now.table.now.bytes (record_of parts) a.name → result ≡ true →
+        is_taken filter.old (key_of (tags_in hs) a) ≡ false }
+    ensures noted { (nest : Forest) (hs : List Holder) → IsScope scope.now.table.now.bytes
+        (W.lists scope.now.table.now.words) scope.now.open_tags.now scope.now.depth nest hs →
+        (a : Attribute) → parts.token ≡ name_token a.name →
+        IsNameRecord scope.now.table.now.bytes (record_of parts) a.name → IsNoted (tags_in hs) filter.new a }
+    ensures kept { (key : List ℕ) → is_taken filter.old key ≡ true → is_taken filter.new key ≡ true }
 {
-    if parts.token == 3 || parts.prefix == 0 {
+    if parts.token == TokenKind::NamespaceName as u8 || parts.prefix == 0 {
         return false;
     }
     note_name(

@@ -1,7 +1,8 @@
 use Rattle.std.proofs.Common.{◌≡◌, ◌∙◌, ap, ap₂, sym, bytes_eq, codes, refl}
 use Rattle.std.specs.Str.{chars}
 use Rattle.xml_model.specs.Names.{xml_uri}
-use Rattle.vtd_namespaces.specs.Uris.{same_uri, uri_value}
+use Rattle.vtd_namespaces.specs.Reach.{same_uri}
+use Rattle.vtd_namespaces.specs.Uris.{uri_value}
 use Rattle.vtd_namespaces.proofs.ScopeLemmas.{eq_turned}
 use Rattle.vtd_namespaces.proofs.compare.same_uri.Goals as goal
 

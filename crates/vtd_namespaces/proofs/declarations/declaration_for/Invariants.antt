@@ -9,5 +9,5 @@ use Rattle.vtd_namespaces.proofs.declarations.declaration_for.Given as goal
 
 abbrev pub invariant-loop-level : goal.invariant-loop-level
 invariant-loop-level g l =
-    (nest : Forest) → IsNestOf l.bytes (g.W.Words.lists l.words) nest → (hs : List Holder) → Chain (nodes_of l.bytes nest) hs → Opened l.open_tags hs → length hs ≡ l.depth + 1 →
+    (nest : Forest) → IsNestOf l.bytes (g.W.Words.lists l.words) nest → (hs : List Holder) → Chain (nodes_of l.bytes nest) hs → Opened l.open_tags hs → length hs ≡ l.count →
     (p : List ℕ) → l.prefix ≡ encode_utf8_all p → Left (nodes_of l.bytes nest) l.open_tags hs p l.level

@@ -5,7 +5,7 @@ use Rattle.xml_model.specs.Tree.{Holder}
 use Rattle.xml_model.specs.Laws.{holder_index}
 use Rattle.vtd_words.specs.Table.{IsNestOf, nodes_of}
 use Rattle.vtd_namespaces.specs.Scope.{Chain}
-use Rattle.vtd_namespaces.specs.NodeNames.{IsElementAt}
+use Rattle.vtd_namespaces.specs.Reach.{IsElementAt}
 use Rattle.vtd_namespaces.proofs.HolderLemmas.{LeftAbove}
 use Rattle.vtd_namespaces.proofs.holders.declaration_above.Given as goal
 

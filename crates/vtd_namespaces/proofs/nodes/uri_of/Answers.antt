@@ -1,6 +1,7 @@
 use Rattle.std.proofs.Common.{◌≡◌, ◌∙◌, ap, sym}
 use Rattle.std.proofs.lemmas.Bool.{eqb-true}
-use Rattle.vtd_namespaces.specs.NodeNames.{node_prefix, reaching}
+use Rattle.vtd_namespaces.specs.Reach.{reaching}
+use Rattle.vtd_namespaces.specs.NodeNames.{node_prefix}
 use Rattle.vtd_namespaces.proofs.DeclarationLemmas.{empty_encoded, some_length}
 use Rattle.vtd_namespaces.proofs.ScopeLemmas.{not_empty}
 use Rattle.vtd_namespaces.proofs.UriLemmas.{uri_known, attribute_without, instruction_without, other_kind, element_expanded, attribute_expanded, reaching_chain}

@@ -6,7 +6,7 @@ use Rattle.xml_model.specs.Tree.{Holder}
 use Rattle.xml_model.specs.Accepted.{repeated}
 use Rattle.vtd_namespaces.specs.NameRecords.{AreAttributeRecords}
 use Rattle.vtd_namespaces.specs.Scope.{tags_in}
-use Rattle.vtd_namespaces.specs.Uris.{IsScope}
+use Rattle.vtd_namespaces.specs.Reach.{IsScope}
 use Rattle.vtd_namespaces.proofs.InspectLemmas.{Inspected}
 use Rattle.vtd_namespaces.proofs.offences.attributes_offence.Given as goal
 

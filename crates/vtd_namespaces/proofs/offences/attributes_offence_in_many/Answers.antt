@@ -24,7 +24,7 @@ returns-then-attribute_offends g c = λ nest x xs s e at hold h.
     let o = (attends _ _ _ _ nest x xs s c.args.first c.loop-parts.number e n.done n.left n.attribute n.split n.many c.in-Some.parts here).other in
     n.hit
     (sym (c.attribute_offends.ensures nest x xs s e n.done n.left n.attribute n.split n.many n.fine (differ c.args.scope.now.table.now.bytes rs c.args.first c.loop-parts.number at (tags_in (x ∷ xs)) x.tag.attributes c.in-Some.parts n h)
-    (λ k some. known_new (tags_in (x ∷ xs)) c.loop-parts.filter.slots x.tag.attributes n.done n.left n.attribute c.loop-parts.number n.split n.many (c.loop-parts.invariant.noted nest x xs s e at hold h)
+    (λ k some. known_new (tags_in (x ∷ xs)) c.loop-parts.filter x.tag.attributes n.done n.left n.attribute c.loop-parts.number n.split n.many (c.loop-parts.invariant.noted nest x xs s e at hold h)
     (c.note_attribute-is_new.ensures.new nest (x ∷ xs) s n.attribute o.token (known_record _ c.in-Some.parts n.attribute o) k) some))
     ∙ c.if-attribute_offends.true)
 
@@ -41,7 +41,7 @@ loop-parts-preserved g c =
           let o = (attends _ _ _ _ nest x xs s c.args.first c.loop-parts.number e n.done n.left n.attribute n.split n.many c.in-Some.parts here).other in
           n.miss
           (sym (c.attribute_offends.ensures nest x xs s e n.done n.left n.attribute n.split n.many n.fine (differ c.args.scope.now.table.now.bytes rs c.args.first c.loop-parts.number at (tags_in (x ∷ xs)) x.tag.attributes c.in-Some.parts n h)
-          (λ k some. known_new (tags_in (x ∷ xs)) c.loop-parts.filter.slots x.tag.attributes n.done n.left n.attribute c.loop-parts.number n.split n.many (c.loop-parts.invariant.noted nest x xs s e at hold h)
+          (λ k some. known_new (tags_in (x ∷ xs)) c.loop-parts.filter x.tag.attributes n.done n.left n.attribute c.loop-parts.number n.split n.many (c.loop-parts.invariant.noted nest x xs s e at hold h)
           (c.note_attribute-is_new.ensures.new nest (x ∷ xs) s n.attribute o.token (known_record _ c.in-Some.parts n.attribute o) k) some))
           ∙ c.if-attribute_offends.false);
       noted = λ nest x xs s e at hold h.
@@ -49,7 +49,7 @@ loop-parts-preserved g c =
           let rs = records nest (first_place c.args.scope.now.table.now.bytes) in
           let n = next_inspected c.args.scope.now.table.now.bytes rs c.args.first c.loop-parts.number at (tags_in (x ∷ xs)) x.tag.attributes c.in-Some.parts (c.loop-parts.invariant.inspected nest x xs s e at hold h) (here rs (nest_shown _ _ nest s.few s.shown)) c.in-Some.ensures.kind in
           let o = (attends _ _ _ _ nest x xs s c.args.first c.loop-parts.number e n.done n.left n.attribute n.split n.many c.in-Some.parts here).other in
-          noted_more (tags_in (x ∷ xs)) c.loop-parts.filter.slots c.note_attribute-is_new.new.filter.slots x.tag.attributes n.done n.left n.attribute c.loop-parts.number n.split n.many c.note_attribute-is_new.ensures.kept (c.loop-parts.invariant.noted nest x xs s e at hold h)
+          noted_more (tags_in (x ∷ xs)) c.loop-parts.filter c.note_attribute-is_new.new.filter x.tag.attributes n.done n.left n.attribute c.loop-parts.number n.split n.many c.note_attribute-is_new.ensures.kept (c.loop-parts.invariant.noted nest x xs s e at hold h)
           (c.note_attribute-is_new.ensures.noted nest (x ∷ xs) s n.attribute o.token (known_record _ c.in-Some.parts n.attribute o));
     }
 

@@ -7,7 +7,7 @@ use Rattle.std.specs.List.{AllByRecursion}
 use Rattle.xml_model.specs.Accepted.{repeated}
 use Rattle.vtd_namespaces.specs.NameRecords.{AreAttributeRecords}
 use Rattle.vtd_namespaces.specs.Scope.{tags_in}
-use Rattle.vtd_namespaces.specs.Uris.{IsScope}
+use Rattle.vtd_namespaces.specs.Reach.{IsScope}
 use Rattle.vtd_namespaces.specs.Offences.{IsNoted}
 use Rattle.vtd_namespaces.proofs.InspectLemmas.{Inspected}
 use Rattle.vtd_namespaces.proofs.offences.attributes_offence_in_many.Given as goal
@@ -21,7 +21,7 @@ invariant-loop-parts g l = record {
       Inspected l.scope.table.now.bytes (records nest (first_place l.scope.table.now.bytes)) l.first l.number at (tags_in (x ∷ xs)) x.tag.attributes;
   noted : (nest : Forest) (x : Holder) (xs : List Holder) → IsScope l.scope.table.now.bytes (g.W.Words.lists l.scope.table.now.words) l.scope.open_tags.now l.scope.depth nest (x ∷ xs) → l.first ≡ x.index + 1 →
       (at : ℕ) → AreAttributeRecords l.scope.table.now.bytes (records nest (first_place l.scope.table.now.bytes)) l.first at x.tag.attributes → repeated at [] x.tag.attributes ≡ [] →
-      AllByRecursion (IsNoted (tags_in (x ∷ xs)) l.filter.slots) (take l.number x.tag.attributes);
+      AllByRecursion (IsNoted (tags_in (x ∷ xs)) l.filter) (take l.number x.tag.attributes);
 }
 
 abbrev pub decreases-loop-parts : goal.decreases-loop-parts

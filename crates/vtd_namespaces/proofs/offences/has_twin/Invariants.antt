@@ -6,7 +6,7 @@ use Rattle.xml_model.specs.Nest.{Forest}
 use Rattle.xml_model.specs.Tree.{Holder}
 use Rattle.xml_model.specs.Names.{attribute_uri}
 use Rattle.vtd_namespaces.specs.Scope.{tags_in}
-use Rattle.vtd_namespaces.specs.Uris.{IsScope}
+use Rattle.vtd_namespaces.specs.Reach.{IsScope}
 use Rattle.vtd_namespaces.specs.Offences.{is_twin, IsWritten}
 use Rattle.vtd_namespaces.proofs.offences.has_twin.Given as goal
 

@@ -3,7 +3,7 @@ use Rattle.xml_model.specs.Items.{first_place}
 use Rattle.xml_model.specs.Records.{records}
 use Rattle.vtd_words.specs.Packed.{record_of}
 use Rattle.vtd_words.proofs.Fitting.{nest_shown}
-use Rattle.vtd_namespaces.specs.NameRecords.{slice_of}
+use Rattle.vtd_text.specs.Joined.{slice_of}
 use Rattle.vtd_namespaces.specs.Scope.{tags_in}
 use Rattle.vtd_namespaces.proofs.TagLemmas.{tag_name, tag_not_qualified, tag_xmlns, tag_bound}
 use Rattle.vtd_namespaces.proofs.offences.tag_name_offends.Goals as goal

@@ -1,5 +1,5 @@
 use Rattle.std.proofs.Common.{◌∙◌, ap, sym}
-use Rattle.vtd_namespaces.specs.NameRecords.{slice_of}
+use Rattle.vtd_text.specs.Joined.{slice_of}
 use Rattle.vtd_namespaces.proofs.RepeatLemmas.{any_here}
 use Rattle.vtd_namespaces.proofs.repeats.is_among.Goals as goal
 

@@ -1,16 +1,16 @@
 use Rattle.std.proofs.Common.{◌∙◌, ap}
 use Rattle.vtd_words.specs.Packed.{record_of}
-use Rattle.vtd_namespaces.specs.NameRecords.{slice_of}
+use Rattle.vtd_text.specs.Joined.{slice_of}
 use Rattle.vtd_namespaces.proofs.RepeatLemmas.{not_not}
 use Rattle.vtd_namespaces.proofs.SieveLemmas.{no_declaration, no_prefix}
 use Rattle.vtd_namespaces.proofs.sieve.note_attribute.Goals as goal
-use Rattle.vtd_namespaces.proofs.sieve.note_attribute.Goals.{then-parts-eq3-via-then-parts-eq3, then-parts-eq3-via-else-parts-eq3+then-parts-eq0}
+use Rattle.vtd_namespaces.proofs.sieve.note_attribute.Goals.{then-parts-via-then-parts, then-parts-via-else-parts+then-parts-eq0}
 
-pub returns-then-parts-eq3-clause-noted : goal.returns-then-parts-eq3-clause-noted
-returns-then-parts-eq3-clause-noted g c = λ nest hs s a t r d p.
-    elim c.then-parts-eq3.branch [
-      | then-parts-eq3-via-then-parts-eq3 w ↦ absurd (no_declaration a c.args.parts.token t w.if-parts-eq3.true d)
-      | then-parts-eq3-via-else-parts-eq3+then-parts-eq0 w ↦ absurd (p (no_prefix a c.args.parts.prefix r.prefix w.if-parts-eq0.true))
+pub returns-then-parts-clause-noted : goal.returns-then-parts-clause-noted
+returns-then-parts-clause-noted g c = λ nest hs s a t r d p.
+    elim c.then-parts.branch [
+      | then-parts-via-then-parts w ↦ absurd (no_declaration a c.args.parts.token t w.if-parts.true d)
+      | then-parts-via-else-parts+then-parts-eq0 w ↦ absurd (p (no_prefix a c.args.parts.prefix r.prefix w.if-parts-eq0.true))
     ]
 
 pub returns-clause-new : goal.returns-clause-new

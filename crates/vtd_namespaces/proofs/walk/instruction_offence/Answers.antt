@@ -1,6 +1,6 @@
 use Rattle.std.proofs.Common.{◌∙◌, ap, cond, Some, None}
 use Rattle.vtd_words.specs.Packed.{record_of}
-use Rattle.vtd_namespaces.specs.NameRecords.{slice_of}
+use Rattle.vtd_text.specs.Joined.{slice_of}
 use Rattle.vtd_namespaces.proofs.TagLemmas.{instruction_offence, offence_for}
 use Rattle.vtd_namespaces.proofs.walk.instruction_offence.Goals as goal
 
