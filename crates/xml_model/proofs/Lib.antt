@@ -15,6 +15,7 @@ pub mod Rise
 pub mod Fits
 pub mod Intervals
 pub mod Axes
+pub mod SameText
 pub mod Scans
 pub mod ScanSteps
 pub mod Unique

@@ -10,6 +10,7 @@ use std::marker::Model;
 
 pub mod laws;
 pub mod laws_of_contexts;
+pub mod texts;
 
 /// The kinds of node of the tree (XPath 1.0, section 5; namespace nodes are left out).
 #[derive(Clone, Copy, Debug, PartialEq, Eq)]

@@ -2,7 +2,8 @@
 use Rattle.std.proofs.Common.{◌≡◌, ℕ, zero, suc, ◌+◌, ◌<◌, ◌≤◌, Bool, true, false, cond, nat_lt, ◌||◌, List, [], ◌∷◌, take, refl, sym, ◌∙◌, arith, ◌⊎◌, inl, inr}
 use Rattle.std.proofs.lemmas.Bool.{ltb-true, ltb-false}
 use Rattle.xpath_tokens.specs.declared.Token.{Token}
-use Rattle.xpath_grammar.specs.Parse.{opens, closes, count, IsDeep, deep_from}
+use Rattle.xpath_grammar.specs.Parse.{opens, closes, count, IsDeep}
+use Rattle.xpath_grammar.specs.TokenParse.{deep_from}
 
 or_parts : (a b : Bool) → (a || b) ≡ true → (a ≡ true) ⊎ (b ≡ true)
 or_parts true b h = inl refl

@@ -148,7 +148,7 @@ wanted_fine nodes e ms h = rw h refl
 begun_cons : (m : Mark) (ms : List Mark) → begun (m ∷ ms) ≡ m ∷ ms
 begun_cons m ms = refl
 
-begun_step : (a : StepAxis) (t : StepTest) (ps : Trees) (w : Walk) → begun (step_marks (go a t ps w)) ≡ step_marks (go a t ps w)
+pub begun_step : (a : StepAxis) (t : StepTest) (ps : Trees) (w : Walk) → begun (step_marks (go a t ps w)) ≡ step_marks (go a t ps w)
 begun_step (Known Child) t ps w = refl
 begun_step (Known Descendant) t ps w = refl
 begun_step (Known Parent) t ps w = refl

@@ -11,7 +11,8 @@ pub mod Applied
 pub mod LastOperator
 pub mod Depths
 pub mod Whole
-pub mod Lookups
-pub mod Numbers
+pub mod BoundPrefixes
 pub mod FirstFault
 pub mod Tables
+pub mod PassLemmas
+pub mod WellFormedLemmas

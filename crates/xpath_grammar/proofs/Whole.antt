@@ -11,7 +11,8 @@ use Rattle.xpath_grammar.specs.declared.entry.GrammarFault.{GrammarFault}
 use Rattle.xpath_grammar.specs.declared.entry.GrammarFault.TheVariants.{Long, Deep, Syntax, NoMemory}
 use Rattle.xpath_grammar.specs.Grammar.{OrExpr, Derives}
 use Rattle.xpath_grammar.specs.Cutting.{Answers, as_expr}
-use Rattle.xpath_grammar.specs.Parse.{IsDeep, longest_text, IsRefusal, fault_of, ParsesTokens}
+use Rattle.xpath_grammar.specs.Parse.{IsDeep, longest_text, IsRefusal}
+use Rattle.xpath_grammar.specs.TokenParse.{fault_of, ParsesTokens}
 
 pub token_refused : (ts : List Token) (f : Fault) (r : GrammarFault) → r ≡ fault_of f → (IsDeep ts → ⊥) → Answers {X = Expr} OrExpr as_expr ts (Err f) → ParsesTokens ts (Err r)
 token_refused ts fault.Syntax r e shallow no' = subst (λ z. ParsesTokens ts (Err z)) (sym e) (record { shallow = shallow; underived = no' })

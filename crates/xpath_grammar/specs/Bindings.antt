@@ -1,5 +1,11 @@
 -- Which URI a prefix is bound to (XPath 1.0, section 1; Namespaces in XML 1.0, section 3).
-use Rattle.std.specs.Prelude.{ℕ, suc, Bool, cond, not, ◌&&◌, ◌==◌, List, [], ◌∷◌, length, codes, Option, Some, None}
+use Rattle.std.specs.Prelude.{◌≡◌, ℕ, Bool, true, cond, not, ◌&&◌, ◌==◌, List, [], ◌∷◌, length, codes, Option, Some}
+use Rattle.std.specs.Prelude.{None, encode_utf8_all}
+use Rattle.std.specs.declared.cmp.Ordering.{Ordering}
+use Rattle.std.specs.Ordering.{nat_cmp}
+use Rattle.std.specs.Cmp.Lexicographic.{slice_cmp}
+use Rattle.std.specs.BTreeMap.{insert_entry}
+use Rattle.std.specs.List.{list_all}
 use Rattle.std.specs.Str.{bytes_eq, chars}
 use Rattle.xml_model.specs.Chars.{is_ncname}
 
@@ -16,7 +22,7 @@ xml_uri = chars (codes "http://www.w3.org/XML/1998/namespace")
 -- the URI that a prefix was bound to, in a list of prefixes with their URIs
 abbrev pub lookup : List (List ℕ × List ℕ) → List ℕ → Option (List ℕ)
 lookup [] p = None
-lookup (b ∷ bs) p = cond (bytes_eq b.0 p) (Some b.1) (lookup bs p)
+lookup (b ∷ bs) p = cond (bytes_eq p b.0) (Some b.1) (lookup bs p)
 
 -- the prefix xml is always bound
 abbrev pub uri_in : List (List ℕ × List ℕ) → List ℕ → Option (List ℕ)
@@ -26,7 +32,14 @@ uri_in bs p = cond (bytes_eq xml p) (Some xml_uri) (lookup bs p)
 abbrev pub can_bind : List ℕ → List ℕ → Bool
 can_bind p u = is_ncname p && not (bytes_eq xml p) && not (bytes_eq xmlns p) && not (length u == 0)
 
--- the place of the first binding of a prefix, or the length where there is none
-abbrev pub place_in : List (List ℕ × List ℕ) → List ℕ → ℕ
-place_in [] p = 0
-place_in (b ∷ bs) p = cond (bytes_eq b.0 p) 0 (suc (place_in bs p))
+-- each prefix of a list may be bound to its URI
+abbrev pub AreBound : List (List ℕ × List ℕ) → Type 0
+AreBound bs = list_all (λ b. can_bind b.0 b.1) bs ≡ true
+
+-- the order of prefixes in a list, that of their UTF-8
+abbrev pub prefix_order : List ℕ → List ℕ → Ordering
+prefix_order p q = slice_cmp nat_cmp (encode_utf8_all p) (encode_utf8_all q)
+
+-- the list with a prefix bound to a URI, in place of an earlier binding
+abbrev pub bound_in : List (List ℕ × List ℕ) → List ℕ → List ℕ → List (List ℕ × List ℕ)
+bound_in bs p u = insert_entry prefix_order bs p u

@@ -1,6 +1,6 @@
--- The first refusal of an expression, as the working functions find it: they go down the parts at its start, and keep the
--- earliest refusal of what is after them.
-use Rattle.std.specs.Prelude.{ℕ, suc, ◌+◌, ◌*◌, ◌-◌, Bool, true, false, cond, not, ◌||◌, ◌==◌, nat_lt, List, [], ◌∷◌, Option, Some, None, unwrap_or}
+-- The first refusal of an expression, as the working functions find it: they go down the parts at its start, and keep
+-- the earliest refusal of what is after them.
+use Rattle.std.specs.Prelude.{ℕ, suc, ◌+◌, Bool, true, false, List, [], ◌∷◌, Option, Some, None, unwrap_or}
 use Rattle.std.specs.List.{flat_map}
 use Rattle.xml_model.specs.declared.Axis.TheVariants as axis
 use Rattle.xpath_tokens.specs.declared.StepAxis.{StepAxis}
@@ -8,23 +8,15 @@ use Rattle.xpath_tokens.specs.declared.StepAxis.TheVariants.{Known}
 use Rattle.xpath_grammar.specs.declared.expr.StepTest.{StepTest}
 use Rattle.xpath_grammar.specs.declared.faults.StaticFault.{StaticFault}
 use Rattle.xpath_grammar.specs.declared.faults.StaticFault.TheVariants as fault
-use Rattle.xpath_grammar.specs.declared.faults.NumberScan.{NumberScan}
 use Rattle.xpath_grammar.specs.declared.parts.Tail.{Tail}
 use Rattle.xpath_grammar.specs.declared.parts.Tail.TheVariants as tail
-use Rattle.xpath_grammar.specs.Tree.{tree_of, trees_of, walk_of, Tree, Trees, Walk, or, and, union, compare, arithmetic, negate, path, from, filter, literal, number, variable, call, none, more, stop, go}
+use Rattle.xpath_grammar.specs.Tree.{tree_of, trees_of, walk_of, Tree, Trees, Walk, or, and, union, compare}
+use Rattle.xpath_grammar.specs.Tree.{arithmetic, negate, path, from, filter, literal, number, variable, call, none}
+use Rattle.xpath_grammar.specs.Tree.{more, stop, go}
 use Rattle.xpath_grammar.specs.Functions.{signature_of}
-use Rattle.xpath_grammar.specs.Static.{Word, axis_word, test_word, function_word, variable_word, number_word, other_word, Mark, word_fault, refused_at, plain, wanted, wants_nodes, marks, list_marks, step_marks, greatest, number_fault, call_fault}
-
--- one more character of a number that is scanned
-abbrev pub scan_next : NumberScan → ℕ → NumberScan
-scan_next s c =
-    cond s.after
-    (record { value = s.value; after = true; fraction = s.fraction || not (c == 48) })
-    (cond (c == 46) (record { value = s.value; after = true; fraction = s.fraction })
-    (record { value = cond (nat_lt greatest s.value) s.value (10 * s.value + (c - 48)); after = false; fraction = s.fraction }))
-
-abbrev pub scan_start : NumberScan
-scan_start = record { value = 0; after = false; fraction = false }
+use Rattle.xpath_grammar.specs.Static.{Word, axis_word, test_word, function_word, variable_word, number_word}
+use Rattle.xpath_grammar.specs.Static.{other_word, Mark, word_fault, refused_at, plain, wanted, wants_nodes, marks}
+use Rattle.xpath_grammar.specs.Static.{list_marks, step_marks, number_fault, call_fault}
 
 -- the first of a list
 abbrev pub head : List StaticFault → Option StaticFault

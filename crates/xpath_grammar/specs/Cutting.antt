@@ -1,10 +1,12 @@
 -- How a token list is cut at the operators outside all brackets, and what the working functions of the parser answer.
-use Rattle.std.specs.Prelude.{◌≡◌, ◌≢◌, ℕ, zero, suc, List, [], ◌∷◌, ◌++◌, length, take, Bool, true, false, cond, Option, Some, None, Result, Ok, Err}
+use Rattle.std.specs.Prelude.{◌≡◌, ◌≢◌, ℕ, zero, suc, List, [], ◌∷◌, ◌++◌, length, take, Bool, true, false, cond}
+use Rattle.std.specs.Prelude.{Option, Some, None, Result, Ok, Err}
 use Rattle.std.specs.Borrow.{Bor}
 use Rattle.xpath_tokens.specs.declared.Comparison.TheVariants.{Equal, Unequal}
 use Rattle.xpath_tokens.specs.declared.Operator.TheVariants.{Add, Subtract}
 use Rattle.xpath_tokens.specs.declared.Token.{Token}
-use Rattle.xpath_tokens.specs.declared.Token.TheVariants.{OpenSquare, Comma, Or, And, Compare, Arithmetic, Bar, Slash, SlashSlash}
+use Rattle.xpath_tokens.specs.declared.Token.TheVariants.{OpenSquare, Comma, Or, And, Compare, Arithmetic, Bar, Slash}
+use Rattle.xpath_tokens.specs.declared.Token.TheVariants.{SlashSlash}
 use Rattle.xpath_tokens.specs.declared.Fault.{Fault}
 use Rattle.xpath_tokens.specs.declared.Fault.TheVariants.{Syntax, NoMemory}
 use Rattle.xpath_grammar.specs.declared.expr.Expr.{Expr}
@@ -13,8 +15,12 @@ use Rattle.xpath_grammar.specs.declared.expr.Steps.{Steps}
 use Rattle.xpath_grammar.specs.declared.expr.Step.{Step, out-Step}
 use Rattle.xpath_grammar.specs.declared.parser.Binary.{Binary}
 use Rattle.xpath_grammar.specs.declared.parser.Binary.TheVariants as rust
-use Rattle.xpath_grammar.specs.Tree.{tree_of, trees_of, walk_of, Tree, Trees, Walk, or, and, union, compare, arithmetic, negate, none, more, stop, go}
-use Rattle.xpath_grammar.specs.Grammar.{Symbol, Phrase, appended, joined, filter_tree, any_depth, Derives, ends, depth_after, depth, ended, OrExpr, AndExpr, EqualityExpr, RelationalExpr, AdditiveExpr, MultiplicativeExpr, UnaryExpr, UnionExpr, PathExpr, FilterExpr, Arguments, RelativeLocationPath, StepPart, expr, exprs, filtered, walk}
+use Rattle.xpath_grammar.specs.Tree.{tree_of, trees_of, walk_of, Tree, Trees, Walk, or, and, union, compare}
+use Rattle.xpath_grammar.specs.Tree.{arithmetic, negate, none, more, stop, go}
+use Rattle.xpath_grammar.specs.Grammar.{Symbol, Phrase, appended, joined, filter_tree, any_depth, Derives, ends}
+use Rattle.xpath_grammar.specs.Grammar.{depth_after, depth, ended, OrExpr, AndExpr, EqualityExpr, RelationalExpr}
+use Rattle.xpath_grammar.specs.Grammar.{AdditiveExpr, MultiplicativeExpr, UnaryExpr, UnionExpr, PathExpr, FilterExpr}
+use Rattle.xpath_grammar.specs.Grammar.{Arguments, RelativeLocationPath, StepPart, expr, exprs, filtered, walk}
 
 -- how far a token binds where it is outside all brackets; the flag says that a token before it ends an operand
 abbrev pub rank : Bool → Token → ℕ
@@ -45,7 +51,8 @@ Free k d b (t ∷ ts) = IsOther k d b t × Free k (depth_after d t) (ends t) ts
 
 -- the forms with an operator or a separator between two parts
 pub data Level : Type 0 where
-  OrLevel AndLevel EqualityLevel RelationalLevel AdditiveLevel MultiplicativeLevel UnionLevel RelativeLevel ArgumentLevel : Level
+  OrLevel AndLevel EqualityLevel RelationalLevel AdditiveLevel : Level
+  MultiplicativeLevel UnionLevel RelativeLevel ArgumentLevel : Level
 
 abbrev pub symbol : Level → Symbol
 symbol OrLevel = OrExpr
@@ -115,7 +122,8 @@ pub record CutsAt (k : ℕ) (ts : List Token) (i : ℕ) : Type 0 where
 -- all the places at which a list is cut, the last one first at the end
 pub data AreCuts (k : ℕ) : List Token → List ℕ → Type 0 where
   no_more : {ts : List Token} → Free k 0 false ts → AreCuts k ts []
-  further_cut : {ts : List Token} (is : List ℕ) (i : ℕ) → CutsAt k ts i → AreCuts k (take i ts) is → AreCuts k ts (is ++ i ∷ [])
+  further_cut : {ts : List Token} (is : List ℕ) (i : ℕ) → CutsAt k ts i → AreCuts k (take i ts) is
+      → AreCuts k ts (is ++ i ∷ [])
 
 -- a list has its first cut at a place
 pub record FirstAt (k : ℕ) (ts : List Token) (i : ℕ) : Type 0 where

@@ -5,7 +5,8 @@ use Rattle.xpath_tokens.specs.Tokens.{find_named}
 use Rattle.xpath_grammar.specs.declared.functions.ValueType.{ValueType}
 use Rattle.xpath_grammar.specs.declared.functions.ValueType.TheVariants as type
 use Rattle.xpath_grammar.specs.declared.functions.Signature.{Signature}
-use Rattle.xpath_grammar.specs.Tree.{Tree, Trees, or, and, union, compare, arithmetic, negate, path, from, filter, literal, number, variable, call, none, more}
+use Rattle.xpath_grammar.specs.Tree.{Tree, Trees, or, and, union, compare, arithmetic, negate, path, from, filter}
+use Rattle.xpath_grammar.specs.Tree.{literal, number, variable, call, none, more}
 
 -- a function of so many arguments at least and at most
 abbrev pub takes : ℕ → ℕ → ValueType → Signature

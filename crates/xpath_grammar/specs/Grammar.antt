@@ -10,15 +10,21 @@ use Rattle.xpath_tokens.specs.declared.StepAxis.TheVariants.{Known}
 use Rattle.xpath_tokens.specs.declared.NodeType.{NodeType}
 use Rattle.xpath_tokens.specs.declared.NodeType.TheVariants as kind
 use Rattle.xpath_tokens.specs.declared.Token.{Token}
-use Rattle.xpath_tokens.specs.declared.Token.TheVariants.{Open, Close, OpenSquare, CloseSquare, Dot, DotDot, At, Comma, ColonColon, Any, AnyIn, Named, Kind, Or, And, Compare, Arithmetic, Bar, Slash, SlashSlash, Function, AxisName, Literal, Number, Variable}
+use Rattle.xpath_tokens.specs.declared.Token.TheVariants.{Open, Close, OpenSquare, CloseSquare, Dot, DotDot, At}
+use Rattle.xpath_tokens.specs.declared.Token.TheVariants.{Comma, ColonColon, Any, AnyIn, Named, Kind, Or, And}
+use Rattle.xpath_tokens.specs.declared.Token.TheVariants.{Compare, Arithmetic, Bar, Slash, SlashSlash, Function}
+use Rattle.xpath_tokens.specs.declared.Token.TheVariants.{AxisName, Literal, Number, Variable}
 use Rattle.xpath_tokens.specs.Tokens.{closes_operand}
 use Rattle.xpath_grammar.specs.declared.expr.StepTest.{StepTest}
 use Rattle.xpath_grammar.specs.declared.expr.StepTest.TheVariants as test
-use Rattle.xpath_grammar.specs.Tree.{Tree, Trees, Walk, or, and, union, compare, arithmetic, negate, path, from, filter, literal, number, variable, call, none, more, stop, go}
+use Rattle.xpath_grammar.specs.Tree.{Tree, Trees, Walk, or, and, union, compare, arithmetic, negate, path, from}
+use Rattle.xpath_grammar.specs.Tree.{filter, literal, number, variable, call, none, more, stop, go}
 
 -- the symbols of the grammar
 pub data Symbol : Type 0 where
-  OrExpr AndExpr EqualityExpr RelationalExpr AdditiveExpr MultiplicativeExpr UnaryExpr UnionExpr PathExpr FilterExpr PrimaryExpr Arguments LocationPath RelativeLocationPath StepPart Predicates Predicate : Symbol
+  OrExpr AndExpr EqualityExpr RelationalExpr AdditiveExpr MultiplicativeExpr UnaryExpr : Symbol
+  UnionExpr PathExpr FilterExpr PrimaryExpr Arguments LocationPath RelativeLocationPath : Symbol
+  StepPart Predicates Predicate : Symbol
 
 -- what a symbol stands for
 pub data Phrase : Type 0 where
@@ -87,48 +93,78 @@ pub data IsTest : List Token → StepTest → Type 0 where
 -- a symbol derives a token list, and stands for a phrase: a case for each production of XPath 1.0, sections 2 and 3
 pub data Derives : Symbol → List Token → Phrase → Type 0 where
   or_one : {ts : List Token} {e : Phrase} → Derives AndExpr ts e → Derives OrExpr ts e
-  or_more : {us vs : List Token} {a b : Tree} → Derives OrExpr us (expr a) → Derives AndExpr vs (expr b) → Derives OrExpr (us ++ Or ∷ vs) (expr (or a b))
+  or_more : {us vs : List Token} {a b : Tree} → Derives OrExpr us (expr a) → Derives AndExpr vs (expr b)
+      → Derives OrExpr (us ++ Or ∷ vs) (expr (or a b))
   and_one : {ts : List Token} {e : Phrase} → Derives EqualityExpr ts e → Derives AndExpr ts e
-  and_more : {us vs : List Token} {a b : Tree} → Derives AndExpr us (expr a) → Derives EqualityExpr vs (expr b) → Derives AndExpr (us ++ And ∷ vs) (expr (and a b))
+  and_more : {us vs : List Token} {a b : Tree} → Derives AndExpr us (expr a) → Derives EqualityExpr vs (expr b)
+      → Derives AndExpr (us ++ And ∷ vs) (expr (and a b))
   equality_one : {ts : List Token} {e : Phrase} → Derives RelationalExpr ts e → Derives EqualityExpr ts e
-  equality_more : {us vs : List Token} {a b : Tree} {how : Comparison} → IsEquality how → Derives EqualityExpr us (expr a) → Derives RelationalExpr vs (expr b) → Derives EqualityExpr (us ++ Compare how ∷ vs) (expr (compare how a b))
+  equality_more : {us vs : List Token} {a b : Tree} {how : Comparison} → IsEquality how
+      → Derives EqualityExpr us (expr a) → Derives RelationalExpr vs (expr b)
+      → Derives EqualityExpr (us ++ Compare how ∷ vs) (expr (compare how a b))
   relational_one : {ts : List Token} {e : Phrase} → Derives AdditiveExpr ts e → Derives RelationalExpr ts e
-  relational_more : {us vs : List Token} {a b : Tree} {how : Comparison} → IsRelational how → Derives RelationalExpr us (expr a) → Derives AdditiveExpr vs (expr b) → Derives RelationalExpr (us ++ Compare how ∷ vs) (expr (compare how a b))
+  relational_more : {us vs : List Token} {a b : Tree} {how : Comparison} → IsRelational how
+      → Derives RelationalExpr us (expr a) → Derives AdditiveExpr vs (expr b)
+      → Derives RelationalExpr (us ++ Compare how ∷ vs) (expr (compare how a b))
   additive_one : {ts : List Token} {e : Phrase} → Derives MultiplicativeExpr ts e → Derives AdditiveExpr ts e
-  additive_more : {us vs : List Token} {a b : Tree} {op : Operator} → IsAdditive op → Derives AdditiveExpr us (expr a) → Derives MultiplicativeExpr vs (expr b) → Derives AdditiveExpr (us ++ Arithmetic op ∷ vs) (expr (arithmetic op a b))
+  additive_more : {us vs : List Token} {a b : Tree} {op : Operator} → IsAdditive op → Derives AdditiveExpr us (expr a)
+      → Derives MultiplicativeExpr vs (expr b)
+      → Derives AdditiveExpr (us ++ Arithmetic op ∷ vs) (expr (arithmetic op a b))
   multiplicative_one : {ts : List Token} {e : Phrase} → Derives UnaryExpr ts e → Derives MultiplicativeExpr ts e
-  multiplicative_more : {us vs : List Token} {a b : Tree} {op : Operator} → IsMultiplicative op → Derives MultiplicativeExpr us (expr a) → Derives UnaryExpr vs (expr b) → Derives MultiplicativeExpr (us ++ Arithmetic op ∷ vs) (expr (arithmetic op a b))
+  multiplicative_more : {us vs : List Token} {a b : Tree} {op : Operator} → IsMultiplicative op
+      → Derives MultiplicativeExpr us (expr a) → Derives UnaryExpr vs (expr b)
+      → Derives MultiplicativeExpr (us ++ Arithmetic op ∷ vs) (expr (arithmetic op a b))
   unary_one : {ts : List Token} {e : Phrase} → Derives UnionExpr ts e → Derives UnaryExpr ts e
-  unary_minus : {ts : List Token} {a : Tree} → Derives UnaryExpr ts (expr a) → Derives UnaryExpr (Arithmetic Subtract ∷ ts) (expr (negate a))
+  unary_minus : {ts : List Token} {a : Tree} → Derives UnaryExpr ts (expr a)
+      → Derives UnaryExpr (Arithmetic Subtract ∷ ts) (expr (negate a))
   union_one : {ts : List Token} {e : Phrase} → Derives PathExpr ts e → Derives UnionExpr ts e
-  union_more : {us vs : List Token} {a b : Tree} → Derives UnionExpr us (expr a) → Derives PathExpr vs (expr b) → Derives UnionExpr (us ++ Bar ∷ vs) (expr (union a b))
+  union_more : {us vs : List Token} {a b : Tree} → Derives UnionExpr us (expr a) → Derives PathExpr vs (expr b)
+      → Derives UnionExpr (us ++ Bar ∷ vs) (expr (union a b))
   path_location : {ts : List Token} {e : Phrase} → Derives LocationPath ts e → Derives PathExpr ts e
-  path_filter : {ts : List Token} {a : Tree} {ps : Trees} → Derives FilterExpr ts (filtered a ps) → Derives PathExpr ts (expr (filter_tree a ps))
-  path_slash : {us vs : List Token} {a : Tree} {ps : Trees} {w : Walk} → Derives FilterExpr us (filtered a ps) → Derives RelativeLocationPath vs (walk w) → Derives PathExpr (us ++ Slash ∷ vs) (expr (from (filter_tree a ps) w))
-  path_slash_slash : {us vs : List Token} {a : Tree} {ps : Trees} {w : Walk} → Derives FilterExpr us (filtered a ps) → Derives RelativeLocationPath vs (walk w) → Derives PathExpr (us ++ SlashSlash ∷ vs) (expr (from (filter_tree a ps) (any_depth w)))
+  path_filter : {ts : List Token} {a : Tree} {ps : Trees} → Derives FilterExpr ts (filtered a ps)
+      → Derives PathExpr ts (expr (filter_tree a ps))
+  path_slash : {us vs : List Token} {a : Tree} {ps : Trees} {w : Walk} → Derives FilterExpr us (filtered a ps)
+      → Derives RelativeLocationPath vs (walk w)
+      → Derives PathExpr (us ++ Slash ∷ vs) (expr (from (filter_tree a ps) w))
+  path_slash_slash : {us vs : List Token} {a : Tree} {ps : Trees} {w : Walk} → Derives FilterExpr us (filtered a ps)
+      → Derives RelativeLocationPath vs (walk w)
+      → Derives PathExpr (us ++ SlashSlash ∷ vs) (expr (from (filter_tree a ps) (any_depth w)))
   filter_one : {ts : List Token} {a : Tree} → Derives PrimaryExpr ts (expr a) → Derives FilterExpr ts (filtered a none)
-  filter_more : {us vs : List Token} {a p : Tree} {ps : Trees} → Derives FilterExpr us (filtered a ps) → Derives Predicate vs (expr p) → Derives FilterExpr (us ++ vs) (filtered a (appended ps p))
+  filter_more : {us vs : List Token} {a p : Tree} {ps : Trees} → Derives FilterExpr us (filtered a ps)
+      → Derives Predicate vs (expr p) → Derives FilterExpr (us ++ vs) (filtered a (appended ps p))
   primary_variable : {n : List ℕ} → Derives PrimaryExpr (Variable n ∷ []) (expr (variable n))
-  primary_bracket : {ts : List Token} {a : Tree} → Derives OrExpr ts (expr a) → Derives PrimaryExpr (Open ∷ (ts ++ Close ∷ [])) (expr a)
+  primary_bracket : {ts : List Token} {a : Tree} → Derives OrExpr ts (expr a)
+      → Derives PrimaryExpr (Open ∷ (ts ++ Close ∷ [])) (expr a)
   primary_literal : {t : List ℕ} → Derives PrimaryExpr (Literal t ∷ []) (expr (literal t))
   primary_number : {n : List ℕ} → Derives PrimaryExpr (Number n ∷ []) (expr (number n))
   call_none : {f : List ℕ} → Derives PrimaryExpr (Function f ∷ Open ∷ Close ∷ []) (expr (call f none))
-  call_some : {f : List ℕ} {ts : List Token} {es : Trees} → Derives Arguments ts (exprs es) → Derives PrimaryExpr (Function f ∷ Open ∷ (ts ++ Close ∷ [])) (expr (call f es))
+  call_some : {f : List ℕ} {ts : List Token} {es : Trees} → Derives Arguments ts (exprs es)
+      → Derives PrimaryExpr (Function f ∷ Open ∷ (ts ++ Close ∷ [])) (expr (call f es))
   arguments_one : {ts : List Token} {a : Tree} → Derives OrExpr ts (expr a) → Derives Arguments ts (exprs (more a none))
-  arguments_more : {us vs : List Token} {a : Tree} {es : Trees} → Derives Arguments us (exprs es) → Derives OrExpr vs (expr a) → Derives Arguments (us ++ Comma ∷ vs) (exprs (appended es a))
-  location_relative : {ts : List Token} {w : Walk} → Derives RelativeLocationPath ts (walk w) → Derives LocationPath ts (expr (path false w))
+  arguments_more : {us vs : List Token} {a : Tree} {es : Trees} → Derives Arguments us (exprs es)
+      → Derives OrExpr vs (expr a) → Derives Arguments (us ++ Comma ∷ vs) (exprs (appended es a))
+  location_relative : {ts : List Token} {w : Walk} → Derives RelativeLocationPath ts (walk w)
+      → Derives LocationPath ts (expr (path false w))
   location_root : Derives LocationPath (Slash ∷ []) (expr (path true stop))
-  location_slash : {ts : List Token} {w : Walk} → Derives RelativeLocationPath ts (walk w) → Derives LocationPath (Slash ∷ ts) (expr (path true w))
-  location_slash_slash : {ts : List Token} {w : Walk} → Derives RelativeLocationPath ts (walk w) → Derives LocationPath (SlashSlash ∷ ts) (expr (path true (any_depth w)))
+  location_slash : {ts : List Token} {w : Walk} → Derives RelativeLocationPath ts (walk w)
+      → Derives LocationPath (Slash ∷ ts) (expr (path true w))
+  location_slash_slash : {ts : List Token} {w : Walk} → Derives RelativeLocationPath ts (walk w)
+      → Derives LocationPath (SlashSlash ∷ ts) (expr (path true (any_depth w)))
   relative_one : {ts : List Token} {e : Phrase} → Derives StepPart ts e → Derives RelativeLocationPath ts e
-  relative_slash : {us vs : List Token} {v w : Walk} → Derives RelativeLocationPath us (walk v) → Derives StepPart vs (walk w) → Derives RelativeLocationPath (us ++ Slash ∷ vs) (walk (joined v w))
-  relative_slash_slash : {us vs : List Token} {v w : Walk} → Derives RelativeLocationPath us (walk v) → Derives StepPart vs (walk w) → Derives RelativeLocationPath (us ++ SlashSlash ∷ vs) (walk (joined v (any_depth w)))
-  step : (us vs ws : List Token) {a : StepAxis} {t : StepTest} {ps : Trees} → IsAxis us a → IsTest vs t → Derives Predicates ws (exprs ps) → Derives StepPart (us ++ (vs ++ ws)) (walk (go a t ps stop))
+  relative_slash : {us vs : List Token} {v w : Walk} → Derives RelativeLocationPath us (walk v)
+      → Derives StepPart vs (walk w) → Derives RelativeLocationPath (us ++ Slash ∷ vs) (walk (joined v w))
+  relative_slash_slash : {us vs : List Token} {v w : Walk} → Derives RelativeLocationPath us (walk v)
+      → Derives StepPart vs (walk w)
+      → Derives RelativeLocationPath (us ++ SlashSlash ∷ vs) (walk (joined v (any_depth w)))
+  step : (us vs ws : List Token) {a : StepAxis} {t : StepTest} {ps : Trees} → IsAxis us a → IsTest vs t
+      → Derives Predicates ws (exprs ps) → Derives StepPart (us ++ (vs ++ ws)) (walk (go a t ps stop))
   step_dot : Derives StepPart (Dot ∷ []) (walk (go (Known axis.Itself) test.Node none stop))
   step_dots : Derives StepPart (DotDot ∷ []) (walk (go (Known axis.Parent) test.Node none stop))
   predicates_none : Derives Predicates [] (exprs none)
-  predicates_more : {us vs : List Token} {p : Tree} {ps : Trees} → Derives Predicates us (exprs ps) → Derives Predicate vs (expr p) → Derives Predicates (us ++ vs) (exprs (appended ps p))
-  predicate : {ts : List Token} {a : Tree} → Derives OrExpr ts (expr a) → Derives Predicate (OpenSquare ∷ (ts ++ CloseSquare ∷ [])) (expr a)
+  predicates_more : {us vs : List Token} {p : Tree} {ps : Trees} → Derives Predicates us (exprs ps)
+      → Derives Predicate vs (expr p) → Derives Predicates (us ++ vs) (exprs (appended ps p))
+  predicate : {ts : List Token} {a : Tree} → Derives OrExpr ts (expr a)
+      → Derives Predicate (OpenSquare ∷ (ts ++ CloseSquare ∷ [])) (expr a)
 
 -- whether a token ends an operand, so that a minus after it is binary
 abbrev pub ends : Token → Bool

@@ -5,7 +5,18 @@ use Rattle.xpath_tokens.specs.declared.Token.TheVariants.{Comma, Or, And, Compar
 use Rattle.xpath_tokens.specs.declared.Comparison.{Comparison}
 use Rattle.xpath_tokens.specs.declared.Operator.{Operator}
 use Rattle.xpath_tokens.specs.declared.Operator.TheVariants.{Subtract}
-use Rattle.xpath_grammar.specs.Grammar.{Symbol, Phrase, Derives, or_one, or_more, and_one, and_more, equality_one, equality_more, relational_one, relational_more, additive_one, additive_more, multiplicative_one, multiplicative_more, unary_one, unary_minus, union_one, union_more, path_location, path_filter, path_slash, path_slash_slash, filter_one, filter_more, primary_bracket, primary_variable, primary_literal, primary_number, call_none, call_some, arguments_one, arguments_more, location_relative, location_root, location_slash, location_slash_slash, relative_one, relative_slash, relative_slash_slash, step, step_dot, step_dots, predicates_none, predicates_more, predicate, plus, minus, IsAdditive, ends, IsEquality, IsRelational, IsMultiplicative, depth, ended, OrExpr, AndExpr, EqualityExpr, RelationalExpr, AdditiveExpr, MultiplicativeExpr, UnaryExpr, UnionExpr, PathExpr, Arguments, RelativeLocationPath, StepPart}
+use Rattle.xpath_grammar.specs.Grammar.{Symbol, Phrase, Derives, or_one, or_more, and_one, and_more, equality_one}
+use Rattle.xpath_grammar.specs.Grammar.{equality_more, relational_one, relational_more, additive_one, additive_more}
+use Rattle.xpath_grammar.specs.Grammar.{multiplicative_one, multiplicative_more, unary_one, unary_minus, union_one}
+use Rattle.xpath_grammar.specs.Grammar.{union_more, path_location, path_filter, path_slash, path_slash_slash}
+use Rattle.xpath_grammar.specs.Grammar.{filter_one, filter_more, primary_bracket, primary_variable, primary_literal}
+use Rattle.xpath_grammar.specs.Grammar.{primary_number, call_none, call_some, arguments_one, arguments_more}
+use Rattle.xpath_grammar.specs.Grammar.{location_relative, location_root, location_slash, location_slash_slash}
+use Rattle.xpath_grammar.specs.Grammar.{relative_one, relative_slash, relative_slash_slash, step, step_dot, step_dots}
+use Rattle.xpath_grammar.specs.Grammar.{predicates_none, predicates_more, predicate, plus, minus, IsAdditive, ends}
+use Rattle.xpath_grammar.specs.Grammar.{IsEquality, IsRelational, IsMultiplicative, depth, ended, OrExpr, AndExpr}
+use Rattle.xpath_grammar.specs.Grammar.{EqualityExpr, RelationalExpr, AdditiveExpr, MultiplicativeExpr, UnaryExpr}
+use Rattle.xpath_grammar.specs.Grammar.{UnionExpr, PathExpr, Arguments, RelativeLocationPath, StepPart}
 
 -- of each minus in a derivation, in their order, whether it is binary there
 abbrev pub minuses : {s : Symbol} {ts : List Token} {e : Phrase} → Derives s ts e → List Bool
@@ -90,7 +101,8 @@ Counts before t = t ≡ Arithmetic Subtract → ended false before ≡ true
 pub record IsLastOperator (s : Symbol) (us : List Token) (t : Token) (vs : List Token) : Type 0 where
   pub outside : IsOutside us
   pub counts : Counts us t
-  pub last : (ws xs : List Token) (u : Token) → vs ≡ ws ++ u ∷ xs → IsOutside (us ++ t ∷ ws) → IsOperator s u → Counts (us ++ t ∷ ws) u → ⊥
+  pub last : (ws xs : List Token) (u : Token) → vs ≡ ws ++ u ∷ xs → IsOutside (us ++ t ∷ ws) → IsOperator s u
+      → Counts (us ++ t ∷ ws) u → ⊥
 
 -- a / or // with steps after it
 pub data IsSlash : Token → Type 0 where

@@ -1,10 +1,8 @@
 -- What a text is as an expression, and why it is none.
-use Rattle.std.specs.Prelude.{ℕ, suc, ◌+◌, ◌<◌, ◌≤◌, Bool, true, false, cond, nat_lt, ◌||◌, List, [], ◌∷◌, length, take, Result, Ok, Err}
+use Rattle.std.specs.Prelude.{ℕ, suc, ◌+◌, ◌<◌, ◌≤◌, Bool, true, false, cond, List, [], ◌∷◌, length, take}
 use Rattle.std.specs.Str.{chars}
 use Rattle.xpath_tokens.specs.declared.Token.{Token}
 use Rattle.xpath_tokens.specs.declared.Token.TheVariants.{Open, Close, OpenSquare, CloseSquare}
-use Rattle.xpath_tokens.specs.declared.Fault.{Fault}
-use Rattle.xpath_tokens.specs.declared.Fault.TheVariants as fault
 use Rattle.xpath_tokens.specs.Tokens.{Splits}
 use Rattle.xpath_grammar.specs.declared.expr.Expr.{Expr}
 use Rattle.xpath_grammar.specs.declared.entry.GrammarFault.{GrammarFault}
@@ -60,30 +58,3 @@ IsRefusal text Long = longest_text < length text
 IsRefusal text Deep = IsDeepText text
 IsRefusal text Syntax = IsNoExpression text
 IsRefusal text NoMemory = length text ≤ longest_text
-
--- what the working functions compute
-
-abbrev pub fault_of : Fault → GrammarFault
-fault_of fault.Syntax = Syntax
-fault_of fault.NoMemory = NoMemory
-
-abbrev pub deep_from : ℕ → ℕ → List Token → Bool
-deep_from o c [] = false
-deep_from o c (t ∷ ts) =
-    nat_lt (cond (closes t) (c + 1) c + 64) (cond (opens t) (o + 1) o) || deep_from (cond (opens t) (o + 1) o) (cond (closes t) (c + 1) c) ts
-
--- the answer on a list of tokens
-pub record IsTokenParse (ts : List Token) (e : Expr) : Type 0 where
-  pub shallow : IsDeep ts → ⊥
-  pub derived : Derives OrExpr ts (expr (tree_of e))
-
-pub record IsTokenRefusal (ts : List Token) : Type 0 where
-  pub shallow : IsDeep ts → ⊥
-  pub underived : (e : Phrase) → Derives OrExpr ts e → ⊥
-
-abbrev pub ParsesTokens : List Token → Result Expr GrammarFault → Type 0
-ParsesTokens ts (Ok e) = IsTokenParse ts e
-ParsesTokens ts (Err Long) = ⊥
-ParsesTokens ts (Err Deep) = IsDeep ts
-ParsesTokens ts (Err Syntax) = IsTokenRefusal ts
-ParsesTokens ts (Err NoMemory) = Unit {0}

@@ -7,7 +7,9 @@ use Rattle.xpath_tokens.specs.declared.StepAxis.{StepAxis}
 use Rattle.xpath_tokens.specs.declared.StepAxis.TheVariants.{Known}
 use Rattle.xpath_tokens.specs.declared.NodeType.TheVariants as kind
 use Rattle.xpath_tokens.specs.declared.Token.{Token}
-use Rattle.xpath_tokens.specs.declared.Token.TheVariants.{Open, Close, CloseSquare, Dot, DotDot, At, ColonColon, Any, AnyIn, Named, Kind, Slash, SlashSlash, Function, AxisName, Literal, Number, Variable}
+use Rattle.xpath_tokens.specs.declared.Token.TheVariants.{Open, Close, CloseSquare, Dot, DotDot, At, ColonColon, Any}
+use Rattle.xpath_tokens.specs.declared.Token.TheVariants.{AnyIn, Named, Kind, Slash, SlashSlash, Function, AxisName}
+use Rattle.xpath_tokens.specs.declared.Token.TheVariants.{Literal, Number, Variable}
 use Rattle.xpath_tokens.specs.declared.Fault.{Fault}
 use Rattle.xpath_tokens.specs.declared.Fault.TheVariants.{Syntax, NoMemory}
 use Rattle.xpath_grammar.specs.declared.expr.StepTest.{StepTest}

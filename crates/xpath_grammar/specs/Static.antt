@@ -1,16 +1,21 @@
--- The refusals that an expression shows before it meets a document, in the order of its tokens: this project's own rules
--- for what XPath 1.0 calls errors, and for what is left out.
-use Rattle.std.specs.Prelude.{◌≡◌, ℕ, ◌+◌, ◌*◌, ◌-◌, Bool, true, false, cond, not, ◌&&◌, ◌==◌, nat_lt, List, [], ◌∷◌, ◌++◌, length, Option, Some, None, is_some}
-use Rattle.std.specs.List.{list_any, flat_map}
+-- The refusals that an expression shows before it meets a document, in the order of its tokens: this project's own
+-- rules for what XPath 1.0 calls errors, and for what is left out.
+use Rattle.std.specs.Prelude.{◌≡◌, ℕ, Bool, true, false, cond, not, ◌&&◌, ◌==◌, List, [], ◌∷◌, ◌++◌, length, Option}
+use Rattle.std.specs.Prelude.{Some, None, is_some, Result, Ok, Err}
+use Rattle.std.specs.List.{flat_map}
 use Rattle.xml_model.specs.declared.Axis.TheVariants as axis
 use Rattle.xpath_tokens.specs.declared.StepAxis.{StepAxis}
 use Rattle.xpath_tokens.specs.declared.StepAxis.TheVariants.{Known, Namespace}
+use Rattle.xpath_tokens.specs.declared.numbers.NumberFault.{NumberFault}
+use Rattle.xpath_tokens.specs.declared.numbers.NumberFault.TheVariants as value
+use Rattle.xpath_tokens.specs.Numbers.{number_value}
 use Rattle.xpath_grammar.specs.declared.expr.StepTest.{StepTest}
 use Rattle.xpath_grammar.specs.declared.expr.StepTest.TheVariants as test
 use Rattle.xpath_grammar.specs.declared.functions.Signature.{Signature}
 use Rattle.xpath_grammar.specs.declared.faults.StaticFault.{StaticFault}
 use Rattle.xpath_grammar.specs.declared.faults.StaticFault.TheVariants as fault
-use Rattle.xpath_grammar.specs.Tree.{Tree, Trees, Walk, or, and, union, compare, arithmetic, negate, path, from, filter, literal, number, variable, call, none, more, stop, go}
+use Rattle.xpath_grammar.specs.Tree.{Tree, Trees, Walk, or, and, union, compare, arithmetic, negate, path, from}
+use Rattle.xpath_grammar.specs.Tree.{filter, literal, number, variable, call, none, more, stop, go}
 use Rattle.xpath_grammar.specs.Bindings.{uri_in}
 use Rattle.xpath_grammar.specs.Functions.{signature_of, gives_nodes, fits}
 
@@ -29,23 +34,15 @@ pub record Mark : Type 0 where
   pub word : Word
   pub not_nodes : Bool
 
--- the greatest number: this project's own limit, that of whole numbers in XPath's floating point
-abbrev pub greatest : ℕ
-greatest = 9007199254740991
+-- what a number is refused for: Fraction, where it is no whole number of millionths, or Range, where it is above the
+-- greatest
+abbrev pub refusal_of : Result ℕ NumberFault → Option StaticFault
+refusal_of (Ok n) = None
+refusal_of (Err value.Fraction) = Some fault.Fraction
+refusal_of (Err value.Range) = Some fault.Range
 
--- a digit after the point is not 0
-abbrev pub has_fraction : List ℕ → Bool
-has_fraction [] = false
-has_fraction (c ∷ cs) = cond (c == 46) (list_any (λ d. not (d == 48)) cs) (has_fraction cs)
-
--- the value of the digits before the point, after a number
-abbrev pub whole_value : ℕ → List ℕ → ℕ
-whole_value v [] = v
-whole_value v (c ∷ cs) = cond (c == 46) v (whole_value (10 * v + (c - 48)) cs)
-
--- Fraction, where a digit after the point is not 0; Range, where the number is else above the greatest
 abbrev pub number_fault : List ℕ → Option StaticFault
-number_fault t = cond (has_fraction t) (Some fault.Fraction) (cond (nat_lt greatest (whole_value 0 t)) (Some fault.Range) None)
+number_fault t = refusal_of (number_value t)
 
 -- Axis, where it is namespace
 abbrev pub axis_fault : StepAxis → Option StaticFault

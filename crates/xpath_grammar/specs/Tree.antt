@@ -7,7 +7,8 @@ use Rattle.xpath_grammar.specs.declared.expr.StepTest.{StepTest}
 use Rattle.xpath_grammar.specs.declared.expr.Expr.{Expr}
 use Rattle.xpath_grammar.specs.declared.expr.Exprs.{Exprs}
 use Rattle.xpath_grammar.specs.declared.expr.Steps.{Steps}
-use Rattle.xpath_grammar.specs.declared.expr.Expr.TheVariants.{Or', And', Compare', Arithmetic', Negate', Union', Path, From', Filter', Literal, Number, Variable, Call}
+use Rattle.xpath_grammar.specs.declared.expr.Expr.TheVariants.{Or', And', Compare', Arithmetic', Negate', Union'}
+use Rattle.xpath_grammar.specs.declared.expr.Expr.TheVariants.{Path, From', Filter', Literal, Number, Variable, Call}
 use Rattle.xpath_grammar.specs.declared.expr.Exprs.TheVariants as exprs
 use Rattle.xpath_grammar.specs.declared.expr.Steps.TheVariants as steps
 

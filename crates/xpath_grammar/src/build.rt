@@ -1,12 +1,17 @@
 //! Expressions made of their parts.
 
-ghost use Rattle.std.specs.Prelude.{◌≡◌, ℕ, true, IfOk};
-ghost use Rattle.xpath_grammar.specs.Tree.{tree_of, trees_of, walk_of, negate, from as from_tree, filter as filter_with, more as more_trees, call as call_tree, number as number_tree, literal as literal_tree, variable as variable_tree, path as path_tree};
+ghost use Rattle.std.specs.Prelude.{◌≡◌, true};
+ghost use Rattle.xpath_grammar.specs.Tree.{tree_of, trees_of, walk_of, negate, from as from_tree};
+ghost use Rattle.xpath_grammar.specs.Tree.{filter as filter_with, more as more_trees, call as call_tree};
+ghost use Rattle.xpath_grammar.specs.Tree.{number as number_tree, literal as literal_tree, variable as variable_tree};
+ghost use Rattle.xpath_grammar.specs.Tree.{path as path_tree};
 ghost use Rattle.xpath_grammar.specs.Grammar.{any_depth, joined as joined_walks};
-ghost use Rattle.xpath_grammar.specs.Cutting.{after_slash, step_walk, Gives, as_expr, combined, IsBinary, negations, applied, AreBinary};
+ghost use Rattle.xpath_grammar.specs.Cutting.{after_slash, step_walk, Gives, as_expr, combined, IsBinary, negations};
+ghost use Rattle.xpath_grammar.specs.Cutting.{applied, AreBinary};
 
 use crate::expr::{Expr, Exprs, Step, StepTest, Steps};
-use std::alloc::{AllocError, Global};
+use std::alloc::Global;
+use xml_model::texts::copy_text;
 use xml_model::{Axis, Text};
 use xpath_tokens::{Fault, StepAxis, Token};
 
@@ -60,45 +65,36 @@ pub fn filtered(alloc: Global, start: Expr, predicates: Exprs) -> Result<Expr, F
     Ok(Expr::Filter { start, predicates })
 }
 
-/// The same text again.
-pub fn copy(alloc: Global, text: &Text) -> Result<Text, AllocError>
-    ensures { IfOk result (λ t. t ≡ text.now) }
-{
-    Ok(Text {
-        held: String::from_str(alloc, text.held.as_str())?,
-    })
-}
-
 /// The literal with that text between its quotes (XPath 1.0, production 29).
 pub fn literal(alloc: Global, text: &Text) -> Result<Expr, Fault>
     ensures { Gives result (λ e. tree_of e ≡ literal_tree text.now) }
 {
-    Ok(Expr::Literal(copy(alloc, text)?))
+    Ok(Expr::Literal(copy_text(alloc, text)?))
 }
 
 /// The number that is spelled so (XPath 1.0, production 30).
 pub fn number(alloc: Global, text: &Text) -> Result<Expr, Fault>
     ensures { Gives result (λ e. tree_of e ≡ number_tree text.now) }
 {
-    Ok(Expr::Number(copy(alloc, text)?))
+    Ok(Expr::Number(copy_text(alloc, text)?))
 }
 
 /// The reference to the variable of that name (XPath 1.0, production 36).
 pub fn variable(alloc: Global, name: &Text) -> Result<Expr, Fault>
     ensures { Gives result (λ e. tree_of e ≡ variable_tree name.now) }
 {
-    Ok(Expr::Variable(copy(alloc, name)?))
+    Ok(Expr::Variable(copy_text(alloc, name)?))
 }
 
 /// The call of the function of that name (XPath 1.0, production 16).
 pub fn call(alloc: Global, name: &Text, arguments: Exprs) -> Result<Expr, Fault>
     ensures { Gives result (λ e. tree_of e ≡ call_tree name.now (trees_of arguments)) }
 {
-    let name = copy(alloc, name)?;
+    let name = copy_text(alloc, name)?;
     Ok(Expr::Call { name, arguments })
 }
 
-/// The list with one more expression in front.
+/// The list with one more expression before it.
 pub fn more(alloc: Global, part: Expr, all: Exprs) -> Result<Exprs, Fault>
     ensures { Gives result (λ es. trees_of es ≡ more_trees (tree_of part) (trees_of all)) }
 {
@@ -107,7 +103,7 @@ pub fn more(alloc: Global, part: Expr, all: Exprs) -> Result<Exprs, Fault>
     Ok(Exprs::More(part, all))
 }
 
-/// The steps with one more in front (XPath 1.0, production 3).
+/// The steps with one more before them (XPath 1.0, production 3).
 pub fn step_more(alloc: Global, part: Step, all: Steps) -> Result<Steps, Fault>
     ensures { Gives result (λ s. walk_of s ≡ joined_walks (step_walk part) (walk_of all)) }
 {

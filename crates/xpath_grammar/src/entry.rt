@@ -2,7 +2,10 @@
 
 ghost use Rattle.std.specs.Prelude.{◌≡◌, ◌<◌, ◌↔◌, IsTrue, IfOk, IfErr, Err, length};
 ghost use Rattle.xpath_grammar.specs.declared.entry.GrammarFault.TheVariants.{Long};
-ghost use Rattle.xpath_grammar.specs.Parse.{opens, closes, deep_from, IsDeep, longest_text, IsParse, IsRefusal, fault_of, ParsesTokens};
+ghost use Rattle.xpath_grammar.specs.Parse.{opens, closes, longest_text, IsParse, IsRefusal};
+ghost use Rattle.xpath_grammar.specs.TokenParse.{deep_from, fault_of, ParsesTokens};
+ghost use Rattle.xpath_grammar.specs.Passes.{WellFormed};
+ghost use Rattle.xpath_grammar.specs.Tree.{tree_of};
 
 use crate::expr::Expr;
 use crate::parser::{Binary, chain};
@@ -16,7 +19,7 @@ const LONGEST: usize = 4096;
 const DEEPEST: usize = 64;
 
 /// Why a text is refused.
-#[derive(Clone, Copy, Debug, PartialEq, Eq)]
+#[derive(Clone, Copy, Debug, PartialEq)]
 pub enum GrammarFault {
     /// The text has more than 4,096 bytes.
     Long,
@@ -86,15 +89,17 @@ fn parse_tokens(alloc: Global, tokens: &[Token]) -> Result<Expr, GrammarFault>
     }
 }
 
-/// The expression that a text is (XPath 1.0, sections 2 and 3), with the abbreviations expanded and the brackets dropped.
+/// The expression that a text is (XPath 1.0, sections 2 and 3), with the abbreviations expanded and the brackets
+/// dropped. A chain of operators is read once a level; the text has at most 4,096 bytes.
 ///
 /// # Errors
-/// `Long` exactly where the text has more than 4,096 bytes. Else `Deep` exactly where it splits into tokens of which some
-/// prefix has more than 64 opening brackets beyond its closing ones. Else `Syntax` exactly where it splits into no tokens,
-/// or they derive no expression. `NoMemory` may come in place of any other answer but `Long`.
+/// `Long` exactly where the text has more than 4,096 bytes. Else `Deep` exactly where it splits into tokens of which
+/// some prefix has more than 64 opening brackets beyond its closing ones. Else `Syntax` exactly where it splits into no
+/// tokens, or they derive no expression. `NoMemory` may come in place of any other answer but `Long`.
 pub fn parse(alloc: Global, text: &str) -> Result<Expr, GrammarFault>
     ensures long { (result ≡ Err Long) ↔ (longest_text < length text.now) }
     ensures expression { IfOk result (IsParse text.now) }
+    ensures formed { IfOk result (λ e. WellFormed (tree_of e)) }
     ensures refusal { IfErr result (IsRefusal text.now) }
 {
     if LONGEST < text.len() {

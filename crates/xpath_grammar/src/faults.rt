@@ -1,24 +1,21 @@
 //! The refusals of the parts of an expression.
 
-ghost use Rattle.std.specs.Prelude.{◌≡◌, fold, is_some, cond};
-ghost use Rattle.std.specs.Str.{chars};
+ghost use Rattle.std.specs.Prelude.{◌≡◌, Some, Err};
 ghost use Rattle.xpath_tokens.specs.Reading.{or_else};
 ghost use Rattle.xpath_grammar.specs.Tree.{trees_of};
-ghost use Rattle.xpath_grammar.specs.Static.{number_fault, axis_fault, prefix_fault, test_fault, call_fault, wants_nodes};
-ghost use Rattle.xpath_grammar.specs.Checking.{scan_next, scan_start};
+ghost use Rattle.xpath_grammar.specs.Static.{refusal_of, number_fault, axis_fault, prefix_fault, test_fault};
+ghost use Rattle.xpath_grammar.specs.Static.{call_fault, wants_nodes};
 ghost use Rattle.xpath_grammar.specs.Functions.{signature_of};
 
 use crate::bindings::Bindings;
 use crate::expr::{Exprs, StepTest};
 use crate::functions::{fits, signature_of};
 use xml_model::Text;
-use xpath_tokens::{StepAxis, as_str, is_empty};
-
-/// The greatest number.
-const GREATEST: u64 = 9007199254740991;
+use xml_model::texts::{as_str, is_empty};
+use xpath_tokens::{NumberFault, StepAxis, number_value};
 
 /// Why an expression is refused before it meets a document.
-#[derive(Clone, Copy, Debug, PartialEq, Eq)]
+#[derive(Clone, Copy, Debug, PartialEq)]
 pub enum StaticFault {
     /// The axis is `namespace`.
     Axis,
@@ -30,7 +27,7 @@ pub enum StaticFault {
     Arguments,
     /// The prefix of a name test is not bound.
     Prefix,
-    /// A digit after a number's point is not 0.
+    /// A digit after a number's sixth place is not 0.
     Fraction,
     /// A number is above 9007199254740991.
     Range,
@@ -38,70 +35,23 @@ pub enum StaticFault {
     NotNodes,
 }
 
-/// What is known of a number's first characters.
-#[derive(Clone, Copy, Debug, PartialEq, Eq)]
-pub struct NumberScan {
-    /// The value of the digits before the point, where it is not above the greatest number.
-    pub value: u64,
-    /// The point was there.
-    pub after: bool,
-    /// A digit after the point was not 0.
-    pub fraction: bool,
-}
-
-/// What is known of a number with one more character.
-fn scan_next(scan: NumberScan, c: char) -> NumberScan
-    ensures { result ≡ scan_next scan c }
+/// What a fault of a number refuses.
+fn refused_number(fault: NumberFault) -> StaticFault
+    ensures { refusal_of (Err fault) ≡ Some result }
 {
-    if scan.after {
-        return NumberScan {
-            value: scan.value,
-            after: true,
-            fraction: scan.fraction || c != '0',
-        };
+    match fault {
+        NumberFault::Fraction => StaticFault::Fraction,
+        NumberFault::Range => StaticFault::Range,
     }
-    if c == '.' {
-        return NumberScan {
-            value: scan.value,
-            after: true,
-            fraction: scan.fraction,
-        };
-    }
-    let value = if GREATEST < scan.value {
-        scan.value
-    } else {
-        10 * scan.value + (c as u32).saturating_sub(48) as u64
-    };
-    NumberScan {
-        value,
-        after: false,
-        fraction: scan.fraction,
-    }
-}
-
-/// What is known of a number at its end.
-fn scan_number(text: &str) -> NumberScan
-    ensures { result ≡ fold scan_next scan_start (chars text.now) }
-{
-    let start = NumberScan {
-        value: 0,
-        after: false,
-        fraction: false,
-    };
-    text.chars().fold(start, |scan, c| scan_next(scan, c))
 }
 
 /// What a number refuses.
 pub fn number_fault(text: &Text) -> Option<StaticFault>
     ensures { result ≡ number_fault text.now }
 {
-    let scan = scan_number(as_str(text));
-    if scan.fraction {
-        Some(StaticFault::Fraction)
-    } else if GREATEST < scan.value {
-        Some(StaticFault::Range)
-    } else {
-        None
+    match number_value(as_str(text)) {
+        Ok(_) => None,
+        Err(fault) => Some(refused_number(fault)),
     }
 }
 

@@ -4,14 +4,16 @@ ghost use Rattle.std.specs.Prelude.{◌≡◌, nat_le};
 ghost use Rattle.xpath_tokens.specs.Tokens.{find_named};
 ghost use Rattle.xpath_tokens.specs.Reading.{or_else};
 ghost use Rattle.xpath_grammar.specs.Tree.{tree_of, trees_of};
-ghost use Rattle.xpath_grammar.specs.Functions.{takes, takes_nodes, takes_many, node_set_functions, string_functions, finding_functions, boolean_functions, number_functions, signature_of, answer_of, type_of, gives_nodes, count, is_within, fits};
+ghost use Rattle.xpath_grammar.specs.Functions.{takes, takes_nodes, takes_many, node_set_functions, string_functions};
+ghost use Rattle.xpath_grammar.specs.Functions.{finding_functions, boolean_functions, number_functions, signature_of};
+ghost use Rattle.xpath_grammar.specs.Functions.{answer_of, type_of, gives_nodes, count, is_within, fits};
 
 use crate::expr::{Expr, Exprs};
 use xml_model::Text;
-use xpath_tokens::is_text;
+use xml_model::texts::is_text;
 
 /// The type of an expression, which its text shows (XPath 1.0, section 1).
-#[derive(Clone, Copy, Debug, PartialEq, Eq)]
+#[derive(Clone, Copy)]
 pub enum ValueType {
     /// A node-set.
     Nodes,
@@ -26,7 +28,7 @@ pub enum ValueType {
 }
 
 /// What a core function takes and answers (XPath 1.0, section 4).
-#[derive(Clone, Copy, Debug, PartialEq, Eq)]
+#[derive(Clone, Copy)]
 pub struct Signature {
     /// How many arguments it takes at least.
     pub least: u8,

@@ -20,11 +20,6 @@ pub use bindings::{BindFault, Bindings};
 pub use entry::{GrammarFault, parse};
 pub use expr::{Expr, Exprs, Step, StepTest, Steps};
 pub use faults::StaticFault;
-pub use functions::{Signature, ValueType, gives_nodes};
+pub use functions::{Signature, ValueType, fits, gives_nodes, signature_of};
 pub use refusal::check;
 pub use xpath_tokens::{Comparison, Operator, StepAxis};
-
-#[cfg(test)]
-mod examples;
-#[cfg(test)]
-mod tests;

@@ -2,24 +2,26 @@
 
 ghost use Rattle.std.specs.Prelude.{◌≡◌, true};
 ghost use Rattle.xpath_grammar.specs.Shape.{first, starts_primary};
-ghost use Rattle.xpath_grammar.specs.Grammar.{UnaryExpr, PathExpr, PrimaryExpr, Arguments, RelativeLocationPath, StepPart, Predicates};
-ghost use Rattle.xpath_grammar.specs.Cutting.{AnswersFilter, as_step, Answers, as_expr, as_exprs, as_walk, form, symbol, operand, rank_of};
+ghost use Rattle.xpath_grammar.specs.Grammar.{UnaryExpr, PathExpr, PrimaryExpr, Arguments, RelativeLocationPath};
+ghost use Rattle.xpath_grammar.specs.Grammar.{StepPart, Predicates};
+ghost use Rattle.xpath_grammar.specs.Cutting.{AnswersFilter, as_step, Answers, as_expr, as_exprs, as_walk, form};
+ghost use Rattle.xpath_grammar.specs.Cutting.{symbol, operand, rank_of};
 
 use crate::build::{
-    applied, after_slash, call, deep, filtered, from, literal, more, negated_times, number,
+    after_slash, applied, call, deep, filtered, from, literal, more, negated_times, number,
     step_more, variable,
 };
 use crate::expr::{Expr, Exprs, Step, StepTest, Steps};
 use crate::scan::{Around, after_minuses, first_operator, operators, parts_at};
 use crate::shape::{
-    PathShape, PrimaryShape, axis_part, after_test, dot_axis, path_shape, primary_shape,
-    step_test, unsquared,
+    PathShape, PrimaryShape, after_test, axis_part, dot_axis, path_shape, primary_shape, step_test,
+    unsquared,
 };
 use std::alloc::Global;
 use xpath_tokens::{Fault, StepAxis, Token};
 
 /// The forms of an expression with an operator between two parts.
-#[derive(Clone, Copy, PartialEq, Eq, Debug)]
+#[derive(Clone, Copy)]
 pub enum Binary {
     /// `or` (XPath 1.0, production 21).
     Or,
@@ -63,7 +65,11 @@ pub fn chain(alloc: Global, level: Binary, tokens: &[Token]) -> Result<Expr, Fau
     let mut after = Vec::new(alloc);
     let mut rest = tokens;
     while let Some(i) = cuts.pop() {
-        let Around { prefix, token, back } = parts_at(rest, i);
+        let Around {
+            prefix,
+            token,
+            back,
+        } = parts_at(rest, i);
         let part = operand(alloc, level, back)?;
         after.push((token, part))?;
         rest = prefix;
@@ -139,7 +145,11 @@ fn from_filter(alloc: Global, tokens: &[Token]) -> Result<Expr, Fault>
     match first_operator(9, tokens) {
         None => filter(alloc, tokens),
         Some(i) => {
-            let Around { prefix, token, back } = parts_at(tokens, i);
+            let Around {
+                prefix,
+                token,
+                back,
+            } = parts_at(tokens, i);
             let start = filter(alloc, prefix)?;
             let steps = relative(alloc, back)?;
             let steps = after_slash(alloc, token, steps)?;
@@ -243,7 +253,11 @@ fn relative(alloc: Global, tokens: &[Token]) -> Result<Steps, Fault>
     let mut all = Steps::End;
     let mut rest = tokens;
     while let Some(i) = cuts.pop() {
-        let Around { prefix, token, back } = parts_at(rest, i);
+        let Around {
+            prefix,
+            token,
+            back,
+        } = parts_at(rest, i);
         let part = step(alloc, back)?;
         let after = step_more(alloc, part, all)?;
         all = after_slash(alloc, token, after)?;

@@ -3,7 +3,8 @@
 ghost use Rattle.std.specs.Prelude.{◌≡◌, ◌<◌, None, option_map};
 ghost use Rattle.xpath_grammar.specs.Tree.{tree_of, walk_of};
 ghost use Rattle.xpath_grammar.specs.Static.{word_fault};
-ghost use Rattle.xpath_grammar.specs.Checking.{prefix_of, inner_of, needs_nodes, tail_marks, own_fault, step_word, walk_word, first_word, needed_fault, marks_after, weight, tail_weight};
+ghost use Rattle.xpath_grammar.specs.Checking.{prefix_of, inner_of, needs_nodes, tail_marks, own_fault, step_word};
+ghost use Rattle.xpath_grammar.specs.Checking.{walk_word, first_word, needed_fault, marks_after, weight, tail_weight};
 
 use crate::bindings::Bindings;
 use crate::expr::{Expr, Exprs, StepTest, Steps};

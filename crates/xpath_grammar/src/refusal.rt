@@ -5,6 +5,7 @@ ghost use Rattle.xpath_grammar.specs.Tree.{tree_of, trees_of, walk_of};
 ghost use Rattle.xpath_grammar.specs.Static.{refusals, IsFirst, wanted, marks, list_marks, step_marks};
 ghost use Rattle.xpath_grammar.specs.Functions.{gives_nodes};
 ghost use Rattle.xpath_grammar.specs.Checking.{first_in, marks_after};
+ghost use Rattle.xpath_grammar.specs.Passes.{Passes};
 
 use crate::bindings::Bindings;
 use crate::expr::{Expr, Exprs, Steps};
@@ -95,13 +96,16 @@ fn steps_fault(bindings: &Bindings, steps: &Steps) -> Option<StaticFault>
     None
 }
 
-/// Whether an expression may meet a document, with the prefixes that are bound. No call takes memory.
+/// Whether an expression may meet a document, with the prefixes that are bound. It takes no memory, and one pass over
+/// the expression with a look-up for each prefix.
 ///
 /// # Errors
 /// The refusal at the earliest token, and at one token the first in the order of `StaticFault`. The first token
 /// of an expression is taken with the brackets round it left aside, and with `child::` left out.
+#[tactic(auto, using(crate::proofs::PassLemmas::first_passes))]
 pub fn check(expr: &Expr, bindings: &Bindings) -> Result<(), StaticFault>
     ensures none { IfOk result (λ _. refusals bindings.now (tree_of expr.now) ≡ []) }
+    ensures passes { IfOk result (λ _. Passes bindings.now (tree_of expr.now)) }
     ensures first { IfErr result (λ fault. IsFirst fault (refusals bindings.now (tree_of expr.now))) }
 {
     match expr_fault(bindings, expr) {

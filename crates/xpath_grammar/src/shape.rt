@@ -1,12 +1,13 @@
 //! The forms that the first and the last tokens show.
 
 ghost use Rattle.std.specs.Prelude.{◌≡◌, ◌≤◌, length};
-ghost use Rattle.xpath_grammar.specs.Shape.{IsPrefix, IsBack, IsPrimaryShape, IsClosed, IsUnsquared, IsPathShape, dot_axis, axis_of, after_axis, IsStepTest, after_test};
+ghost use Rattle.xpath_grammar.specs.Shape.{IsPrefix, IsBack, IsPrimaryShape, IsClosed, IsUnsquared, IsPathShape};
+ghost use Rattle.xpath_grammar.specs.Shape.{dot_axis, axis_of, after_axis, IsStepTest, after_test};
 ghost use Rattle.xpath_grammar.specs.Grammar.{kind_test};
 
-use crate::build::copy;
 use crate::expr::StepTest;
 use std::alloc::Global;
+use xml_model::texts::copy_text;
 use xml_model::{Axis, Text};
 use xpath_tokens::{Fault, NodeType, StepAxis, Token};
 
@@ -165,10 +166,10 @@ pub fn step_test(alloc: Global, tokens: &[Token]) -> Result<StepTest, Fault>
 {
     Ok(match tokens {
         [Token::Any, ..] => StepTest::Any,
-        [Token::AnyIn(prefix), ..] => StepTest::AnyIn(copy(alloc, prefix)?),
+        [Token::AnyIn(prefix), ..] => StepTest::AnyIn(copy_text(alloc, prefix)?),
         [Token::Named(prefix, local), ..] => StepTest::Named {
-            prefix: copy(alloc, prefix)?,
-            local: copy(alloc, local)?,
+            prefix: copy_text(alloc, prefix)?,
+            local: copy_text(alloc, local)?,
         },
         [Token::Kind(kind), Token::Open, Token::Close, ..] => kind_test(*kind),
         [
@@ -177,7 +178,7 @@ pub fn step_test(alloc: Global, tokens: &[Token]) -> Result<StepTest, Fault>
             Token::Literal(target),
             Token::Close,
             ..
-        ] => { StepTest::Target(copy(alloc, target)?) }
+        ] => { StepTest::Target(copy_text(alloc, target)?) }
         _ => return Err(Fault::Syntax),
     })
 }

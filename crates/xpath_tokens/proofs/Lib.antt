@@ -3,4 +3,4 @@ pub mod Longest
 pub mod Spaces
 pub mod Reading
 pub mod Splitting
-pub mod Same
+pub mod SpelledNumbers

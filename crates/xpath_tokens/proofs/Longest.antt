@@ -200,6 +200,9 @@ number_at_least vs (after_point {es} h) =
     let b = with_point_at_least 0 (length es) (run is_decimal_digit (es ++ vs)) (omega arith) (omega arith) in
     omega arith
 
+pub number_longest : (cs w vs : List ℕ) → cs ≡ w ++ vs → IsNumber w → length w ≤ number_length cs
+number_longest cs w vs e h = rw e (number_at_least vs h)
+
 -- literals
 others : (q : ℕ) (cs : List ℕ) → list_all (is_other q) cs ≡ true → list_any (λ c. c == q) cs ≡ false
 others q [] h = refl

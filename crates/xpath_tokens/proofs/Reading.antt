@@ -17,7 +17,7 @@ use Rattle.xpath_tokens.specs.Tokens.{IsWord, symbol, name, any_in, literal, num
 use Rattle.xpath_tokens.specs.Words.{is_ncname_start, is_ncname_char}
 use Rattle.xpath_tokens.specs.Reading.{token_of, token_by_kind, kind_of, symbol_token, fixed_token, or_else, star_token, name_token, named_token, axis_token, call_token, Place, place, at_open, at_colons, elsewhere, without_last, has_star}
 use Rattle.xpath_tokens.proofs.Runs.{and_parts, ncname_cons, ncname_nil}
-use Rattle.xpath_tokens.proofs.Same.{same_bytes}
+use Rattle.xml_model.proofs.SameText.{same_bytes}
 
 -- a fact on each row of a table
 abbrev Rows : {X : Type 0} → (List ℕ → X → Type 0) → List (List ℕ × X) → Type 0

@@ -1,5 +1,6 @@
 -- Which token a word is, as the working functions find it: by the word's first characters and what is around it.
-use Rattle.std.specs.Prelude.{ℕ, Bool, true, false, cond, ◌||◌, List, [], ◌∷◌, ◌==◌, ◌-◌, length, take, drop, Option, Some, None, codes, option_map}
+use Rattle.std.specs.Prelude.{ℕ, Bool, true, false, cond, ◌||◌, List, [], ◌∷◌, ◌==◌, ◌-◌, length, take, drop, Option}
+use Rattle.std.specs.Prelude.{Some, None, codes, option_map}
 use Rattle.std.specs.List.{list_any}
 use Rattle.std.specs.Str.{bytes_eq}
 use Rattle.xml_model.specs.Chars.{has_colon, prefix_of, local_of}
@@ -8,15 +9,18 @@ use Rattle.xpath_tokens.specs.declared.NodeType.{NodeType}
 use Rattle.xpath_tokens.specs.declared.lexer.WordKind.{WordKind}
 use Rattle.xpath_tokens.specs.declared.lexer.WordKind.TheVariants as word
 use Rattle.xpath_tokens.specs.declared.Token.{Token}
-use Rattle.xpath_tokens.specs.declared.Token.TheVariants.{Any, AnyIn, Named, Kind, Arithmetic, Function, AxisName, Literal, Number, Variable}
-use Rattle.xpath_tokens.specs.Tokens.{is_symbol, is_quote, is_decimal_digit, find_named, delimiters, operator_signs, operator_names, node_types, axis_names, before_open, before_colons}
+use Rattle.xpath_tokens.specs.declared.Token.TheVariants.{Any, AnyIn, Named, Kind, Arithmetic, Function, AxisName}
+use Rattle.xpath_tokens.specs.declared.Token.TheVariants.{Literal, Number, Variable}
+use Rattle.xpath_tokens.specs.Tokens.{is_symbol, is_quote, is_decimal_digit, find_named, delimiters, operator_signs}
+use Rattle.xpath_tokens.specs.Tokens.{operator_names, node_types, axis_names, before_open, before_colons}
 
 -- what is before a name, and after it, white space aside
 pub data Place : Type 0 where
   after_operand at_open at_colons elsewhere : Place
 
 abbrev pub place : Bool → List ℕ → Place
-place after rest = cond after after_operand (cond (before_open rest) at_open (cond (before_colons rest) at_colons elsewhere))
+place after rest =
+    cond after after_operand (cond (before_open rest) at_open (cond (before_colons rest) at_colons elsewhere))
 
 abbrev pub call_token : List ℕ → Option NodeType → Token
 call_token w (Some k) = Kind k

@@ -1,5 +1,6 @@
 -- How a text splits into tokens. A text is a list of code points.
-use Rattle.std.specs.Prelude.{◌≡◌, ℕ, Bool, true, false, cond, ◌&&◌, ◌||◌, List, [], ◌∷◌, ◌++◌, ◌==◌, Option, Some, None, codes}
+use Rattle.std.specs.Prelude.{◌≡◌, ℕ, Bool, true, false, cond, ◌&&◌, ◌||◌, List, [], ◌∷◌, ◌++◌, ◌==◌, Option, Some}
+use Rattle.std.specs.Prelude.{None, codes}
 use Rattle.std.specs.List.{list_all, list_any}
 use Rattle.std.specs.Str.{bytes_eq}
 use Rattle.xml_model.specs.declared.Axis.TheVariants as axis
@@ -11,7 +12,10 @@ use Rattle.xpath_tokens.specs.declared.StepAxis.TheVariants.{Known, Namespace}
 use Rattle.xpath_tokens.specs.declared.NodeType.{NodeType}
 use Rattle.xpath_tokens.specs.declared.NodeType.TheVariants as kind
 use Rattle.xpath_tokens.specs.declared.Token.{Token}
-use Rattle.xpath_tokens.specs.declared.Token.TheVariants.{Open, Close, OpenSquare, CloseSquare, Dot, DotDot, At, Comma, ColonColon, Any, AnyIn, Named, Kind, Or, And, Compare, Arithmetic, Bar, Slash, SlashSlash, Function, AxisName, Literal, Number, Variable}
+use Rattle.xpath_tokens.specs.declared.Token.TheVariants.{Open, Close, OpenSquare, CloseSquare, Dot, DotDot, At}
+use Rattle.xpath_tokens.specs.declared.Token.TheVariants.{Comma, ColonColon, Any, AnyIn, Named, Kind, Or, And}
+use Rattle.xpath_tokens.specs.declared.Token.TheVariants.{Compare, Arithmetic, Bar, Slash, SlashSlash, Function}
+use Rattle.xpath_tokens.specs.declared.Token.TheVariants.{AxisName, Literal, Number, Variable}
 
 -- The words: the spellings of tokens.
 
@@ -97,8 +101,9 @@ delimiters =
 abbrev pub operator_signs : List (List ℕ × Token)
 operator_signs =
     (codes "|", Bar) ∷ (codes "/", Slash) ∷ (codes "//", SlashSlash) ∷ (codes "+", Arithmetic Add)
-    ∷ (codes "-", Arithmetic Subtract) ∷ (codes "=", Compare Equal) ∷ (codes "!=", Compare Unequal) ∷ (codes "<", Compare Less)
-    ∷ (codes ">", Compare Greater) ∷ (codes "<=", Compare AtMost) ∷ (codes ">=", Compare AtLeast) ∷ []
+    ∷ (codes "-", Arithmetic Subtract) ∷ (codes "=", Compare Equal) ∷ (codes "!=", Compare Unequal)
+    ∷ (codes "<", Compare Less) ∷ (codes ">", Compare Greater) ∷ (codes "<=", Compare AtMost)
+    ∷ (codes ">=", Compare AtLeast) ∷ []
 
 -- the operators that are names (XPath 1.0, production 33)
 abbrev pub operator_names : List (List ℕ × Token)
@@ -108,16 +113,19 @@ operator_names =
 -- XPath 1.0, production 38
 abbrev pub node_types : List (List ℕ × NodeType)
 node_types =
-    (codes "comment", kind.Comment) ∷ (codes "text", kind.Text) ∷ (codes "processing-instruction", kind.Instruction) ∷ (codes "node", kind.Node) ∷ []
+    (codes "comment", kind.Comment) ∷ (codes "text", kind.Text)
+    ∷ (codes "processing-instruction", kind.Instruction) ∷ (codes "node", kind.Node) ∷ []
 
 -- XPath 1.0, production 6
 abbrev pub axis_names : List (List ℕ × StepAxis)
 axis_names =
-    (codes "child", Known axis.Child) ∷ (codes "descendant", Known axis.Descendant) ∷ (codes "parent", Known axis.Parent)
-    ∷ (codes "ancestor", Known axis.Ancestor) ∷ (codes "following-sibling", Known axis.FollowingSibling)
+    (codes "child", Known axis.Child) ∷ (codes "descendant", Known axis.Descendant)
+    ∷ (codes "parent", Known axis.Parent) ∷ (codes "ancestor", Known axis.Ancestor)
+    ∷ (codes "following-sibling", Known axis.FollowingSibling)
     ∷ (codes "preceding-sibling", Known axis.PrecedingSibling) ∷ (codes "following", Known axis.Following)
-    ∷ (codes "preceding", Known axis.Preceding) ∷ (codes "attribute", Known axis.Attribute) ∷ (codes "self", Known axis.Itself)
-    ∷ (codes "descendant-or-self", Known axis.DescendantOrSelf) ∷ (codes "ancestor-or-self", Known axis.AncestorOrSelf)
+    ∷ (codes "preceding", Known axis.Preceding) ∷ (codes "attribute", Known axis.Attribute)
+    ∷ (codes "self", Known axis.Itself) ∷ (codes "descendant-or-self", Known axis.DescendantOrSelf)
+    ∷ (codes "ancestor-or-self", Known axis.AncestorOrSelf)
     ∷ (codes "namespace", Namespace) ∷ []
 
 -- what is after a word, white space aside
@@ -142,21 +150,28 @@ before_colons rest = starts_colons (after_space rest)
 
 -- the token that a word is, after an operand or not, and before the rest: a case for each class of tokens (XPath 1.0,
 -- section 3.7). After an operand * is an operator, and a name is one or no token. Elsewhere a name before ( is a node
--- type or a function's name, a name without a colon before :: is an axis name, and any other name is a name test, as * is.
--- A prefix with :* is a name test everywhere
+-- type or a function's name, a name without a colon before :: is an axis name, and any other name is a name test, as *
+-- is. A prefix with :* is a name test everywhere
 pub data IsToken (after : Bool) (rest : List ℕ) : List ℕ → Token → Type 0 where
   is_delimiter : {w : List ℕ} {t : Token} → find_named delimiters w ≡ Some t → IsToken after rest w t
   is_sign : {w : List ℕ} {t : Token} → find_named operator_signs w ≡ Some t → IsToken after rest w t
   is_times : after ≡ true → IsToken after rest (codes "*") (Arithmetic Multiply)
-  is_operator_name : {w : List ℕ} {t : Token} → after ≡ true → find_named operator_names w ≡ Some t → IsToken after rest w t
-  is_node_type : {w : List ℕ} {k : NodeType} → after ≡ false → before_open rest ≡ true → find_named node_types w ≡ Some k → IsToken after rest w (Kind k)
-  is_function : {w : List ℕ} → after ≡ false → before_open rest ≡ true → find_named node_types w ≡ None → IsQName w → IsToken after rest w (Function w)
-  is_axis : {w : List ℕ} {a : StepAxis} → after ≡ false → before_colons rest ≡ true → find_named axis_names w ≡ Some a → IsToken after rest w (AxisName a)
+  is_operator_name : {w : List ℕ} {t : Token} → after ≡ true → find_named operator_names w ≡ Some t
+      → IsToken after rest w t
+  is_node_type : {w : List ℕ} {k : NodeType} → after ≡ false → before_open rest ≡ true
+      → find_named node_types w ≡ Some k → IsToken after rest w (Kind k)
+  is_function : {w : List ℕ} → after ≡ false → before_open rest ≡ true → find_named node_types w ≡ None → IsQName w
+      → IsToken after rest w (Function w)
+  is_axis : {w : List ℕ} {a : StepAxis} → after ≡ false → before_colons rest ≡ true → find_named axis_names w ≡ Some a
+      → IsToken after rest w (AxisName a)
   is_any : after ≡ false → IsToken after rest (codes "*") Any
   is_any_in : {p : List ℕ} → is_ncname p ≡ true → IsToken after rest (p ++ 58 ∷ 42 ∷ []) (AnyIn p)
-  is_name : {n : List ℕ} → after ≡ false → before_open rest ≡ false → before_colons rest ≡ false → is_ncname n ≡ true → IsToken after rest n (Named [] n)
-  is_prefixed : {p n : List ℕ} → after ≡ false → before_open rest ≡ false → is_ncname p ≡ true → is_ncname n ≡ true → IsToken after rest (p ++ 58 ∷ n) (Named p n)
-  is_literal : {q : ℕ} {t : List ℕ} → is_quote q ≡ true → list_any (λ c. c == q) t ≡ false → IsToken after rest (q ∷ (t ++ q ∷ [])) (Literal t)
+  is_name : {n : List ℕ} → after ≡ false → before_open rest ≡ false → before_colons rest ≡ false → is_ncname n ≡ true
+      → IsToken after rest n (Named [] n)
+  is_prefixed : {p n : List ℕ} → after ≡ false → before_open rest ≡ false → is_ncname p ≡ true → is_ncname n ≡ true
+      → IsToken after rest (p ++ 58 ∷ n) (Named p n)
+  is_literal : {q : ℕ} {t : List ℕ} → is_quote q ≡ true → list_any (λ c. c == q) t ≡ false
+      → IsToken after rest (q ∷ (t ++ q ∷ [])) (Literal t)
   is_number : {w : List ℕ} → IsNumber w → IsToken after rest w (Number w)
   is_variable : {n : List ℕ} → IsQName n → IsToken after rest (36 ∷ n) (Variable n)
 
@@ -164,4 +179,6 @@ pub data IsToken (after : Bool) (rest : List ℕ) : List ℕ → Token → Type 
 -- after the token that it is
 pub data Splits : Bool → List ℕ → List Token → Type 0 where
   done : {after : Bool} {space : List ℕ} → is_blank space ≡ true → Splits after space []
-  next : {after : Bool} (space w rest : List ℕ) {t : Token} {ts : List Token} → is_blank space ≡ true → IsWord w → IsLongest w rest → IsToken after rest w t → Splits (closes_operand t) rest ts → Splits after (space ++ (w ++ rest)) (t ∷ ts)
+  next : {after : Bool} (space w rest : List ℕ) {t : Token} {ts : List Token} → is_blank space ≡ true → IsWord w
+      → IsLongest w rest → IsToken after rest w t → Splits (closes_operand t) rest ts
+      → Splits after (space ++ (w ++ rest)) (t ∷ ts)

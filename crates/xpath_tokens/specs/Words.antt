@@ -1,5 +1,6 @@
 -- How long the words of each kind are at the start of a text: what the working functions compute.
-use Rattle.std.specs.Prelude.{◌≡◌, ℕ, suc, ◌+◌, max, Bool, cond, not, ◌&&◌, ◌==◌, nat_lt, List, [], ◌∷◌, length, drop, Option, Some, None, Result, Ok, Err}
+use Rattle.std.specs.Prelude.{◌≡◌, ℕ, suc, ◌+◌, max, Bool, cond, not, ◌&&◌, ◌==◌, nat_lt, List, [], ◌∷◌, length, drop}
+use Rattle.std.specs.Prelude.{Option, Some, None, Result, Ok, Err}
 use Rattle.xml_model.specs.Chars.{is_name_start, is_name_char}
 use Rattle.xpath_tokens.specs.declared.Token.{Token}
 use Rattle.xpath_tokens.specs.declared.Fault.{Fault}
@@ -84,7 +85,9 @@ variable_length [] = 0
 variable_length (c ∷ cs) = cond (c == 36) (dollar_length (qname_length cs)) 0
 
 abbrev pub word_length : List ℕ → ℕ
-word_length cs = max (max (symbol_length cs) (max (qname_length cs) (any_in_length cs))) (max (literal_length cs) (max (number_length cs) (variable_length cs)))
+word_length cs =
+    max (max (symbol_length cs) (max (qname_length cs) (any_in_length cs)))
+    (max (literal_length cs) (max (number_length cs) (variable_length cs)))
 
 -- a token that is found, or none, unless memory runs out
 abbrev pub IsFound : Option Token → Result Token Fault → Type 0

@@ -6,17 +6,21 @@ ghost use Rattle.xpath_tokens.specs.declared.Token.{Token};
 ghost use Rattle.xpath_tokens.specs.declared.Token.TheVariants.{AnyIn};
 ghost use Rattle.xpath_tokens.specs.declared.Fault.TheVariants.{Syntax};
 ghost use Rattle.xml_model.specs.Chars.{prefix_of, local_of, has_colon};
-ghost use Rattle.xpath_tokens.specs.Tokens.{is_symbol, find_named, delimiters, operator_signs, operator_names, node_types, axis_names, after_space, closes_operand, starts_open, starts_colons, Splits};
-ghost use Rattle.xpath_tokens.specs.Reading.{fixed_token, place, name_token, kind_of, symbol_token, star_token, token_of, without_last, has_star};
+ghost use Rattle.xpath_tokens.specs.Tokens.{is_symbol, find_named, delimiters, operator_signs, operator_names};
+ghost use Rattle.xpath_tokens.specs.Tokens.{node_types, axis_names, after_space, closes_operand, starts_open};
+ghost use Rattle.xpath_tokens.specs.Tokens.{starts_colons, Splits};
+ghost use Rattle.xpath_tokens.specs.Reading.{fixed_token, place, name_token, kind_of, symbol_token, star_token};
+ghost use Rattle.xpath_tokens.specs.Reading.{token_of, without_last, has_star};
 ghost use Rattle.xpath_tokens.specs.Words.{IsFound};
 
-use crate::text::{equals, text_of};
+use crate::text::equals;
 use crate::words::{
     after, is_digit, is_pair, is_quote, is_single, run_before, space_run, word_length,
 };
 use crate::{Comparison, Fault, NodeType, Operator, StepAxis, Token};
 use std::alloc::{AllocError, Global};
 use xml_model::Axis;
+use xml_model::texts::text_of;
 
 /// Whether the token can end an operand (XPath 1.0, section 3.7).
 pub fn closes_operand(token: &Token) -> bool
@@ -301,7 +305,7 @@ fn prefix_token(alloc: Global, word: &[char]) -> Result<Token, Fault>
 }
 
 /// The kinds of words (XPath 1.0, productions 28 to 37).
-#[derive(Clone, Copy, Debug, PartialEq, Eq)]
+#[derive(Clone, Copy)]
 pub enum WordKind {
     /// A bracket, a point or two, `@`, `,`, `::`, `*`, or an operator of signs.
     Symbol,

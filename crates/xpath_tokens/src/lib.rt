@@ -3,6 +3,7 @@
 
 pub mod laws;
 mod lexer;
+mod numbers;
 mod text;
 mod words;
 
@@ -10,12 +11,15 @@ ghost use Rattle.std.specs.Prelude.{◌≡◌};
 ghost use Rattle.xpath_tokens.specs.declared.Fault.TheVariants.{NoMemory};
 
 pub use lexer::tokens_of;
+pub use numbers::{
+    GREATEST, NumberFault, NumberScan, number_value, scan_next, scan_start, scan_value,
+};
 use std::alloc::{AllocError, AllocFailed};
-pub use text::{as_str, is_empty, is_text, make_text, same_str};
+pub use words::number_length;
 use xml_model::{Axis, Text};
 
 /// How two values are compared (XPath 1.0, productions 23 and 24).
-#[derive(Clone, Copy, Debug, PartialEq, Eq)]
+#[derive(Clone, Copy, PartialEq)]
 pub enum Comparison {
     /// `=`
     Equal,
@@ -32,7 +36,7 @@ pub enum Comparison {
 }
 
 /// An operator on two numbers (XPath 1.0, productions 25 and 26).
-#[derive(Clone, Copy, Debug, PartialEq, Eq)]
+#[derive(Clone, Copy, PartialEq)]
 pub enum Operator {
     /// `+`
     Add,
@@ -47,7 +51,7 @@ pub enum Operator {
 }
 
 /// The axis of a step (XPath 1.0, section 2.2).
-#[derive(Clone, Copy, Debug, PartialEq, Eq)]
+#[derive(Clone, Copy, PartialEq)]
 pub enum StepAxis {
     /// One of the twelve that have nodes here.
     Known(Axis),
@@ -56,7 +60,7 @@ pub enum StepAxis {
 }
 
 /// A word that is a test of a kind of node before `(` (XPath 1.0, production 38).
-#[derive(Clone, Copy, Debug, PartialEq, Eq)]
+#[derive(Clone, Copy)]
 pub enum NodeType {
     /// `comment`
     Comment,
@@ -124,7 +128,7 @@ pub enum Token {
 }
 
 /// Why there is no answer.
-#[derive(Clone, Copy, Debug, PartialEq, Eq)]
+#[derive(Clone, Copy, Debug, PartialEq)]
 pub enum Fault {
     /// The text splits into no tokens, or they derive no expression.
     Syntax,

@@ -1,9 +1,11 @@
 //! How long the words at the start of a text are.
 
-ghost use Rattle.std.specs.Prelude.{◌≡◌, ◌+◌, ◌≤◌, length, drop};
+ghost use Rattle.std.specs.Prelude.{◌≡◌, ◌≢◌, ◌+◌, ◌≤◌, ◌++◌, ℕ, List, length, take, drop};
 ghost use Rattle.xml_model.specs.Chars.{is_space};
-ghost use Rattle.xpath_tokens.specs.Tokens.{is_single, is_pair, is_quote, is_decimal_digit, after_space};
-ghost use Rattle.xpath_tokens.specs.Words.{run, is_ncname_start, is_ncname_char, not_colon, is_other, ncname_length, symbol_length, qname_length, any_in_length, number_length, literal_length, variable_length, word_length};
+ghost use Rattle.xpath_tokens.specs.Tokens.{is_single, is_pair, is_quote, is_decimal_digit, after_space, IsNumber};
+ghost use Rattle.xpath_tokens.specs.Words.{run, is_ncname_start, is_ncname_char, not_colon, is_other, ncname_length};
+ghost use Rattle.xpath_tokens.specs.Words.{symbol_length, qname_length, any_in_length, number_length, literal_length};
+ghost use Rattle.xpath_tokens.specs.Words.{variable_length, word_length};
 
 use xml_chars::{is_name_char, is_name_start};
 
@@ -158,8 +160,8 @@ pub fn after(chars: &[char], count: usize) -> &[char]
     &chars[count..]
 }
 
-/// How long the name at the start is, with a prefix where it has one (Namespaces in XML 1.0, production 7); 0 where there
-/// is none.
+/// How long the name at the start is, with a prefix where it has one (Namespaces in XML 1.0, production 7); 0 where
+/// there is none.
 fn qname_length(chars: &[char]) -> usize
     ensures count { result ≡ qname_length chars.now }
     ensures within { result ≤ length chars.now }
@@ -193,7 +195,7 @@ fn any_in_length(chars: &[char]) -> usize
 }
 
 /// How long the number at the start is (XPath 1.0, production 30); 0 where there is none.
-fn number_length(chars: &[char]) -> usize
+fn number_run(chars: &[char]) -> usize
     ensures count { result ≡ number_length chars.now }
     ensures within { result ≤ length chars.now }
 {
@@ -209,6 +211,16 @@ fn number_length(chars: &[char]) -> usize
         }
         _ => count,
     }
+}
+
+/// How long the number at the start is (XPath 1.0, production 30): as long as it can be, and 0 where there is none. It
+/// takes one pass over the number.
+pub fn number_length(chars: &[char]) -> usize
+    ensures within { result ≤ length chars.now }
+    ensures spelled { result ≢ 0 → IsNumber (take result chars.now) }
+    ensures longest { (w rest : List ℕ) → chars.now ≡ w ++ rest → IsNumber w → length w ≤ result }
+{
+    number_run(chars)
 }
 
 /// How long the literal at the start is, with its quotes (XPath 1.0, production 29); 0 where there is none.
@@ -248,6 +260,6 @@ pub fn word_length(chars: &[char]) -> usize
     ensures within { result ≤ length chars.now }
 {
     let name = symbol_length(chars).max(qname_length(chars).max(any_in_length(chars)));
-    let other = literal_length(chars).max(number_length(chars).max(variable_length(chars)));
+    let other = literal_length(chars).max(number_run(chars).max(variable_length(chars)));
     name.max(other)
 }

@@ -1,5 +1,5 @@
 use Rattle.std.proofs.Common.{◌≡◌, ◌≤◌, drop}
-use Rattle.xpath_grammar.specs.Parse.{deep_from}
+use Rattle.xpath_grammar.specs.TokenParse.{deep_from}
 use Rattle.xpath_grammar.proofs.entry.is_deep.Given as goal
 
 abbrev pub invariant-loop-token : goal.invariant-loop-token

@@ -1,6 +1,6 @@
 use Rattle.std.proofs.Common.{sym, string_bytes}
 use Rattle.std.proofs.lemmas.Str.{chars_from_encodes, IsUtf8-string_bytes}
-use Rattle.xpath_tokens.proofs.text.text_of.Goals as goal
+use Rattle.xml_model.proofs.texts.text_of.Goals as goal
 
 pub returns : goal.returns
 returns c =

@@ -1,6 +1,6 @@
 use Rattle.std.proofs.Common.{◌∙◌, ap}
 use Rattle.std.specs.Str.{chars}
-use Rattle.xpath_tokens.proofs.text.as_str.Goals as goal
+use Rattle.xml_model.proofs.texts.as_str.Goals as goal
 
 pub returns : goal.returns
 returns c = ap chars c.as_str.ensures.value ∙ c.text.view_is

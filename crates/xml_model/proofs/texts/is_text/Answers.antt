@@ -1,7 +1,7 @@
 use Rattle.std.proofs.Common.{◌∙◌, ap}
 use Rattle.std.specs.Str.{bytes_eq, chars}
-use Rattle.xpath_tokens.proofs.Same.{same_text}
-use Rattle.xpath_tokens.proofs.text.is_text.Goals as goal
+use Rattle.xml_model.proofs.SameText.{same_text}
+use Rattle.xml_model.proofs.texts.is_text.Goals as goal
 
 pub returns : goal.returns
 returns c =
