@@ -160,7 +160,7 @@ attends bytes lists open_tags depth nest x xs s first number e done left a split
         element = h.what;
         number = number;
         holds = ap₂ slice_get split (sym many) ∙ get_seam done left a;
-        place = ap (λ m. m + 2 * number) (e ∙ ap (λ m. m + 1) (sym h.index));
+        index = ap (λ m. m + 2 * number) (e ∙ ap (λ m. m + 1) (sym h.index));
       };
     }
 

@@ -5,7 +5,7 @@ use Rattle.xml_model.specs.Items.{first_place}
 use Rattle.xml_model.specs.Nest.{Forest}
 use Rattle.xml_model.specs.Accepted.{Faults, over_names, repeats, offences, RefusesName, Accepted, AcceptedTo, IsRefusal}
 use Rattle.xml_model.proofs.Bridge.{no_refusal_from_accepted}
-use Rattle.xml_items.proofs.PlaceLaws.{one_item_on_walks}
+use Rattle.xml_items.proofs.OneItem.{one_item_on_walks}
 use Rattle.vtd_words.specs.Lists.{Lists}
 use Rattle.vtd_words.specs.Table.{IsTable, IsNestOf}
 use Rattle.vtd_namespaces.specs.Faults.{first_of}
@@ -28,7 +28,7 @@ accepted_whole bytes lists nest s r o e f h k =
 
 pub twice_refused : (bytes : List ℕ) (lists : Lists) → IsTable bytes lists → (at : ℕ) (r : Option ℕ) → r ≡ Some at → ((nest : Forest) → IsNestOf bytes lists nest → r ≡ first_of (over_names repeats [] (first_place bytes) nest)) → IsRefusal bytes (faults.Twice at)
 twice_refused bytes lists t at r e h =
-    let none : AcceptedTo bytes 6 = no_refusal_from_accepted 6 bytes t.nest (one_item_on_walks bytes t.shown.accepted.utf8) t.shown.accepted in
+    let none : AcceptedTo bytes 6 = no_refusal_from_accepted 6 bytes t.nest (one_item_on_walks bytes) t.shown.accepted in
     record { refuses = refuses_name repeats bytes lists t.nest t.shown at (sym e ∙ h t.nest t.shown); first = λ fault l. none fault (omega (arith, l)) }
 
 pub namespace_refused : (bytes : List ℕ) (lists : Lists) → IsTable bytes lists → (at : ℕ) (r o : Option ℕ) → r ≡ None → o ≡ Some at → ((nest : Forest) → IsNestOf bytes lists nest → r ≡ first_of (over_names repeats [] (first_place bytes) nest)) →
@@ -36,5 +36,5 @@ pub namespace_refused : (bytes : List ℕ) (lists : Lists) → IsTable bytes lis
 namespace_refused bytes lists t at r o e f h k =
     let twice = none_listed (over_names repeats [] (first_place bytes) t.nest) (sym (h t.nest t.shown) ∙ e) in
     let seven : Accepted 7 bytes t.nest = accepted_more 7 bytes t.nest t.shown.accepted twice (λ l. absurd (omega (arith, l))) in
-    let none : AcceptedTo bytes 7 = no_refusal_from_accepted 7 bytes t.nest (one_item_on_walks bytes t.shown.accepted.utf8) seven in
+    let none : AcceptedTo bytes 7 = no_refusal_from_accepted 7 bytes t.nest (one_item_on_walks bytes) seven in
     record { refuses = refuses_name offences bytes lists t.nest t.shown at (sym f ∙ k t.nest t.shown twice); first = λ fault l. none fault (omega (arith, l)) }

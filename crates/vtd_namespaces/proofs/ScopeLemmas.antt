@@ -48,7 +48,7 @@ uri_other prefix p tags e h t = uri_by p tags h ∙ ap (λ b. cond b (Some xml_u
 -- the declaration that is found
 pub name_of_nearest : (bytes : List ℕ) (nest : Forest) (hs : List Holder) (p : List ℕ) (n : ℕ) (d : IsNearestAt (nodes_of bytes nest) hs p n) → IsNameOf bytes nest n d.declared.declaration
 name_of_nearest bytes nest hs p n d =
-    record { entry = d.entry; there = d.there; tag = d.tag; inside = d.inside; element = d.what; number = d.declared.number; holds = d.declared.holds; place = d.declared.index }
+    record { entry = d.entry; there = d.there; tag = d.tag; inside = d.inside; element = d.what; number = d.declared.number; holds = d.declared.holds; index = d.declared.index }
 
 pub nearest_found : (es : List Entry) (hs : List Holder) (p : List ℕ) (r : Option ℕ) (n : ℕ) → r ≡ Some n → IsNearest es hs p r → IsNearestAt es hs p n
 nearest_found es hs p r n e h = subst (IsNearest es hs p) e h
