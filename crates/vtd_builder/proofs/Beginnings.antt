@@ -10,7 +10,7 @@ use Rattle.std.specs.Str.{IsUtf8, IsCharBoundary}
 use Rattle.std.proofs.lemmas.Str.{IsUtf8-drop}
 use Rattle.xml_items.specs.declared.Item.{Item as ItemShown}
 use Rattle.xml_items.specs.Shown.{leaf_kind, item_kind, item_shown, IsItemAt}
-use Rattle.xml_items.proofs.WalkLemmas.{one_item}
+use Rattle.xml_items.proofs.OneItem.{one_item}
 use Rattle.xml_acceptance.specs.Machine.{level_after}
 use Rattle.vtd_builder.specs.declared.offers.Beginning.TheVariants as beginnings
 use Rattle.vtd_builder.specs.Found.{ShowsItem}
@@ -111,7 +111,7 @@ beginning_known (empty_tag t) bytes at within h =
 -- the item that was found is the one that begins there
 pub shown_here : (bytes : List ℕ) (at : ℕ) (found : ItemShown) (i : Item) → IsUtf8 bytes → IsCharBoundary bytes at → IsItemAt bytes at found → found.span.start ≡ at → begins_at bytes at i ≡ true → ShowsItem bytes found i
 shown_here bytes at found i u b is start h =
-    let same : is.item ≡ i = one_item bytes at is.item i (IsUtf8-drop bytes at u b) is.begins h in
+    let same : is.item ≡ i = one_item bytes at is.item i is.begins h in
     let shown : found ≡ item_shown at i = is.shown ∙ ap (item_shown at) same in
     record { begins = subst (λ (p : ℕ). begins_at bytes p i ≡ true) (sym start) h; shown = shown ∙ ap (λ (p : ℕ). item_shown p i) (sym start) }
 

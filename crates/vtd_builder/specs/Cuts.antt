@@ -1,8 +1,11 @@
--- Where the parts of a tag lie, known by the bytes that end them (this project's own). The tag is one of an accepted document.
-use Rattle.std.specs.Prelude.{◌≡◌, ℕ, ◌+◌, ◌≤◌, Bool, true, cond, ◌&&◌, ◌||◌, ◌==◌, not, nat_le, nat_lt, bytes_eq, Result, Ok, Err, List, [], ◌∷◌, ◌++◌, length, drop, codes, encode_utf8_all}
+-- Where the parts of a tag lie, known by the bytes that end them (this project's own). The tag is one of an accepted
+-- document.
+use Rattle.std.specs.Prelude.{◌≡◌, ℕ, ◌+◌, ◌≤◌, Bool, true, cond, ◌&&◌, ◌||◌, ◌==◌, not, nat_le, nat_lt, bytes_eq}
+use Rattle.std.specs.Prelude.{Result, Ok, Err, List, [], ◌∷◌, ◌++◌, length, drop, codes, encode_utf8_all}
 use Rattle.std.specs.List.{list_all}
 use Rattle.xml_model.specs.Chars.{size, is_space}
-use Rattle.xml_model.specs.Items.{Item, spelling, begins_at, Attribute, quote_char, before_value, written_pieces, written_attributes, meets_attribute}
+use Rattle.xml_model.specs.Items.{Item, spelling, begins_at, Attribute, quote_char, before_value, written_pieces}
+use Rattle.xml_model.specs.Items.{written_attributes, meets_attribute}
 use Rattle.xml_chars.specs.Places.{span_from}
 use Rattle.xml_items.specs.declared.ItemKind.{ItemKind}
 use Rattle.xml_items.specs.declared.ItemKind.TheVariants as kinds
@@ -35,7 +38,8 @@ pub record Placed (bytes : List ℕ) (at : ℕ) (cs : List ℕ) : Type 0 where
 
 -- what follows the name of an attribute
 abbrev pub past_name : Attribute → List ℕ
-past_name a = a.left ++ (codes "=" ++ (a.right ++ (quote_char a.quote ∷ (written_pieces a.value ++ quote_char a.quote ∷ []))))
+past_name a = a.left ++ (codes "="
+    ++ (a.right ++ (quote_char a.quote ∷ (written_pieces a.value ++ quote_char a.quote ∷ []))))
 
 -- an attribute whose name begins at the place
 pub record AttributeAt (bytes : List ℕ) (at : ℕ) (a : Attribute) : Type 0 where
@@ -79,7 +83,8 @@ beginning_of _ = beginnings.Mark
 
 -- the same by its first two bytes: a < begins all but a text, and / or one of the marks ! and ? follows it but in a tag
 abbrev pub beginning_by : ℕ → ℕ → Beginning
-beginning_by first second = cond (first == 60) (cond (second == 47) beginnings.EndTag (cond (second == 33 || second == 63) beginnings.Mark beginnings.Tag)) beginnings.Text
+beginning_by first second = cond (first == 60) (cond (second == 47) beginnings.EndTag (cond (second == 33
+    || second == 63) beginnings.Mark beginnings.Tag)) beginnings.Text
 
 -- an item begins at a place that is such by its first bytes, and its records can be offered
 pub record BeginsAs (bytes : List ℕ) (at level count : ℕ) (beginning : Beginning) (i : Item) : Type 0 where

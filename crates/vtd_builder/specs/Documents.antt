@@ -14,7 +14,8 @@ pub record Document : Type 0 where
   pub bytes : List ℕ
   pub words : Lists
 
--- the bytes are a document of fewer than 2 to the power 30 bytes that no check refuses, and the words are those of its nest
+-- the bytes are a document of fewer than 2 to the power 30 bytes that no check refuses, and the words are those of its
+-- nest
 pub record IsDoc (bytes : List ℕ) (words : Lists) : Type 0 where
   pub few : length bytes < 2 ^ 30
   pub nest : Forest

@@ -1,5 +1,6 @@
 -- Words that are offered to a sink one after another (this project's own).
-use Rattle.std.specs.Prelude.{◌≡◌, ℕ, suc, ◌+◌, ◌<◌, ◌^◌, Bool, true, false, cond, List, [], ◌∷◌, ◌++◌, map, length, take, slice_index, Result, Ok, Err}
+use Rattle.std.specs.Prelude.{◌≡◌, ℕ, suc, ◌+◌, ◌<◌, ◌^◌, Bool, true, false, cond, List, [], ◌∷◌, ◌++◌, map, length}
+use Rattle.std.specs.Prelude.{take, slice_index, Result, Ok, Err}
 use Rattle.std.specs.List.{AllByRecursion}
 use Rattle.xml_model.specs.Items.{first_place}
 use Rattle.xml_model.specs.Nest.{Forest}
@@ -28,7 +29,8 @@ outcome taken answer = record { taken = taken; answer = answer }
 -- the words are offered in order, up to the first that the test refuses; so many words were there before
 abbrev pub offer : (List ℕ → ℕ → Bool) → List ℕ → ℕ → List ℕ → Outcome
 offer refuses taken count [] = outcome taken (Ok count)
-offer refuses taken count (w ∷ ws) = cond (refuses taken w) (outcome taken (Err count)) (offer refuses (taken ++ w ∷ []) (suc count) ws)
+offer refuses taken count (w ∷ ws) = cond (refuses taken w) (outcome taken (Err count)) (offer refuses (taken
+    ++ w ∷ []) (suc count) ws)
 
 -- each record fits its word, and all of them can be counted
 pub record CanOffer (count : ℕ) (tokens : List Record) : Type 0 where

@@ -46,6 +46,25 @@ impl Model for Doc {
 impl Doc {
     ghost use Rattle.vtd_builder.specs.Documents.{IsDoc};
 
+    /// The document of bytes that no check refuses, with the words of its records. Nothing is read.
+    pub fn of(bytes: Vec<u8>, words: WordVec) -> Doc
+        requires { IsDoc bytes.items words.lists }
+        ensures bytes { result.bytes ≡ bytes.items }
+        ensures words { result.words ≡ words.lists }
+    {
+        Doc { bytes, words }
+    }
+
+    /// The document's bytes and the words of its records, handed out.
+    pub fn into_parts(self) -> (Vec<u8>, WordVec)
+        ensures bytes { result.0.items ≡ self.bytes }
+        ensures words { result.1.lists ≡ self.words }
+        ensures document { IsDoc result.0.items result.1.lists }
+    {
+        let Doc { bytes, words } = self;
+        (bytes, words)
+    }
+
     /// The document's bytes.
     pub fn bytes(&self) -> &[u8]
         ensures value { result.now ≡ self.now.bytes }
@@ -98,15 +117,17 @@ fn check_recorded(bytes: &[u8], words: &WordVec) -> Result<(), DocFault>
 /// `check`, so `NoMemory` comes only where that refuses nothing; the names are checked by the records.
 ///
 /// # Errors
-/// `Doc` only with the refusal of the bytes; `NoMemory` may come in place of a refusal of names. The bytes come back with each
-/// fault.
+/// `Doc` only with the refusal of the bytes; `NoMemory` may come in place of a refusal of names. The bytes come back
+/// with each fault.
 pub fn build(alloc: Global, bytes: Vec<u8>) -> Result<Doc, (Vec<u8>, BuildFault)>
     requires { vec_len bytes < 2 ^ 30 }
     ensures kept { IfOk result (λ doc. doc.bytes ≡ bytes.items) }
     ensures accepted { IfOk result (λ doc. (nest : Forest) × Accepted 8 bytes.items nest) }
-    ensures words { IfOk result (λ doc. (nest : Forest) → Accepted 8 bytes.items nest → doc.words ≡ words_of bytes.items nest) }
+    ensures words { IfOk result (λ doc. (nest : Forest) → Accepted 8 bytes.items nest →
+        doc.words ≡ words_of bytes.items nest) }
     ensures given_back { IfErr result (λ e. e.0 ≡ bytes) }
-    ensures refused { IfErr result (λ e. (fault : DocFault) → e.1 ≡ BuildFault.Doc fault → IsRefusal bytes.items fault) }
+    ensures refused { IfErr result (λ e. (fault : DocFault) → e.1 ≡ BuildFault.Doc fault →
+        IsRefusal bytes.items fault) }
     ensures no_memory { IfErr result (λ e. e.1 ≡ BuildFault.NoMemory → (nest : Forest) × Accepted 6 bytes.items nest) }
 {
     let counts = match check(&bytes) {
@@ -123,5 +144,5 @@ pub fn build(alloc: Global, bytes: Vec<u8>) -> Result<Doc, (Vec<u8>, BuildFault)
     if let Err(fault) = check_recorded(&bytes, &words) {
         return Err((bytes, BuildFault::Doc(fault)));
     }
-    Ok(Doc { bytes, words })
+    Ok(Doc::of(bytes, words))
 }

@@ -10,10 +10,11 @@ use crate::offers::{offer, offer_item};
 use crate::sink::RecordSink;
 use vtd_words::Parts;
 use xml_items::first_place;
+use xml_model::TokenKind;
 
 /// The record of the document, which comes first.
 const DOCUMENT: Parts = Parts {
-    token: 13,
+    token: TokenKind::Document as u8,
     depth: 255,
     prefix: 0,
     length: 0,
@@ -25,7 +26,8 @@ fn offer_records<R: RecordSink>(bytes: &[u8], into: &mut R) -> Result<u32, u32>
     requires size { length bytes.now < 2 ^ 30 }
     requires accepted { (nest : Forest) × Accepted 6 bytes.now nest }
     ensures outcome { (nest : Forest) → Accepted 6 bytes.now nest →
-        outcome (R.taken into.new) result ≡ offer (R.refuses into.old) (R.taken into.old) 0 (record_words bytes.now nest) }
+        outcome (R.taken into.new) result
+            ≡ offer (R.refuses into.old) (R.taken into.old) 0 (record_words bytes.now nest) }
     ensures rest { R.rest into.new ≡ R.rest into.old }
     ensures test { R.refuses into.new ≡ R.refuses into.old }
 {
@@ -50,10 +52,12 @@ pub fn emit<R: RecordSink>(bytes: &[u8], into: &mut R) -> Result<(), u32>
     requires size { length bytes.now < 2 ^ 30 }
     requires accepted { (nest : Forest) × Accepted 6 bytes.now nest }
     ensures refused { (nest : Forest) → Accepted 6 bytes.now nest →
-        (k : ℕ) → (result ≡ Err k) ↔ IsFirstRefused (R.refuses into.old) (R.taken into.old) (record_words bytes.now nest) k }
+        (k : ℕ) → (result ≡ Err k)
+            ↔ IsFirstRefused (R.refuses into.old) (R.taken into.old) (record_words bytes.now nest) k }
     ensures taken_before { (nest : Forest) → Accepted 6 bytes.now nest →
         IfErr result (λ k. R.taken into.new ≡ R.taken into.old ++ take k (record_words bytes.now nest)) }
-    ensures taken { (nest : Forest) → Accepted 6 bytes.now nest → OnOk result (R.taken into.new ≡ R.taken into.old ++ record_words bytes.now nest) }
+    ensures taken { (nest : Forest) → Accepted 6 bytes.now nest →
+        OnOk result (R.taken into.new ≡ R.taken into.old ++ record_words bytes.now nest) }
     ensures rest { R.rest into.new ≡ R.rest into.old }
     ensures test { R.refuses into.new ≡ R.refuses into.old }
 {

@@ -1,5 +1,5 @@
-//! From bytes to a document with its records: the records of an accepted document, handed over in order, and the document
-//! that keeps them.
+//! From bytes to a document with its records: the records of an accepted document, handed over in order, and the
+//! document that keeps them.
 #![tactic(auto)]
 
 mod document;
@@ -14,8 +14,3 @@ pub use document::{BuildFault, Doc, build};
 pub use emission::emit;
 pub use sink::RecordSink;
 pub use xml_acceptance::check;
-
-#[cfg(test)]
-mod conformance;
-#[cfg(test)]
-mod tests;

@@ -5,6 +5,8 @@ ghost use Rattle.std.specs.Prelude.{◌≡◌, ◌≤◌, ◌==◌, length, posi
 ghost use Rattle.xml_model.specs.Chars.{prefix_of};
 ghost use Rattle.xml_model.specs.Records.{declares, name_token};
 
+use xml_model::TokenKind;
+
 /// The place of the first colon.
 #[inline(always)]
 fn first_colon(name: &[u8]) -> Option<usize>
@@ -30,10 +32,14 @@ fn declares(name: &[u8]) -> bool
     name == b"xmlns".as_slice() || name.starts_with(b"xmlns:")
 }
 
-/// The type of the record of an attribute's name: 3 where it declares a namespace, else 2.
+/// The kind of the record of an attribute's name, by whether it declares a namespace.
 #[inline(always)]
 pub fn name_token(name: &[u8]) -> u8
     ensures { result ≡ name_token name.now }
 {
-    if declares(name) { 3 } else { 2 }
+    if declares(name) {
+        TokenKind::NamespaceName as u8
+    } else {
+        TokenKind::AttributeName as u8
+    }
 }

@@ -1,11 +1,12 @@
 //! The records of one item, offered to a sink in order. Each function is known how many records came before and answers
 //! how many there are then, or as an error the number of the record that the sink refused.
 
-ghost use Rattle.std.specs.Prelude.{◌≡◌, ℕ, List, IfOk, ◌+◌, ◌-◌, ◌<◌, ◌≤◌, ◌^◌, [], ◌∷◌, length, map, slice_index, true};
+ghost use Rattle.std.specs.Prelude.{◌≡◌, ℕ, List, IfOk, ◌+◌, ◌-◌, ◌<◌, ◌≤◌, ◌^◌, [], ◌∷◌, length, map, slice_index};
+ghost use Rattle.std.specs.Prelude.{true};
 ghost use Rattle.std.specs.List.{AllByRecursion};
 ghost use Rattle.std.specs.Str.{IsUtf8, IsCharBoundary};
 ghost use Rattle.xml_model.specs.Items.{Item as ModelItem, begins_at};
-ghost use Rattle.xml_model.specs.Records.{word, depth_at};
+ghost use Rattle.xml_model.specs.Records.{word, depth_at, kind_number};
 ghost use Rattle.vtd_words.specs.Packed.{fits, record_of};
 ghost use Rattle.xml_items.specs.AttributeList.{attributes_left};
 ghost use Rattle.xml_items.specs.Shown.{item_kind};
@@ -14,15 +15,17 @@ ghost use Rattle.vtd_builder.specs.Offered.{offer, outcome, CanOffer};
 ghost use Rattle.xml_model.specs.Chars.{size};
 ghost use Rattle.xml_model.specs.Items.{Attribute, written_attributes};
 ghost use Rattle.xml_model.specs.Records.{attributes_records};
-ghost use Rattle.vtd_builder.specs.Cuts.{AttributesAt, closes_tag, counted, beginning_of, beginning_by, BeginsAs, IsPast, passed_count};
-ghost use Rattle.vtd_builder.specs.Found.{bytes_of, IsWithin, plain_span, named_span, attribute_found, part_found, parts_found, ShowsItem, AreOrdered, HasPlaces};
+ghost use Rattle.vtd_builder.specs.Cuts.{AttributesAt, closes_tag, counted, beginning_of, beginning_by, BeginsAs};
+ghost use Rattle.vtd_builder.specs.Cuts.{IsPast, passed_count};
+ghost use Rattle.vtd_builder.specs.Found.{bytes_of, IsWithin, plain_span, named_span, attribute_found, part_found};
+ghost use Rattle.vtd_builder.specs.Found.{parts_found, ShowsItem, AreOrdered, HasPlaces};
 
 use crate::names::{name_token, prefix_len};
 use crate::sink::RecordSink;
 use crate::tags::{attribute_cut, next_byte, past_name, past_space};
 use vtd_words::{Parts, pack};
 use xml_items::{AttributeItem, Attributes, Item, ItemKind, next_item};
-use xml_model::Span;
+use xml_model::{Span, TokenKind};
 
 /// The record of what is no name.
 #[inline(always)]
@@ -68,7 +71,8 @@ fn name_parts(bytes: &[u8], token: u8, depth: u8, name: Span) -> Parts
 pub fn offer<R: RecordSink>(parts: Parts, count: u32, into: &mut R) -> Result<u32, u32>
     requires fits { fits parts ≡ true }
     requires counted { count + 1 < 2 ^ 32 }
-    ensures outcome { outcome (R.taken into.new) result ≡ offer (R.refuses into.old) (R.taken into.old) count (word (record_of parts) ∷ []) }
+    ensures outcome { outcome (R.taken into.new) result
+        ≡ offer (R.refuses into.old) (R.taken into.old) count (word (record_of parts) ∷ []) }
     ensures rest { R.rest into.new ≡ R.rest into.old }
     ensures test { R.refuses into.new ≡ R.refuses into.old }
 {
@@ -93,14 +97,15 @@ fn offer_attribute<R: RecordSink>(
 ) -> Result<u32, u32>
     requires places { HasPlaces bytes.now attribute }
     requires room { CanOffer count (attribute_found bytes.now depth attribute) }
-    ensures outcome { outcome (R.taken into.new) result ≡ offer (R.refuses into.old) (R.taken into.old) count (map word (attribute_found bytes.now depth attribute)) }
+    ensures outcome { outcome (R.taken into.new) result
+        ≡ offer (R.refuses into.old) (R.taken into.old) count (map word (attribute_found bytes.now depth attribute)) }
     ensures rest { R.rest into.new ≡ R.rest into.old }
     ensures test { R.refuses into.new ≡ R.refuses into.old }
 {
     let token = name_token(bytes_of(bytes, attribute.name));
     let name = name_parts(bytes, token, depth, attribute.name);
     let count = offer(name, count, into)?;
-    offer(plain_parts(4, depth, attribute.value), count, into)
+    offer(plain_parts(TokenKind::Value as u8, depth, attribute.value), count, into)
 }
 
 /// What an item is by its first bytes.
@@ -147,10 +152,15 @@ fn offer_attributes<R: RecordSink>(
     into: &mut R,
 ) -> Result<Reached, u32>
     requires size { length bytes.now < 2 ^ 30 }
-    requires attributes { (xs : List Attribute) × (space : List ℕ) × (close : List ℕ) × AttributesAt bytes.now at xs space close × CanOffer count (attributes_records depth at xs) }
-    ensures outcome { (xs : List Attribute) (space close : List ℕ) → AttributesAt bytes.now at xs space close → CanOffer count (attributes_records depth at xs) →
-        outcome (R.taken into.new) (counted result) ≡ offer (R.refuses into.old) (R.taken into.old) count (map word (attributes_records depth at xs)) }
-    ensures reached { (xs : List Attribute) (space close : List ℕ) → AttributesAt bytes.now at xs space close → CanOffer count (attributes_records depth at xs) → IfOk result (λ r. r.at ≡ at + size (written_attributes xs) + size space) }
+    requires attributes { (xs : List Attribute) × (space : List ℕ) × (close : List ℕ)
+        × AttributesAt bytes.now at xs space close × CanOffer count (attributes_records depth at xs) }
+    ensures outcome { (xs : List Attribute) (space close : List ℕ) → AttributesAt bytes.now at xs space close →
+        CanOffer count (attributes_records depth at xs) →
+        outcome (R.taken into.new) (counted result)
+            ≡ offer (R.refuses into.old) (R.taken into.old) count (map word (attributes_records depth at xs)) }
+    ensures reached { (xs : List Attribute) (space close : List ℕ) → AttributesAt bytes.now at xs space close →
+        CanOffer count (attributes_records depth at xs) →
+        IfOk result (λ r. r.at ≡ at + size (written_attributes xs) + size space) }
     ensures rest { R.rest into.new ≡ R.rest into.old }
     ensures test { R.refuses into.new ≡ R.refuses into.old }
 {
@@ -174,12 +184,13 @@ fn offer_part<R: RecordSink>(
     requires name { part.name.start ≤ part.name.end }
     requires value { part.value.start ≤ part.value.end }
     requires room { CanOffer count (part_found depth part) }
-    ensures outcome { outcome (R.taken into.new) result ≡ offer (R.refuses into.old) (R.taken into.old) count (map word (part_found depth part)) }
+    ensures outcome { outcome (R.taken into.new) result
+        ≡ offer (R.refuses into.old) (R.taken into.old) count (map word (part_found depth part)) }
     ensures rest { R.rest into.new ≡ R.rest into.old }
     ensures test { R.refuses into.new ≡ R.refuses into.old }
 {
-    let count = offer(plain_parts(9, depth, part.name), count, into)?;
-    offer(plain_parts(10, depth, part.value), count, into)
+    let count = offer(plain_parts(TokenKind::PartName as u8, depth, part.name), count, into)?;
+    offer(plain_parts(TokenKind::PartValue as u8, depth, part.value), count, into)
 }
 
 /// Offers the records of the parts of the XML declaration that are left, in order.
@@ -191,7 +202,8 @@ fn offer_parts<R: RecordSink>(
 ) -> Result<u32, u32>
     requires places { AllByRecursion AreOrdered (attributes_left parts) }
     requires room { CanOffer count (parts_found depth (attributes_left parts)) }
-    ensures outcome { outcome (R.taken into.new) result ≡ offer (R.refuses into.old) (R.taken into.old) count (map word (parts_found depth (attributes_left parts.entry))) }
+    ensures outcome { outcome (R.taken into.new) result
+        ≡ offer (R.refuses into.old) (R.taken into.old) count (map word (parts_found depth (attributes_left parts.entry))) }
     ensures rest { R.rest into.new ≡ R.rest into.old }
     ensures test { R.refuses into.new ≡ R.refuses into.old }
 {
@@ -211,13 +223,14 @@ fn offer_instruction<R: RecordSink>(
 ) -> Result<u32, u32>
     requires name { item.name.start ≤ item.name.end }
     requires content { item.content.start ≤ item.content.end }
-    requires room { CanOffer count (plain_span 7 depth item.name ∷ plain_span 8 depth item.content ∷ []) }
-    ensures outcome { outcome (R.taken into.new) result ≡ offer (R.refuses into.old) (R.taken into.old) count (map word (plain_span 7 depth item.name ∷ plain_span 8 depth item.content ∷ [])) }
+    requires room { CanOffer count (plain_span (kind_number TokenKind.Target) depth item.name ∷ plain_span (kind_number TokenKind.Data) depth item.content ∷ []) }
+    ensures outcome { outcome (R.taken into.new) result
+        ≡ offer (R.refuses into.old) (R.taken into.old) count (map word (plain_span (kind_number TokenKind.Target) depth item.name ∷ plain_span (kind_number TokenKind.Data) depth item.content ∷ [])) }
     ensures rest { R.rest into.new ≡ R.rest into.old }
     ensures test { R.refuses into.new ≡ R.refuses into.old }
 {
-    let count = offer(plain_parts(7, depth, item.name), count, into)?;
-    offer(plain_parts(8, depth, item.content), count, into)
+    let count = offer(plain_parts(TokenKind::Target as u8, depth, item.name), count, into)?;
+    offer(plain_parts(TokenKind::Data as u8, depth, item.content), count, into)
 }
 
 /// The depth in the record of what is no tag, with so many elements open round it: 255 outside of all elements.
@@ -244,8 +257,10 @@ pub fn offer_tag<R: RecordSink>(
     requires place { at ≤ length bytes.now }
     requires tag { (i : ModelItem) × BeginsAs bytes.now at level count Beginning.Tag i }
     ensures outcome { (i : ModelItem) → BeginsAs bytes.now at level count Beginning.Tag i →
-        outcome (R.taken into.new) (passed_count result) ≡ offer (R.refuses into.old) (R.taken into.old) count (map word (item_records level at i)) }
-    ensures passed { (i : ModelItem) → BeginsAs bytes.now at level count Beginning.Tag i → IfOk result (IsPast at level i) }
+        outcome (R.taken into.new) (passed_count result)
+            ≡ offer (R.refuses into.old) (R.taken into.old) count (map word (item_records level at i)) }
+    ensures passed { (i : ModelItem) → BeginsAs bytes.now at level count Beginning.Tag i →
+        IfOk result (IsPast at level i) }
     ensures rest { R.rest into.new ≡ R.rest into.old }
     ensures test { R.refuses into.new ≡ R.refuses into.old }
 {
@@ -270,8 +285,8 @@ pub fn offer_tag<R: RecordSink>(
     })
 }
 
-/// Offers the record of the text that begins at a place, with so many elements open round it; outside of all elements a text
-/// has none.
+/// Offers the record of the text that begins at a place, with so many elements open round it; outside of all elements a
+/// text has none.
 #[inline(always)]
 fn offer_text<R: RecordSink>(
     bytes: &[u8],
@@ -285,8 +300,10 @@ fn offer_text<R: RecordSink>(
     requires level { level ≤ 256 }
     requires text { (i : ModelItem) × BeginsAs bytes.now at level count Beginning.Text i }
     ensures outcome { (i : ModelItem) → BeginsAs bytes.now at level count Beginning.Text i →
-        outcome (R.taken into.new) (passed_count result) ≡ offer (R.refuses into.old) (R.taken into.old) count (map word (item_records level at i)) }
-    ensures passed { (i : ModelItem) → BeginsAs bytes.now at level count Beginning.Text i → IfOk result (IsPast at level i) }
+        outcome (R.taken into.new) (passed_count result)
+            ≡ offer (R.refuses into.old) (R.taken into.old) count (map word (item_records level at i)) }
+    ensures passed { (i : ModelItem) → BeginsAs bytes.now at level count Beginning.Text i →
+        IfOk result (IsPast at level i) }
     ensures rest { R.rest into.new ≡ R.rest into.old }
     ensures test { R.refuses into.new ≡ R.refuses into.old }
 {
@@ -298,7 +315,7 @@ fn offer_text<R: RecordSink>(
             level,
         });
     }
-    let text = plain_parts(5, depth_of(level), Span { start: at, end });
+    let text = plain_parts(TokenKind::Text as u8, depth_of(level), Span { start: at, end });
     let count = offer(text, count, into)?;
     Ok(Passed {
         count,
@@ -323,7 +340,8 @@ fn past_end_tag(bytes: &[u8], at: u32, level: u32, count: u32) -> Passed
     }
 }
 
-/// Offers the records of an item that `next_item` answers and that begins with a mark, with so many elements open round it.
+/// Offers the records of an item that `next_item` answers and that begins with a mark, with so many elements open round
+/// it.
 #[inline(never)]
 fn offer_marked<R: RecordSink>(
     bytes: &[u8],
@@ -337,9 +355,11 @@ fn offer_marked<R: RecordSink>(
     requires start { item.span.start ≤ length bytes.now }
     requires level { level ≤ 256 }
     requires kind { beginning_of item.kind ≡ Beginning.Mark }
-    requires item { (i : ModelItem) × ShowsItem bytes.now item i × CanOffer count (item_records level item.span.start i) }
+    requires item { (i : ModelItem) × ShowsItem bytes.now item i
+        × CanOffer count (item_records level item.span.start i) }
     ensures outcome { (i : ModelItem) → ShowsItem bytes.now item i →
-        outcome (R.taken into.new) result ≡ offer (R.refuses into.old) (R.taken into.old) count (map word (item_records level item.span.start i)) }
+        outcome (R.taken into.new) result
+            ≡ offer (R.refuses into.old) (R.taken into.old) count (map word (item_records level item.span.start i)) }
     ensures rest { R.rest into.new ≡ R.rest into.old }
     ensures test { R.refuses into.new ≡ R.refuses into.old }
 {
@@ -348,16 +368,16 @@ fn offer_marked<R: RecordSink>(
         ItemKind::Text | ItemKind::StartTag | ItemKind::EmptyTag | ItemKind::EndTag => {
             unreachable!()
         }
-        ItemKind::Comment => offer(plain_parts(6, depth, item.content), count, into),
-        ItemKind::Cdata => offer(plain_parts(11, depth, item.content), count, into),
-        ItemKind::Doctype => offer(plain_parts(12, depth, item.content), count, into),
+        ItemKind::Comment => offer(plain_parts(TokenKind::Comment as u8, depth, item.content), count, into),
+        ItemKind::Cdata => offer(plain_parts(TokenKind::Cdata as u8, depth, item.content), count, into),
+        ItemKind::Doctype => offer(plain_parts(TokenKind::Doctype as u8, depth, item.content), count, into),
         ItemKind::Instruction => offer_instruction(item, depth, count, into),
         ItemKind::Declaration => offer_parts(Attributes::of(bytes, item), depth, count, into),
     }
 }
 
-/// Offers the records of the item that begins at a place with a mark, with so many elements open round it. Such items are
-/// few, so they are read again.
+/// Offers the records of the item that begins at a place with a mark, with so many elements open round it. Such items
+/// are few, so they are read again.
 #[inline(always)]
 fn offer_mark<R: RecordSink>(
     bytes: &[u8],
@@ -373,8 +393,10 @@ fn offer_mark<R: RecordSink>(
     requires level { level ≤ 256 }
     requires item { (i : ModelItem) × BeginsAs bytes.now at level count Beginning.Mark i }
     ensures outcome { (i : ModelItem) → BeginsAs bytes.now at level count Beginning.Mark i →
-        outcome (R.taken into.new) (passed_count result) ≡ offer (R.refuses into.old) (R.taken into.old) count (map word (item_records level at i)) }
-    ensures passed { (i : ModelItem) → BeginsAs bytes.now at level count Beginning.Mark i → IfOk result (IsPast at level i) }
+        outcome (R.taken into.new) (passed_count result)
+            ≡ offer (R.refuses into.old) (R.taken into.old) count (map word (item_records level at i)) }
+    ensures passed { (i : ModelItem) → BeginsAs bytes.now at level count Beginning.Mark i →
+        IfOk result (IsPast at level i) }
     ensures rest { R.rest into.new ≡ R.rest into.old }
     ensures test { R.refuses into.new ≡ R.refuses into.old }
 {
@@ -436,8 +458,10 @@ pub fn offer_item<R: RecordSink>(
     requires level { level ≤ 256 }
     requires item { (i : ModelItem) × (begins_at bytes.now at i ≡ true) × CanOffer count (item_records level at i) }
     ensures outcome { (i : ModelItem) → begins_at bytes.now at i ≡ true → CanOffer count (item_records level at i) →
-        outcome (R.taken into.new) (passed_count result) ≡ offer (R.refuses into.old) (R.taken into.old) count (map word (item_records level at i)) }
-    ensures passed { (i : ModelItem) → begins_at bytes.now at i ≡ true → CanOffer count (item_records level at i) → IfOk result (IsPast at level i) }
+        outcome (R.taken into.new) (passed_count result)
+            ≡ offer (R.refuses into.old) (R.taken into.old) count (map word (item_records level at i)) }
+    ensures passed { (i : ModelItem) → begins_at bytes.now at i ≡ true → CanOffer count (item_records level at i) →
+        IfOk result (IsPast at level i) }
     ensures rest { R.rest into.new ≡ R.rest into.old }
     ensures test { R.refuses into.new ≡ R.refuses into.old }
 {

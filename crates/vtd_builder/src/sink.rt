@@ -5,8 +5,8 @@ ghost use Rattle.std.specs.Bool.{OnTrue, OnFalse};
 
 /// What takes the words of records, one after another, and may refuse one.
 ///
-/// `taken` is the list of the words that it has taken. `refuses` is its test on a list and a word, and `rest` what else it
-/// holds, as numbers: no call changes these two.
+/// `taken` is the list of the words that it has taken. `refuses` is its test on a list and a word, and `rest` what else
+/// it holds, as numbers: no call changes these two.
 pub trait RecordSink {
     ghost taken: { Self → List ℕ };
 

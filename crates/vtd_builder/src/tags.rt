@@ -1,5 +1,5 @@
-//! The tags and the texts of an accepted document, cut at the bytes that end their parts. What may be in them was checked
-//! before, so a byte is looked at once.
+//! The tags and the texts of an accepted document, cut at the bytes that end their parts. What may be in them was
+//! checked before, so a byte is looked at once.
 
 ghost use Rattle.std.specs.Prelude.{◌≡◌, ◌+◌, ◌≤◌, ◌<◌, ◌^◌, length, drop};
 ghost use Rattle.std.specs.List.{prefix_len};
@@ -71,8 +71,8 @@ fn far_byte(bytes: &[u8], at: u32, byte: u8) -> u32
     at + memchr(byte, rest).unwrap_or(rest.len()) as u32
 }
 
-/// The place of the next such byte, or the end of the bytes where there is none. It is near most times, so the first bytes
-/// are looked at one by one.
+/// The place of the next such byte, or the end of the bytes where there is none. It is near most times, so the first
+/// bytes are looked at one by one.
 #[inline(always)]
 pub fn next_byte(bytes: &[u8], at: u32, byte: u8) -> u32
     requires place { at ≤ length bytes.now }
