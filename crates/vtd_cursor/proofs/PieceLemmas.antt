@@ -15,13 +15,13 @@ use Rattle.vtd_words.specs.Packed.{record_of}
 use Rattle.vtd_words.specs.Table.{Shows}
 use Rattle.xml_items.specs.Reading.{tag_item}
 use Rattle.xml_items.specs.Shown.{item_shown, tag_kind, IsItemAt}
-use Rattle.xml_items.proofs.WalkLemmas.{one_item}
+use Rattle.xml_items.proofs.OneItem.{one_item}
 use Rattle.vtd_cursor.specs.Endings.{record_end, ends_tag, is_tag_item, EndTagAt, EndTags, HasTagAt, HasTagOf, IsNearestTag, IsTagOf, IsLastPiece, in_leaf, in_tag, IsEnding}
 use Rattle.vtd_cursor.proofs.TagPlaces.{tag_place}
 
 -- an item found at a place is the one that begins there
 pub item_is : (bytes : List ℕ) (at : ℕ) (found : ItemShown) (i : Item) → IsUtf8 bytes → HasTagAt bytes at → IsItemAt bytes at found → begins_at bytes at i ≡ true → found ≡ item_shown at i
-item_is bytes at found i u h f b = f.shown ∙ ap (item_shown at) (one_item bytes at f.item i (IsUtf8-drop bytes at u (tag_place bytes at h).boundary) f.begins b)
+item_is bytes at found i u h f b = f.shown ∙ ap (item_shown at) (one_item bytes at f.item i f.begins b)
 
 tag_tags : (closed : Bool) (t : Tag) → is_tag_item (tag_item closed t) ≡ true
 tag_tags true t = refl

@@ -17,7 +17,7 @@ use Rattle.xml_model.specs.Laws.{HasRecords, records_of}
 use Rattle.xml_model.proofs.Each.{each_at}
 use Rattle.xml_model.proofs.NodeLaws.{records_of_node}
 use Rattle.xml_items.specs.Reading.{tag_item}
-use Rattle.xml_items.proofs.WalkLemmas.{one_item}
+use Rattle.xml_items.proofs.OneItem.{one_item}
 use Rattle.xml_model.proofs.Things.{attribute_of, element_of}
 use Rattle.vtd_words.specs.Lists.{Lists}
 use Rattle.vtd_words.specs.declared.packing.Parts.{Parts}
@@ -58,7 +58,7 @@ own_tag bytes rs prefix rest t inside l start place closed e n b =
 -- a start tag and an empty tag do not begin at one place
 one_tag : (bytes : List ℕ) (at : ℕ) (t : Tag) → IsUtf8 bytes → begins_at bytes at (start_tag t) ≡ true → begins_at bytes at (empty_tag t) ≡ false
 one_tag bytes at t u b = false_from_ne_true _ (λ c.
-    let same : start_tag t ≡ empty_tag t = one_item bytes at (start_tag t) (empty_tag t) (IsUtf8-drop bytes at u (tag_place bytes at (tag_there bytes at false t b)).boundary) b c in
+    let same : start_tag t ≡ empty_tag t = one_item bytes at (start_tag t) (empty_tag t) b c in
     cc)
 
 tags_shown : (bytes : List ℕ) (rs prefix rest : List Record) (t : Tag) (inside : Forest) (l start stop place past : ℕ) → IsUtf8 bytes → rs ≡ prefix ++ (tag_records l start t ++ forest_records (suc l) (past_start start t) inside) ++ rest → length prefix ≡ place →

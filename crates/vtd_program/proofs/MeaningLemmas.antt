@@ -144,15 +144,6 @@ ends_unread m script left statuses.WriteFault r h = absurd h
 ends_unread m script left statuses.FileFault r h = absurd h
 ends_unread m script left statuses.NoMemory r h = (no_output m, refl)
 
-not_known : (status : Status) → EndsEmpty status → IsKnown status → ⊥
-not_known statuses.Done h k = h
-not_known statuses.Refused h k = h
-not_known statuses.Usage h k = h
-not_known statuses.ReadFault h k = h
-not_known statuses.WriteFault h k = h
-not_known statuses.FileFault h k = k
-not_known statuses.NoMemory h k = k
-
 same_taken : (before : List ℕ) (o : Option (List ℕ)) → o ≡ Some before → o ≡ Some (before ++ [])
 same_taken before o e = e ∙ ap (λ (xs : List ℕ). Some xs) (sym (append-nil before))
 
@@ -190,13 +181,6 @@ script_too_long doc nest script before lb la ob after fb fa status fault e k h i
 
 -- ---- what a run means, by what is known
 
-means_file : (words : List (List ℕ)) (name : List ℕ) (files : NameMap) (script : List ℕ) (m : Outcome) → document_name words ≡ Some name → Means words files script m → MeansFile (files name) script m
-means_file words name files script m e h = let P : Option (List ℕ) → Type 0 = λ o. MeansName o files script m in subst P e h
-
-means_document : (words : List (List ℕ)) (name bytes : List ℕ) (files : NameMap) (script : List ℕ) (m : Outcome) → document_name words ≡ Some name → files name ≡ Some bytes → Means words files script m → MeansDocument bytes script m
-means_document words name bytes files script m e f h = let P : Option (List ℕ) → Type 0 = λ o. MeansFile o script m in subst P f (means_file words name files script m e h)
-
--- and what it then means
 made_of : (words : List (List ℕ)) (name bytes : List ℕ) (files : NameMap) (script : List ℕ) (m : Outcome) → document_name words ≡ Some name → files name ≡ Some bytes → MeansDocument bytes script m → Means words files script m
 made_of words name bytes files script m e f h =
     let P : Option (List ℕ) → Type 0 = λ o. MeansFile o script m in
@@ -218,29 +202,40 @@ means_accepted bytes script m l nest p (too_long b s h) = absurd (omega arith)
 means_accepted bytes script m l nest p (unfit b s h fault r) = absurd (not_both bytes nest fault p r)
 means_accepted bytes script m l nest p (accepted b s h other q) = (other, q, refl)
 
+-- ---- some meaning
+
+some_document : (bytes script : List ℕ) → (m : Outcome) × MeansDocument bytes script m
+some_document bytes script = elim (cases_lt document_limit (length bytes)) [
+  | inl h ↦ (refused (codes "file-long") false script, too_long bytes script h)
+  | inr h ↦ elim (some_answer bytes) [
+      | inl a ↦ (scripted bytes a.0 script, accepted bytes script h a.0 a.1)
+      | inr r ↦ (refused (fault_words r.0) false script, unfit bytes script h r.0 r.1)
+    ]
+]
+
+some_file : (file : Option (List ℕ)) (script : List ℕ) → (m : Outcome) × MeansFile file script m
+some_file None script = (record { out = []; err = []; status = statuses.FileFault; reads = false; left = script }, refl)
+some_file (Some bytes) script = some_document bytes script
+
+pub some_meaning : (name : Option (List ℕ)) (files : NameMap) (script : List ℕ) → (m : Outcome) × MeansName name files script m
+some_meaning None files script = (record { out = []; err = usage_line; status = statuses.Usage; reads = false; left = script }, refl)
+some_meaning (Some name) files script = some_file (files name) script
+
 -- ---- the endings of a run
 
 pub ran_empty : (words : List (List ℕ)) (files : NameMap) (script out err : List ℕ) (left_now out_now err_now : Option (List ℕ)) (status : Status) → left_now ≡ Some script → out_now ≡ Some out → err_now ≡ Some err → EndsEmpty status
     → Ran words files script out err left_now out_now err_now status
 ran_empty words files script out err l o e status el eo ee s =
-    record { out = []; err = []; left = script; out_taken = same_taken out o eo; err_taken = same_taken err e ee; script_left = el; means = λ i. absurd (not_known status s i); ends = λ m h. ends_empty m script status s }
+    let m = some_meaning (document_name words) files script in
+    record { m = m.0; means = m.1; out = []; err = []; left = script; out_taken = same_taken out o eo; err_taken = same_taken err e ee; script_left = el; ends = ends_empty m.0 script status s }
 
 pub ran_refused : (words : List (List ℕ)) (files : NameMap) (text script out err : List ℕ) (left_now out_before out_now err_now : Option (List ℕ)) (faults_before faults : ℕ) (status : Status)
-    → Means words files script (refused text false script) → ((m : Outcome) → Means words files script m → m ≡ refused text false script) → left_now ≡ Some script → out_before ≡ Some out → err_now ≡ Some err
+    → Means words files script (refused text false script) → left_now ≡ Some script → out_before ≡ Some out → err_now ≡ Some err
     → SendsAs out_before out_now (refused_line text) faults_before faults statuses.Refused status → Ran words files script out err left_now out_now err_now status
-ran_refused words files text script out err ln ob on en fb fa status made means el eo ee s =
+ran_refused words files text script out err ln ob on en fb fa status made el eo ee s =
     let Q : Option (List ℕ) → Type 0 = λ o. SendsAs o on (refused_line text) fb fa statuses.Refused status in
     let r = ends_refused (refused text false script) text false script script out on fb fa status (subst Q eo s) in
-    let P : Outcome → Type 0 = λ o. EndsAs o script r.0 [] script status in
-    record { out = r.0; err = []; left = script; out_taken = r.1; err_taken = same_taken err en ee; script_left = el; means = λ i. (refused text false script, made); ends = λ m h. subst P (sym (means m h)) (r.2 refl) }
-
-pub ran_long : (words : List (List ℕ)) (name bytes : List ℕ) (files : NameMap) (script : List ℕ) → document_name words ≡ Some name → files name ≡ Some bytes → document_limit < length bytes
-    → (m : Outcome) → Means words files script m → m ≡ refused (codes "file-long") false script
-ran_long words name bytes files script d f l m h = means_long bytes script m l (means_document words name bytes files script m d f h)
-
-pub ran_unfit : (words : List (List ℕ)) (name bytes : List ℕ) (files : NameMap) (script : List ℕ) → document_name words ≡ Some name → files name ≡ Some bytes → length bytes ≤ document_limit → (fault : DocFault) → IsRefusal bytes fault
-    → (m : Outcome) → Means words files script m → m ≡ refused (fault_words fault) false script
-ran_unfit words name bytes files script d f l fault r m h = means_unfit bytes script m l fault r (means_document words name bytes files script m d f h)
+    record { m = refused text false script; means = made; out = r.0; err = []; left = script; out_taken = r.1; err_taken = same_taken err en ee; script_left = el; ends = r.2 refl }
 
 pub made_long : (words : List (List ℕ)) (name bytes : List ℕ) (files : NameMap) (script : List ℕ) → document_name words ≡ Some name → files name ≡ Some bytes → document_limit < length bytes
     → Means words files script (refused (codes "file-long") false script)
@@ -252,13 +247,13 @@ made_unfit words name bytes files script d f l fault r = made_of words name byte
 
 -- the document of that name is refused
 pub ran_unfit_line : (words : List (List ℕ)) (files : NameMap) (fault : DocFault) (script out err : List ℕ) (left_now out_before out_now err_now : Option (List ℕ)) (faults_before faults : ℕ) (status : Status)
-    → Means words files script (refused (fault_words fault) false script) → ((m : Outcome) → Means words files script m → m ≡ refused (fault_words fault) false script) → left_now ≡ Some script → out_before ≡ Some out → err_now ≡ Some err
+    → Means words files script (refused (fault_words fault) false script) → left_now ≡ Some script → out_before ≡ Some out → err_now ≡ Some err
     → EndsUnfit out_before out_now fault faults_before faults status → Ran words files script out err left_now out_now err_now status
-ran_unfit_line words files fault script out err ln ob on en fb fa status made means el eo ee s = elim s [
+ran_unfit_line words files fault script out err ln ob on en fb fa status made el eo ee s = elim s [
   | inl q ↦
       let P : Status → Type 0 = λ x. Ran words files script out err ln on en x in
       subst P (sym q.0) (ran_empty words files script out err ln on en statuses.NoMemory el (q.1 ∙ eo) ee tt)
-  | inr q ↦ ran_refused words files (fault_words fault) script out err ln ob on en fb fa status made means el eo ee q
+  | inr q ↦ ran_refused words files (fault_words fault) script out err ln ob on en fb fa status made el eo ee q
 ]
 
 -- no document is named
@@ -269,9 +264,6 @@ ran_usage words files script out err ln on eb en fb fa status d el eo ee s =
     let Q : Option (List ℕ) → Type 0 = λ o. SendsAs o en usage_line fb fa statuses.Usage status in
     by en (subst Q ee s)
   where
-    means : (m : Outcome) → Means words files script m → m ≡ record { out = []; err = usage_line; status = statuses.Usage; reads = false; left = script }
-    means m h = let P : Option (List ℕ) → Type 0 = λ o. MeansName o files script m in subst P d h
-
     made : Means words files script (record { out = []; err = usage_line; status = statuses.Usage; reads = false; left = script })
     made = let P : Option (List ℕ) → Type 0 = λ o. MeansName o files script (record { out = []; err = usage_line; status = statuses.Usage; reads = false; left = script }) in subst P (sym d) refl
 
@@ -287,8 +279,9 @@ ran_usage words files script out err ln on eb en fb fa status d el eo ee s =
             out_taken = same_taken out on eo;
             err_taken = ap (λ (xs : List ℕ). Some xs) q.1;
             script_left = el;
-            means = λ i. (record { out = []; err = usage_line; status = statuses.Usage; reads = false; left = script }, made);
-            ends = λ m h. let e = sym (means m h) in record { same_status = ap (λ (o : Outcome). o.status) e; same_out = ap (λ (o : Outcome). o.out) e; same_err = ap (λ (o : Outcome). o.err) e; same_left = ap (λ (o : Outcome). o.left) e };
+            m = record { out = []; err = usage_line; status = statuses.Usage; reads = false; left = script };
+            means = made;
+            ends = record { same_status = refl; same_out = refl; same_err = refl; same_left = refl };
           })
       | inr q ↦
           let P : Status → Type 0 = λ x. Ran words files script out err ln on (Some a) x in
@@ -299,8 +292,9 @@ ran_usage words files script out err ln on eb en fb fa status d el eo ee s =
             out_taken = same_taken out on eo;
             err_taken = ap (λ (xs : List ℕ). Some xs) q.1.1;
             script_left = el;
-            means = λ i. (record { out = []; err = usage_line; status = statuses.Usage; reads = false; left = script }, made);
-            ends = λ m h. (record { more = m.out; split = refl }, record { more = q.1.2.more; split = ap (λ (o : Outcome). o.err) (means m h) ∙ q.1.2.split }, ap (λ (o : Outcome). o.left) (sym (means m h)));
+            m = record { out = []; err = usage_line; status = statuses.Usage; reads = false; left = script };
+            means = made;
+            ends = (record { more = []; split = refl }, q.1.2, refl);
           })
     ]
 
@@ -318,19 +312,10 @@ ran_script words name files doc script out err ln on en status d f l b ee ran =
       out_taken = r.taken;
       err_taken = same_taken err en ee;
       script_left = r.script_left;
-      means = λ i. (scripted doc.bytes b.nest script, made_of words name doc.bytes files script _ d f (accepted doc.bytes script l b.nest b.accepted));
-      ends = λ m h. ends r m (means_accepted doc.bytes script m l b.nest b.accepted (means_document words name doc.bytes files script m d f h));
+      m = scripted doc.bytes b.nest script;
+      means = made_of words name doc.bytes files script _ d f (accepted doc.bytes script l b.nest b.accepted);
+      ends = r.ends;
     }
-  where
-    ends : (r : RanScript doc.bytes b.nest script out ln on status) (m : Outcome) → ((other : Forest) × Accepted 8 doc.bytes other × (m ≡ scripted doc.bytes other script)) → EndsAs m script r.out [] r.left status
-    ends r m o =
-        let q = ran o.0 (b.words o.0 o.1) in
-        let same_out : q.out ≡ r.out = append_cancel_left out q.out r.out (same_Some (out ++ q.out) (out ++ r.out) (sym q.taken ∙ r.taken)) in
-        let same_left : q.left ≡ r.left = same_Some q.left r.left (sym q.script_left ∙ r.script_left) in
-        let P : Outcome → Type 0 = λ x. EndsAs x script r.out [] r.left status in
-        let Q : List ℕ → Type 0 = λ x. EndsAs (scripted doc.bytes o.0 script) script x [] r.left status in
-        let R : List ℕ → Type 0 = λ x. EndsAs (scripted doc.bytes o.0 script) script q.out [] x status in
-        subst P (sym o.2) (subst Q same_out (subst R same_left q.ends))
 
 -- ---- what was read, where the files are known
 
@@ -367,20 +352,6 @@ pub same_meaning : (name : Option (List ℕ)) (files : NameMap) (script : List �
 same_meaning None files script m n x y = x ∙ sym y
 same_meaning (Some name) files script m n x y = same_file (files name) script m n x y
 
-none_document : (bytes script : List ℕ) → ((m : Outcome) → MeansDocument bytes script m → ⊥) → ⊥
-none_document bytes script none = elim (cases_lt document_limit (length bytes)) [
-  | inl h ↦ none _ (too_long bytes script h)
-  | inr h ↦ some_answer bytes (λ nest p. none _ (accepted bytes script h nest p)) (λ fault r. none _ (unfit bytes script h fault r))
-]
-
-none_file : (file : Option (List ℕ)) (script : List ℕ) → ((m : Outcome) → MeansFile file script m → ⊥) → ⊥
-none_file None script none = none _ refl
-none_file (Some bytes) script none = none_document bytes script none
-
-pub no_run_without_meaning : (name : Option (List ℕ)) (files : NameMap) (script : List ℕ) → ((m : Outcome) → MeansName name files script m → ⊥) → ⊥
-no_run_without_meaning None files script none = none _ refl
-no_run_without_meaning (Some name) files script none = none_file (files name) script none
-
 -- ---- exactly the meaning
 
 -- the statuses of a run that was not cut short
@@ -391,10 +362,10 @@ IsEnd statuses.Usage = Unit {0}
 IsEnd _ = ⊥
 
 made_exact : {words : List (List ℕ)} {files : NameMap} {script out err : List ℕ} {left_now out_now err_now : Option (List ℕ)} {status : Status} (r : Ran words files script out err left_now out_now err_now status)
-    (m : (o : Outcome) × Means words files script o) → IsMeant m.0 r.out r.err r.left status → RanExactly words files script out err left_now out_now err_now status
-made_exact {out = out} {err = err} r m i = record {
-  m = m.0;
-  means = m.1;
+    → IsMeant r.m r.out r.err r.left status → RanExactly words files script out err left_now out_now err_now status
+made_exact {out = out} {err = err} r i = record {
+  m = r.m;
+  means = r.means;
   out_taken = r.out_taken ∙ ap (λ (xs : List ℕ). Some (out ++ xs)) i.same_out;
   err_taken = r.err_taken ∙ ap (λ (xs : List ℕ). Some (err ++ xs)) i.same_err;
   script_left = r.script_left ∙ ap (λ (xs : List ℕ). Some xs) i.same_left;
@@ -403,9 +374,9 @@ made_exact {out = out} {err = err} r m i = record {
 
 pub ran_to_end : (words : List (List ℕ)) (files : NameMap) (script out err : List ℕ) (left_now out_now err_now : Option (List ℕ)) (status : Status) → Ran words files script out err left_now out_now err_now status → IsEnd status
     → RanExactly words files script out err left_now out_now err_now status
-ran_to_end words files script out err ln on en statuses.Done r i = let m = r.means tt in made_exact r m (r.ends m.0 m.1)
-ran_to_end words files script out err ln on en statuses.Refused r i = let m = r.means tt in made_exact r m (r.ends m.0 m.1)
-ran_to_end words files script out err ln on en statuses.Usage r i = let m = r.means tt in made_exact r m (r.ends m.0 m.1)
+ran_to_end words files script out err ln on en statuses.Done r i = made_exact r r.ends
+ran_to_end words files script out err ln on en statuses.Refused r i = made_exact r r.ends
+ran_to_end words files script out err ln on en statuses.Usage r i = made_exact r r.ends
 ran_to_end words files script out err ln on en statuses.ReadFault r i = absurd i
 ran_to_end words files script out err ln on en statuses.WriteFault r i = absurd i
 ran_to_end words files script out err ln on en statuses.FileFault r i = absurd i

@@ -156,22 +156,17 @@ EndsAs m script out err left statuses.WriteFault = IsPrefix out m.out × IsPrefi
 EndsAs m script out err left statuses.FileFault = (out ≡ []) × (err ≡ []) × (left ≡ script)
 EndsAs m script out err left statuses.NoMemory = IsPrefix out m.out × (err ≡ [])
 
--- the statuses that come only where it is known what the run means: the words are not of the form, or the document was read
-abbrev pub IsKnown : Status → Type 0
-IsKnown statuses.FileFault = ⊥
-IsKnown statuses.NoMemory = ⊥
-IsKnown _ = Unit {0}
-
--- a run over objects whose bytes are known: what was taken in it, what is left of the script, and how it ends
+-- a run over objects whose bytes are known: what it means, what was taken in it, what is left of the script, and how it ends
 pub record Ran (words : List (List ℕ)) (files : NameMap) (script out_before err_before : List ℕ) (left_after out_after err_after : Option (List ℕ)) (status : Status) : Type 0 where
+  pub m : Outcome
+  pub means : Means words files script m
   pub out : List ℕ
   pub err : List ℕ
   pub left : List ℕ
   pub out_taken : out_after ≡ Some (out_before ++ out)
   pub err_taken : err_after ≡ Some (err_before ++ err)
   pub script_left : left_after ≡ Some left
-  pub means : IsKnown status → (m : Outcome) × Means words files script m
-  pub ends : (m : Outcome) → Means words files script m → EndsAs m script out err left status
+  pub ends : EndsAs m script out err left status
 
 -- a run that leaves exactly what the words, the files and the script mean
 pub record RanExactly (words : List (List ℕ)) (files : NameMap) (script out_before err_before : List ℕ) (left_after out_after err_after : Option (List ℕ)) (status : Status) : Type 0 where

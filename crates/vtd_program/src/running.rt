@@ -185,7 +185,7 @@ pub fn run<F: Files, S: Source, K: Sink, E: Sink>(
     requires { F.is_writing files.old ≡ false }
     // Words, files and a script mean one outcome, and none is without.
     ensures one_meaning { (contents : NameMap) (left : List ℕ) (m n : Outcome) → Means (map string_bytes words.now) contents left m → Means (map string_bytes words.now) contents left n → m ≡ n }
-    ensures some_meaning { (contents : NameMap) (left : List ℕ) → ¬ ((m : Outcome) → ¬ Means (map string_bytes words.now) contents left m) }
+    ensures some_meaning { (contents : NameMap) (left : List ℕ) → (m : Outcome) × Means (map string_bytes words.now) contents left m }
 
     // What the run leaves is what they mean, where the bytes of all objects are known.
     ensures meaning { (contents : NameMap) (left taken known : List ℕ) → F.contents files.old ≡ Some contents → S.left script.old ≡ Some left
