@@ -1,4 +1,4 @@
--- What a pass over the items of a document has found so far (this project's own).
+-- What private functions promise: what a pass over the items of a document has found so far (this project's own).
 use Rattle.std.specs.Prelude.{◌≡◌, ℕ, suc, ◌≤◌, Bool, true, false, List, [], ◌∷◌, ◌++◌, length, Option, Some, None}
 use Rattle.xml_model.specs.declared.DocFault.{DocFault}
 use Rattle.xml_model.specs.declared.DocFault.TheVariants as faults
@@ -21,7 +21,8 @@ pub record Finds (bytes : List ℕ) (found : Findings) (items : List Item) : Typ
   pub entity : found.entity ≡ first (over_items unknown_item (first_place bytes) items)
   pub encoding : found.encoding ≡ first (over_items encoding_item (first_place bytes) items)
 
--- some nest begins with the items: what is open, how many records there are, and which of them is the first that is too wide
+-- some nest begins with the items: what is open, how many records there are, and which of them is the first that is
+-- too wide
 pub record Goes (bytes : List ℕ) (nest : NestSoFar) (items : List Item) : Type 0 where
   pub now : State
   pub ran : run [] whole items ≡ Some now

@@ -37,8 +37,8 @@ impl Pass {
         }
     }
 
-    /// Takes the next item. All that takes it is inlined down to its kind and its spans, so that an item need not be stored, and
-    /// the nest, which branches by the kind, comes first.
+    /// Takes the next item. All that takes it is inlined down to its kind and its spans, so that an item need not be
+    /// stored, and the nest, which branches by the kind, comes first.
     fn take(&mut self, bytes: &[u8], counted: Counted)
         requires utf8 { IsUtf8 bytes.now }
         requires size { length bytes.now < 2 ^ 30 }
@@ -127,8 +127,8 @@ fn pass_over(bytes: &[u8]) -> Result<Pass, DocFault>
 }
 
 /// Whether bytes are an XML document as far as the widths of its records: UTF-8, whole items, known entities, a known
-/// encoding, items that nest, records with room for their tokens. It takes no memory. The counts are those of its records;
-/// the levels are empty.
+/// encoding, items that nest, records with room for their tokens. It takes no memory. The counts are those of its
+/// records; the levels are empty.
 ///
 /// # Errors
 /// The one refusal of the bytes, where it is of these layers: the first of them that refuses, over the whole document,

@@ -1,6 +1,6 @@
-//! Which bytes are XML documents, by layers as far as the widths of records: UTF-8, items, known entities, a known encoding,
-//! items that nest (XML 1.0, productions 1, 22, 27 and 39), and records with room for their tokens. The first layer that
-//! refuses decides, over the whole document.
+//! Which bytes are XML documents, by layers as far as the widths of records: UTF-8, items, known entities, a known
+//! encoding, items that nest (XML 1.0, productions 1, 22, 27 and 39), and records with room for their tokens. The
+//! first layer that refuses decides, over the whole document.
 #![tactic(auto)]
 
 mod checking;

@@ -1,7 +1,8 @@
 //! Which items nest: the elements that are open (XML 1.0, productions 1, 39 and 43).
 #![tactic(auto)]
 
-ghost use Rattle.std.specs.Prelude.{◌≡◌, ℕ, ◌-◌, ◌^◌, ◌<◌, ◌≤◌, List, [], true, length, take, drop, slice_index_or, nat_lt};
+ghost use Rattle.std.specs.Prelude.{◌≡◌, ℕ, ◌-◌, ◌^◌, ◌<◌, ◌≤◌, List, [], true, length, take, drop, slice_index_or};
+ghost use Rattle.std.specs.Prelude.{nat_lt};
 ghost use Rattle.std.specs.Str.{bytes_eq};
 ghost use Rattle.xml_model.specs.Items.{Item as ModelItem, Leaf, Tag, start_tag, empty_tag, end_tag, leaf, begins_at};
 ghost use Rattle.xml_items.specs.Shown.{item_shown, IsItemAt};
@@ -130,7 +131,8 @@ impl OpenTags {
 
     /// Takes an empty tag, if it may be here.
     fn pass(&mut self) -> Placement
-        ensures { (bytes : List ℕ) (tag : Tag) (names : List (List ℕ)) (phase : MachinePhase) → Shows bytes self.old names phase
+        ensures { (bytes : List ℕ) (tag : Tag) (names : List (List ℕ)) (phase : MachinePhase) →
+            Shows bytes self.old names phase
             → Shown bytes self.new result names (empty_tag tag) (step names phase (empty_tag tag)) }
     {
         match self.start_placement() {

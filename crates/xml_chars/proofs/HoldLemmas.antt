@@ -42,13 +42,6 @@ prefix_of_run p (c ∷ w) v h =
     let so = prefix_of_run p w v q.1 in
     (so.0, run_cons p c (w ++ v) (w ++ so.0) q.0 so.1)
 
-pub run_longest : (p : ℕ → Bool) (bs w : List ℕ) → IsUtf8 bs → list_all p w ≡ true → begins (encodes w) bs ≡ true → size w ≤ size (take (prefix_len p (chars bs)) (chars bs))
-run_longest p bs w u h s =
-    let f = prefix_holds bs w u s in
-    let m = prefix_of_run p w f.0 h in
-    let same : take (prefix_len p (chars bs)) (chars bs) ≡ w ++ m.0 = ap (λ (l : List ℕ). take (prefix_len p l) l) f.1 ∙ m.1 in
-    omega (arith, ap size same, size-append w m.0)
-
 -- what is left after a prefix was read at a place
 pub record To (bytes rest : List ℕ) (at : ℕ) (w : List ℕ) : Type 0 where
   pub end : length bytes - length rest ≡ at + size w

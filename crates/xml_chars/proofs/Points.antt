@@ -17,11 +17,6 @@ pub record AsciiFirst (b : ℕ) (bs : List ℕ) : Type 0 where
   pub points : chars (b ∷ bs) ≡ b ∷ chars bs
   pub rest : IsUtf8 bs
 
-pub ascii_first : (b : ℕ) (bs : List ℕ) → IsUtf8 (b ∷ bs) → b < 128 → AsciiFirst b bs
-ascii_first b bs u lt =
-    let e : b ∷ bs ≡ encode b ++ bs = ap (λ (l : List ℕ). l ++ bs) (sym (encode_ascii b lt)) in
-    record { points = chars_past_char (b ∷ bs) bs b u e; rest = IsUtf8-past_char (b ∷ bs) bs b u e }
-
 -- the first character, of any kind
 pub record First (bs : List ℕ) : Type 0 where
   pub char : ℕ

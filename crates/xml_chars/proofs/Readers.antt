@@ -205,10 +205,6 @@ more_fuel {X} t f s F pos r (suc a) (suc b) text h k =
         let lt : length p.1 < length text = omega (arith, pos p.0, ap (λ (l : List ℕ). length l) one.0, length-append (s p.0) p.1) in
         ap (option_and_then (λ (q : List X × List ℕ). Some (p.0 ∷ q.0, q.1))) (ih p.1 lt)
 
--- at most one thing is read
-pub one_reading : {X : Type 0} {read : Reader X} {spell : X → List ℕ} {Fits : X → List ℕ → Type 0} → IsReader read spell Fits → (x y : X) (r s : List ℕ) → Fits x r → Fits y s → spell x ++ r ≡ spell y ++ s → (x ≡ y) × (r ≡ s)
-one_reading {read = read} rd x y r s a b e = some_pair_parts x y r s (sym (rd.again x r a) ∙ ap read e ∙ rd.again y s b)
-
 -- ---- the rest alone
 
 pub skip_some : {X : Type 0} (f : Reader X) (text rest : List ℕ) → skip f text ≡ Some rest → (x : X) × (f text ≡ Some (x, rest))
@@ -240,24 +236,6 @@ many_stuck t f text go e = rw (go, skip_none f text e) refl
 
 pub many_done : {X : Type 0} (t : List ℕ → Bool) (f : Reader X) (text : List ℕ) → t text ≡ false → skip (many t f) text ≡ Some text
 many_done t f text e = rw e refl
-
-skip_both_by : {X Y : Type 0} (g : Reader Y) (o : Option (X × List ℕ)) → option_map (λ (p : (X × Y) × List ℕ). p.1) (option_and_then (λ (p : X × List ℕ). option_and_then {U = (X × Y) × List ℕ} (λ (q : Y × List ℕ). Some ((p.0, q.0), q.1)) (g p.1)) o) ≡ option_and_then (skip g) (option_map (λ (p : X × List ℕ). p.1) o)
-skip_both_by g None = refl
-skip_both_by {X} {Y} g (Some p) = go (g p.1)
-  where
-    go : (o : Option (Y × List ℕ)) → option_map (λ (p : (X × Y) × List ℕ). p.1) (option_and_then {U = (X × Y) × List ℕ} (λ (q : Y × List ℕ). Some ((p.0, q.0), q.1)) o) ≡ option_map (λ (q : Y × List ℕ). q.1) o
-    go None = refl
-    go (Some q) = refl
-
-pub skip_both : {X Y : Type 0} (f : Reader X) (g : Reader Y) (text : List ℕ) → skip (both f (λ _. g)) text ≡ option_and_then (skip g) (skip f text)
-skip_both f g text = skip_both_by g (f text)
-
-skip_mapped_by : {X Y : Type 0} (h : X → Y) (o : Option (X × List ℕ)) → option_map (λ (p : Y × List ℕ). p.1) (option_map (λ (p : X × List ℕ). (h p.0, p.1)) o) ≡ option_map (λ (p : X × List ℕ). p.1) o
-skip_mapped_by h None = refl
-skip_mapped_by h (Some p) = refl
-
-pub skip_mapped : {X Y : Type 0} (h : X → Y) (f : Reader X) (text : List ℕ) → skip (mapped h f) text ≡ skip f text
-skip_mapped h f text = skip_mapped_by h (f text)
 
 -- ---- these characters
 

@@ -1,6 +1,9 @@
-pub mod Wide
+-- What callers read: places in bytes, and the readers by which texts are read.
+pub mod Places
 pub mod Readers
 pub mod Reading
-pub mod Numbers
 pub mod Shown
-pub mod Places
+
+-- What private functions promise.
+pub mod Numbers
+pub mod Wide

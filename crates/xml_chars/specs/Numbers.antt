@@ -1,4 +1,5 @@
--- The number that digits write, where it is no more than one above the last code point.
+-- What private functions promise: the number that digits write, where it is no more than one above the last code
+-- point.
 use Rattle.std.specs.Prelude.{ℕ, ◌+◌, ◌*◌, min, List, fold}
 use Rattle.std.specs.Char.{digit_value}
 

@@ -1,4 +1,4 @@
--- What is at a place of some bytes.
+-- What callers read: what is at a place of some bytes.
 use Rattle.std.specs.Prelude.{◌≡◌, ℕ, ◌+◌, ◌≤◌, Bool, true, false, List, [], ◌∷◌, drop, encode_utf8_all}
 use Rattle.std.specs.Str.{IsCharBoundary}
 use Rattle.xml_model.specs.declared.Span.{Span}
@@ -61,7 +61,9 @@ pub record IsReferenceAt (bytes : List ℕ) (at : ℕ) (found : Reference) : Typ
   pub shown : found ≡ reference_shown at piece
 
 abbrev pub HasNoReference : List ℕ → ℕ → Type 0
-HasNoReference bytes at = (piece : Piece) → is_reference piece ≡ true → meets_reference piece ≡ true → holds bytes at (written_piece piece) ≡ false
+HasNoReference bytes at =
+    (piece : Piece) → is_reference piece ≡ true → meets_reference piece ≡ true →
+    holds bytes at (written_piece piece) ≡ false
 
 -- a span of a text: both ends are between characters, and in order
 pub record IsTextSpan (bytes : List ℕ) (span : Span) : Type 0 where

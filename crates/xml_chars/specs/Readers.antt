@@ -1,5 +1,7 @@
--- Readers: what is at the start of a text, and what is left, or None. A text is a list of code points.
-use Rattle.std.specs.Prelude.{ℕ, suc, zero, Bool, cond, List, [], ◌∷◌, length, take, drop, Option, Some, None, option_and_then, option_map, ◌≡◌}
+-- What callers read: readers, which give what is at the start of a text and what is left, or None. A text is a list of
+-- code points.
+use Rattle.std.specs.Prelude.{ℕ, suc, zero, Bool, cond, List, [], ◌∷◌, length, take, drop, Option, Some, None}
+use Rattle.std.specs.Prelude.{option_and_then, option_map, ◌≡◌}
 use Rattle.std.specs.List.{prefix_len}
 use Rattle.xml_model.specs.Chars.{begins}
 
@@ -46,7 +48,9 @@ choose_by look f text = f (look text) text
 -- one after another, while a look at the text says so; with fuel
 abbrev pub many_by : {X : Type 0} → ℕ → (List ℕ → Bool) → Reader X → Reader (List X)
 many_by zero t f text = None
-many_by (suc fuel) t f text = cond (t text) (option_and_then (λ p. option_and_then (λ q. Some (p.0 ∷ q.0, q.1)) (many_by fuel t f p.1)) (f text)) (Some ([], text))
+many_by (suc fuel) t f text =
+    cond (t text) (option_and_then (λ p. option_and_then (λ q. Some (p.0 ∷ q.0, q.1)) (many_by fuel t f p.1)) (f text))
+    (Some ([], text))
 
 abbrev pub many : {X : Type 0} → (List ℕ → Bool) → Reader X → Reader (List X)
 many t f text = many_by (suc (length text)) t f text

@@ -1,4 +1,4 @@
--- What the readers of names, white space and references read.
+-- What callers read: what the functions over texts read, of names, white space and references.
 use Rattle.std.specs.Prelude.{ℕ, Bool, true, false, cond, ◌==◌, List, [], ◌∷◌, codes, get_or, nat_lt}
 use Rattle.std.specs.Char.{is_digit}
 use Rattle.xml_model.specs.Chars.{is_space, is_name_start, is_name_char}

@@ -1,4 +1,4 @@
--- What a reference refers to: a character, or a name.
+-- What callers read: what a reference refers to, a character or a name.
 use Rattle.std.specs.Prelude.{ℕ, List}
 use Rattle.std.specs.Str.{chars}
 use Rattle.xml_model.specs.Items.{Piece, literal, entity, decimal, hexadecimal, number_of}
@@ -15,7 +15,7 @@ shown (entity n) = name n
 shown (decimal digits) = character (number_of 10 digits)
 shown (hexadecimal digits) = character (number_of 16 digits)
 
--- the same of the value that code hands out
+-- what the value that code hands out refers to
 abbrev pub referred : Referred → Shown
 referred (Char c) = character c
 referred (Named n) = name (chars n.now)

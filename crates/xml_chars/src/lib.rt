@@ -9,7 +9,8 @@ pub mod text;
 ghost use Rattle.std.specs.Prelude.{◌≡◌, ◌↔◌, ◌<◌, ◌≤◌, ◌^◌, length, drop, IsNone, IfSome, IfNone};
 ghost use Rattle.std.specs.Str.{IsUtf8, IsCharBoundary, chars};
 ghost use Rattle.xml_model.specs.Chars.{is_char, is_name_start, is_name_char};
-ghost use Rattle.xml_chars.specs.Places.{IsCharAt, IsLongestName, HasNoName, IsLongestSpace, IsReferenceAt, HasNoReference, HasTextPlaces};
+ghost use Rattle.xml_chars.specs.Places.{IsCharAt, IsLongestName, HasNoName, IsLongestSpace, IsReferenceAt};
+ghost use Rattle.xml_chars.specs.Places.{HasNoReference, HasTextPlaces};
 
 use names::name_of;
 pub use names::{is_ncname, is_qname};
@@ -55,7 +56,7 @@ pub fn is_name_char(c: char) -> bool
 }
 
 /// What a reference refers to, and the place after it (XML 1.0, productions 66 to 68).
-#[derive(Clone, Copy, Debug, PartialEq, Eq)]
+#[derive(Clone, Copy, Debug, PartialEq)]
 pub enum Reference {
     /// A reference to a character by its number.
     Char { value: char, end: u32 },

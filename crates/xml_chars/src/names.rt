@@ -5,7 +5,8 @@ ghost use Rattle.std.specs.Prelude.{◌≡◌, ◌≤◌, ◌<◌, ◌+◌, leng
 ghost use Rattle.std.specs.List.{prefix_len};
 ghost use Rattle.std.specs.Option.{option_copied};
 ghost use Rattle.std.specs.Str.{chars};
-ghost use Rattle.xml_model.specs.Chars.{is_name_char, has_colon, before_colon, after_colon, is_name, is_ncname, is_qname};
+ghost use Rattle.xml_model.specs.Chars.{is_name_char, has_colon, before_colon, after_colon, is_name, is_ncname};
+ghost use Rattle.xml_model.specs.Chars.{is_qname};
 ghost use Rattle.xml_chars.specs.Wide.{is_ascii_name};
 ghost use Rattle.xml_chars.specs.Readers.{Gives, one_of, skip, after_run};
 ghost use Rattle.xml_chars.specs.Reading.{begins_name, read_name};
@@ -113,7 +114,9 @@ pub fn name_of(text: &str) -> Option<(&str, &str)>
 
 /// What is before the first colon and what after it; None where there is no colon.
 fn split_colon(text: &str) -> Option<(&str, &str)>
-    ensures { MatchOption result (has_colon (chars text.now) ≡ false) (λ x. (has_colon (chars text.now) ≡ true) × (chars x.0.now ≡ before_colon (chars text.now)) × (chars x.1.now ≡ after_colon (chars text.now))) }
+    ensures { MatchOption result (has_colon (chars text.now) ≡ false)
+        (λ x. (has_colon (chars text.now) ≡ true) × (chars x.0.now ≡ before_colon (chars text.now)) ×
+        (chars x.1.now ≡ after_colon (chars text.now))) }
 {
     let at = memchr(b':', text.as_bytes())?;
     let (before, rest) = text.split_at(at);

@@ -64,7 +64,8 @@ fn digits_of(text: &str, base: u32) -> (&str, &str)
 fn number_of(text: &str, base: u32) -> Option<(char, &str)>
     requires low { 2 ≤ base }
     requires high { base ≤ 36 }
-    ensures read { Gives (λ x. (x.0, chars x.1.now)) result (mapped (number_of base) (read_digits base) (chars text.now)) }
+    ensures read { Gives (λ x. (x.0, chars x.1.now)) result
+        (mapped (number_of base) (read_digits base) (chars text.now)) }
     ensures shorter { IfSome result (λ x. length x.1.now ≤ length text.now) }
 {
     let (digits, rest) = digits_of(text, base);
@@ -72,11 +73,13 @@ fn number_of(text: &str, base: u32) -> Option<(char, &str)>
     if is_char(c) { Some((c, rest)) } else { None }
 }
 
-/// The same with the semicolon that ends a reference.
+/// The Char that the digits at the start name, with the semicolon after them that ends a reference, and what follows;
+/// None where either is missing.
 fn ended_number_of(text: &str, base: u32) -> Option<(char, &str)>
     requires low { 2 ≤ base }
     requires high { base ≤ 36 }
-    ensures read { Gives (λ x. (x.0, chars x.1.now)) result (mapped (λ p. number_of base p.0) (read_number base) (chars text.now)) }
+    ensures read { Gives (λ x. (x.0, chars x.1.now)) result
+        (mapped (λ p. number_of base p.0) (read_number base) (chars text.now)) }
     ensures shorter { IfSome result (λ x. length x.1.now ≤ length text.now) }
 {
     let (c, rest) = number_of(text, base)?;
@@ -86,7 +89,8 @@ fn ended_number_of(text: &str, base: u32) -> Option<(char, &str)>
 
 /// The reference by a name at the start, and what follows it.
 fn named_of(text: &str) -> Option<(&str, &str)>
-    ensures read { Gives (λ x. (name (chars x.0.now), chars x.1.now)) result (mapped shown (read_form named) (chars text.now)) }
+    ensures read { Gives (λ x. (name (chars x.0.now), chars x.1.now)) result
+        (mapped shown (read_form named) (chars text.now)) }
     ensures shorter { IfSome result (λ x. length x.1.now < length text.now) }
 {
     let rest = word_of(text, "&")?;
@@ -96,7 +100,7 @@ fn named_of(text: &str) -> Option<(&str, &str)>
 }
 
 /// What a reference refers to: a character by its number, or the name of an entity.
-#[derive(Clone, Copy, Debug, PartialEq, Eq)]
+#[derive(Clone, Copy)]
 pub enum Referred<'a> {
     Char(char),
     Named(&'a str),

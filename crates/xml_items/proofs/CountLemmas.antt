@@ -12,7 +12,7 @@ use Rattle.xml_items.specs.Reading.{some_space, read_bare, read_attribute, begin
 use Rattle.xml_items.specs.Suffixes.{Suffixes, suffixes}
 use Rattle.xml_items.specs.Shown.{item_shown}
 use Rattle.xml_items.specs.AttributeList.{item_attributes}
-use Rattle.xml_items.specs.Counted.{counted_from, counted, with_count, counted_shown}
+use Rattle.xml_items.specs.Counting.{counted_from, counted, with_count, counted_shown}
 use Rattle.xml_items.specs.declared.Item.{Item as ItemShown}
 use Rattle.xml_items.specs.declared.Counted.{Counted}
 use Rattle.xml_items.proofs.MarkSpans.{shows}
@@ -38,13 +38,6 @@ attribute_goes s space a e = ap begins_name (sym (after_space s space a e))
 pub attributes_spaced : (s space a : List ℕ) → is_some (read_attributes s) ≡ true → read_space s ≡ Some (space, a) → begins_name a ≡ true → some_space space ≡ true
 unfolding read_attributes
 attributes_spaced s space a some e go = true_from_ne_false _ (λ f. false≢true (sym (ap is_some (many_none begins_attribute read_attribute s (attribute_goes s space a e ∙ go) (attribute_1 s space a e f))) ∙ some))
-
-counted_by : (o : Option (List Attribute × List ℕ)) → option_map (counted_from 0) o ≡ option_map counted o
-counted_by None = refl
-counted_by (Some p) = let z : 0 + length p.0 ≡ length p.0 = omega arith in ap (λ (n : ℕ). Some (n, after_run is_space p.1)) z
-
-pub number_start : (s : List ℕ) → number_from 0 s ≡ option_map counted (read_attributes s)
-number_start s = counted_by (read_attributes s)
 
 pub number_done : (n : ℕ) (s space a : List ℕ) → read_space s ≡ Some (space, a) → begins_name a ≡ false → number_from n s ≡ Some (n, a)
 unfolding read_attributes

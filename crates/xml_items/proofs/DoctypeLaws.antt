@@ -168,9 +168,6 @@ goes_on (SubsetUnit.quoted single cs) rest after h = in_subset_is 39 _
 goes_on (SubsetUnit.quoted double cs) rest after h = in_subset_is 34 _
 goes_on (SubsetUnit.char c) rest after h = in_subset_is c rest ∙ not_from_false _ (inner_char c h.0).no_end
 
-abbrev pub FitSubset : List SubsetUnit → List ℕ → Type 0
-FitSubset us rest = (meets_inner us ≡ true) × (in_subset rest ≡ false)
-
 subset_to : (us : List SubsetUnit) (rest : List ℕ) → FitMany in_subset written_inner FitInner us (93 ∷ rest) → meets_inner us ≡ true
 subset_to [] rest h = refl
 subset_to (SubsetUnit.comment cs ∷ us) rest h = and_from _ _ h.1 (subset_to us rest h.2)

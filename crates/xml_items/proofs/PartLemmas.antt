@@ -31,7 +31,7 @@ use Rattle.xml_items.specs.declared.ItemKind.TheVariants as kinds
 use Rattle.xml_items.proofs.StepLemmas.{suffixes_some, suffixes_none}
 use Rattle.xml_items.proofs.DeclarationLaws.{part_reads, option_reads, declaration_reads}
 use Rattle.xml_items.proofs.MarkSpans.{nil_is, nil_size}
-use Rattle.xml_items.specs.Counted.{with_count}
+use Rattle.xml_items.specs.Counting.{with_count}
 use Rattle.xml_items.proofs.CountLemmas.{counts, counted_some}
 use Rattle.xml_items.proofs.TagLaws.{attribute_pos}
 use Rattle.xml_items.proofs.SpanLemmas.{size_of, spelled, size_xml, item_by, same_item}

@@ -114,23 +114,3 @@ suffixes_some o f e =
 pub suffixes_none : (o : Option (Attribute × List ℕ)) → option_map suffixes o ≡ None → o ≡ None
 suffixes_none None e = refl
 suffixes_none (Some p) e = absurd (cc)
-
-pub attributes_more : (text rest : List ℕ) → begins_attribute text ≡ true → skip read_attribute text ≡ Some rest → skip read_attributes text ≡ skip read_attributes rest
-unfolding read_attributes
-attributes_more text rest go e = (many_more begins_attribute read_attribute written_attribute FitAttribute attribute_pos attribute_reads text rest go e).0
-
-pub attributes_stuck : (text : List ℕ) → begins_attribute text ≡ true → skip read_attribute text ≡ None → skip read_attributes text ≡ None
-unfolding read_attributes
-attributes_stuck text go e = many_stuck begins_attribute read_attribute text go e
-
-pub attributes_done : (text : List ℕ) → begins_attribute text ≡ false → skip read_attributes text ≡ Some text
-unfolding read_attributes
-attributes_done text h = many_done begins_attribute read_attribute text h
-
-pub attribute_rest : (text rest : List ℕ) (f : Suffixes) → option_map suffixes (read_attribute text) ≡ Some f → rest ≡ f.rest → skip read_attribute text ≡ Some rest
-attribute_rest text rest f e r =
-    let m = suffixes_some (read_attribute text) f e in
-    ap (option_map (λ (p : Attribute × List ℕ). p.1)) m.1 ∙ ap Some (sym r)
-
-pub attribute_gone : (text : List ℕ) → option_map suffixes (read_attribute text) ≡ None → skip read_attribute text ≡ None
-attribute_gone text e = ap (option_map (λ (p : Attribute × List ℕ). p.1)) (suffixes_none (read_attribute text) e)

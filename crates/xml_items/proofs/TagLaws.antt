@@ -259,9 +259,6 @@ FitTag _ rest = ⊥
 abbrev TagParts : Type 0
 TagParts = Unit {0} × (List ℕ × (List Attribute × (List ℕ × Bool)))
 
-spell_tag : TagParts → List ℕ
-spell_tag p = 60 ∷ [] ++ (p.1.0 ++ (written_attributes p.1.1.0 ++ (p.1.1.1.0 ++ written_close p.1.1.1.1)))
-
 tag_spelled : (name : List ℕ) (xs : List Attribute) (sp : List ℕ) (b : Bool) → written (tag_item b record { name = name; attributes = xs; space = sp }) ≡ 60 ∷ [] ++ (name ++ (written_attributes xs ++ (sp ++ written_close b)))
 tag_spelled name xs sp true = simp append_assoc
 tag_spelled name xs sp false = simp append_assoc

@@ -13,7 +13,7 @@ use Rattle.xml_items.specs.declared.ItemKind.TheVariants as kinds
 use Rattle.xml_items.specs.Shown.{item_shown, tag_kind}
 use Rattle.xml_items.specs.Reading.{closes_empty, read_close, read_close_by, read_attributes, read_tag, read_end_tag, tag_item}
 use Rattle.xml_items.specs.AttributeList.{item_attributes}
-use Rattle.xml_items.specs.Counted.{counted, with_count}
+use Rattle.xml_items.specs.Counting.{counted, with_count}
 use Rattle.xml_items.proofs.CountLemmas.{counts, counted_some}
 use Rattle.xml_items.proofs.TagLaws.{attributes_reads, tag_reads, end_reads}
 use Rattle.xml_items.proofs.SpanLemmas.{size_of, spelled, size_1, size_slash, item_by, same_item, shown_some}

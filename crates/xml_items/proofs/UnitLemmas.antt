@@ -144,18 +144,6 @@ pub subset_done : (s : List ℕ) → ascii_head s ≡ 93 → skip read_subset s 
 unfolding read_subset in_subset
 subset_done s e = many_done in_subset read_inner s (not_from_true _ (eq-eqb (ascii_head s) 93 e))
 
-pub whole_1 : (s : List ℕ) → word (codes "[") s ≡ None → skip (read_unit_by with_subset) s ≡ None
-whole_1 s e1 = rw e1 refl
-
-pub whole_2 : (s a : List ℕ) → word (codes "[") s ≡ Some (tt, a) → None ≡ skip read_subset a → skip (read_unit_by with_subset) s ≡ None
-whole_2 s a e1 e2 = let n = skip_none read_subset a (sym e2) in rw (e1, n) refl
-
-pub whole_3 : (s a b : List ℕ) → word (codes "[") s ≡ Some (tt, a) → Some b ≡ skip read_subset a → word (codes "]") b ≡ None → skip (read_unit_by with_subset) s ≡ None
-whole_3 s a b e1 e2 e3 = let x = (skip_some read_subset a b (sym e2)).1 in rw (e1, x, e3) refl
-
-pub whole_4 : (s a b c : List ℕ) → word (codes "[") s ≡ Some (tt, a) → Some b ≡ skip read_subset a → word (codes "]") b ≡ Some (tt, c) → skip (read_unit_by with_subset) s ≡ Some c
-whole_4 s a b c e1 e2 e3 = let x = (skip_some read_subset a b (sym e2)).1 in rw (e1, x, e3) refl
-
 -- ---- the units of a declaration
 
 pub unit_double : (s : List ℕ) → ascii_head s ≡ 34 → skip read_unit s ≡ skip (read_quoted double) s

@@ -20,7 +20,8 @@ use Rattle.xml_chars.proofs.HoldLemmas.{prefix_holds, read_to, To}
 use Rattle.xml_items.specs.Reading.{is_name_read, ItemForm, as_text, as_tag, as_end_tag, as_comment, as_cdata, as_doctype, as_instruction, as_declaration, item_form, read_by, read_item}
 use Rattle.xml_items.specs.MayBegin.{may_begin}
 use Rattle.xml_items.specs.Shown.{HasNoItem}
-use Rattle.xml_items.specs.Counted.{counted_shown, IsCountedAt}
+use Rattle.xml_items.specs.Counted.{IsCountedAt}
+use Rattle.xml_items.specs.Counting.{counted_shown}
 use Rattle.xml_items.specs.declared.Counted.{Counted}
 use Rattle.xml_items.proofs.ItemLaws.{FitItem, item_reads}
 use Rattle.xml_items.proofs.CountLemmas.{counts}

@@ -1,8 +1,9 @@
--- The attributes of an item as code hands them out.
+-- What callers read: the attributes of an item as code hands them out.
 use Rattle.std.specs.Prelude.{ℕ, ◌+◌, Bool, true, false, List, [], ◌∷◌, Option, Some, None}
 use Rattle.std.specs.Str.{chars}
 use Rattle.xml_model.specs.Chars.{size}
-use Rattle.xml_model.specs.Items.{Attribute, Item, leaf, Leaf, start_tag, empty_tag, before_value, written_pieces, written_attribute}
+use Rattle.xml_model.specs.Items.{Attribute, Item, leaf, Leaf, start_tag, empty_tag, before_value, written_pieces}
+use Rattle.xml_model.specs.Items.{written_attribute}
 use Rattle.xml_model.specs.Records.{declaration_attributes}
 use Rattle.xml_chars.specs.Places.{span_from}
 use Rattle.xml_items.specs.Reading.{read_attributes}
@@ -28,7 +29,11 @@ has_attributes _ = false
 
 -- an attribute whose white space begins at the place at, and attributes from there on
 abbrev pub attribute_shown : ℕ → Attribute → AttributeItem
-attribute_shown at a = record { name = span_from (at + size a.space) a.name; value = span_from (at + size a.space + size (before_value a)) (written_pieces a.value) }
+attribute_shown at a =
+    record {
+      name = span_from (at + size a.space) a.name;
+      value = span_from (at + size a.space + size (before_value a)) (written_pieces a.value);
+    }
 
 abbrev pub attributes_shown : ℕ → List Attribute → List AttributeItem
 attributes_shown at [] = []

@@ -1,26 +1,9 @@
--- An item with the number of its attributes.
-use Rattle.std.specs.Prelude.{◌≡◌, ℕ, ◌+◌, true, List, length}
-use Rattle.xml_model.specs.Chars.{is_space}
-use Rattle.xml_model.specs.Items.{Attribute, Item, begins_at}
-use Rattle.xml_chars.specs.Readers.{after_run}
+-- What callers read: an item with the number of its attributes.
+use Rattle.std.specs.Prelude.{◌≡◌, ℕ, true, List, length}
+use Rattle.xml_model.specs.Items.{Item, begins_at}
 use Rattle.xml_items.specs.Shown.{item_shown}
 use Rattle.xml_items.specs.AttributeList.{item_attributes}
-use Rattle.xml_items.specs.declared.Item.{Item as ItemShown}
 use Rattle.xml_items.specs.declared.Counted.{Counted}
-
--- attributes that were read, after some others, and what is left after the white space that follows
-abbrev pub counted_from : ℕ → List Attribute × List ℕ → ℕ × List ℕ
-counted_from n p = (n + length p.0, after_run is_space p.1)
-
-abbrev pub counted : List Attribute × List ℕ → ℕ × List ℕ
-counted p = (length p.0, after_run is_space p.1)
-
-abbrev pub with_count : ℕ → ItemShown → Counted
-with_count n i = record { item = i; attributes = n }
-
--- an item that begins at the place at, as code hands it out with the number of its attributes or parts
-abbrev pub counted_shown : ℕ → Item → Counted
-counted_shown at i = with_count (length (item_attributes i)) (item_shown at i)
 
 -- the item that begins at the place, and how many attributes or parts it has
 pub record IsCountedAt (bytes : List ℕ) (at : ℕ) (found : Counted) : Type 0 where

@@ -1,10 +1,14 @@
-pub mod Reading
+-- What callers read.
 pub mod Shown
-pub mod MayBegin
-pub mod Plain
-pub mod Quotes
-pub mod Suffixes
-pub mod Parts
 pub mod AttributeList
 pub mod Counted
+
+-- What private functions promise.
+pub mod Reading
+pub mod Counting
+pub mod MayBegin
+pub mod Parts
+pub mod Plain
+pub mod Quotes
 pub mod Runs
+pub mod Suffixes

@@ -1,4 +1,4 @@
--- Where an item may be.
+-- What private functions promise: where an item may be.
 use Rattle.std.specs.Prelude.{Bool, true, false}
 use Rattle.xml_model.specs.Items.{declaration, Item, leaf}
 

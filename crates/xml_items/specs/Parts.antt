@@ -1,4 +1,4 @@
--- The parts of the XML declaration.
+-- What private functions promise: the parts of the XML declaration.
 use Rattle.std.specs.Prelude.{ℕ, Bool, ◌||◌, List, [], ◌∷◌, bytes_eq}
 use Rattle.xml_model.specs.Chars.{in_ranges}
 use Rattle.xml_model.specs.Items.{Attribute, written_pieces, is_letter}

@@ -1,4 +1,5 @@
--- Characters that mean nothing but themselves where they are, and the bytes that only such characters have in UTF-8.
+-- What private functions promise: characters that mean nothing but themselves where they are, and the bytes that only
+-- such characters have in UTF-8.
 use Rattle.std.specs.Prelude.{ℕ, Bool, ◌&&◌, ◌==◌, cond, not, nat_lt, nat_le}
 use Rattle.xml_model.specs.Chars.{is_char}
 
@@ -18,7 +19,7 @@ is_plain_value c = is_plain_char c && not (c == 60) && not (c == 38) && not (c =
 abbrev pub is_plain_byte : ℕ → Bool
 is_plain_byte b = cond (nat_lt b 128) (is_char b) (not (b == 0xEF))
 
--- the same, and none of four bytes
+-- a byte that only plain Chars have, and none of four
 abbrev pub is_run_byte : ℕ → ℕ → ℕ → ℕ → ℕ → Bool
 is_run_byte s t u v b = is_plain_byte b && not (b == s) && not (b == t) && not (b == u) && not (b == v)
 

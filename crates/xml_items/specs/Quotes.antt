@@ -1,4 +1,4 @@
--- A quote by its byte.
+-- What private functions promise: a quote by its byte.
 use Rattle.std.specs.Prelude.{ℕ, cond, ◌==◌}
 use Rattle.xml_model.specs.Items.{Quote, single, double}
 

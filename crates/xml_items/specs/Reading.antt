@@ -1,9 +1,13 @@
--- What is at the start of a text: pieces, attributes and items, as readers.
-use Rattle.std.specs.Prelude.{ℕ, Bool, true, false, cond, not, ◌&&◌, ◌||◌, ◌==◌, map, List, [], ◌∷◌, codes, drop, bytes_eq, Option, Some, None}
+-- What private functions promise: what is at the start of a text, pieces, attributes and items, as readers that go as
+-- the code goes. That they read exactly the items of the definitions is proved (`ItemLaws`, `WalkLemmas`).
+use Rattle.std.specs.Prelude.{ℕ, Bool, true, false, cond, not, ◌&&◌, ◌||◌, ◌==◌, map, List, [], ◌∷◌, codes, drop}
+use Rattle.std.specs.Prelude.{bytes_eq, Option, Some, None}
 use Rattle.std.specs.List.{list_all}
 use Rattle.std.specs.Char.{to_ascii_lowercase}
 use Rattle.xml_model.specs.Chars.{is_char, is_space, begins}
-use Rattle.xml_model.specs.Items.{Piece, literal, Quote, single, double, Attribute, Tag, SubsetUnit, DoctypeUnit, Leaf, Item, leaf, start_tag, empty_tag, end_tag, quote_char, written_pieces, is_nil, is_version, is_encoding_name, is_yes_or_no, has_one_subset}
+use Rattle.xml_model.specs.Items.{Piece, literal, Quote, single, double, Attribute, Tag, SubsetUnit, DoctypeUnit, Leaf}
+use Rattle.xml_model.specs.Items.{Item, leaf, start_tag, empty_tag, end_tag, quote_char, written_pieces, is_nil}
+use Rattle.xml_model.specs.Items.{is_version, is_encoding_name, is_yes_or_no, has_one_subset}
 use Rattle.xml_chars.specs.Readers.{Reader, both, mapped, kept, run, one_of, word, look_at, choose_by, many, after_run}
 use Rattle.xml_chars.specs.Reading.{ascii_head, begins_name, read_name, read_space, read_reference}
 
@@ -50,7 +54,10 @@ BareParts = List ℕ × (List ℕ × (Unit {0} × (List ℕ × (Quote × (List P
 
 -- an attribute without the white space before it
 abbrev pub read_bare_parts : Reader BareParts
-read_bare_parts = both read_name (λ _. both read_space (λ _. both (word (codes "=")) (λ _. both read_space (λ _. both read_quote (λ q. both (read_value q) (λ _. word (quote_char q ∷ [])))))))
+read_bare_parts =
+    both read_name (λ _. both read_space
+    (λ _. both (word (codes "="))
+    (λ _. both read_space (λ _. both read_quote (λ q. both (read_value q) (λ _. word (quote_char q ∷ [])))))))
 
 abbrev pub AttributeParts : Type 0
 AttributeParts = List ℕ × BareParts
@@ -59,7 +66,14 @@ abbrev pub read_attribute_parts : Reader AttributeParts
 read_attribute_parts = both (kept some_space read_space) (λ _. read_bare_parts)
 
 abbrev pub attribute_of : AttributeParts → Attribute
-attribute_of p = record { space = p.0; name = p.1.0; left = p.1.1.0; right = p.1.1.1.1.0; quote = p.1.1.1.1.1.0; value = p.1.1.1.1.1.1.0 }
+attribute_of p = record {
+  space = p.0;
+  name = p.1.0;
+  left = p.1.1.0;
+  right = p.1.1.1.1.0;
+  quote = p.1.1.1.1.1.0;
+  value = p.1.1.1.1.1.1.0;
+}
 
 unfoldable pub read_bare : Reader Attribute
 read_bare = mapped (λ p. attribute_of ([], p)) read_bare_parts
@@ -94,10 +108,14 @@ abbrev pub tag_of : Unit {0} × (List ℕ × (List Attribute × (List ℕ × Boo
 tag_of p = tag_item p.1.1.1.1 record { name = p.1.0; attributes = p.1.1.0; space = p.1.1.1.0 }
 
 unfoldable pub read_tag : Reader Item
-read_tag = mapped tag_of (both (word (codes "<")) (λ _. both read_name (λ _. both read_attributes (λ _. both read_space (λ _. read_close)))))
+read_tag =
+    mapped tag_of (both (word (codes "<"))
+    (λ _. both read_name (λ _. both read_attributes (λ _. both read_space (λ _. read_close)))))
 
 unfoldable pub read_end_tag : Reader Item
-read_end_tag = mapped (λ p. end_tag p.1.0 p.1.1.0) (both (word (codes "</")) (λ _. both read_name (λ _. both read_space (λ _. word (codes ">")))))
+read_end_tag =
+    mapped (λ p. end_tag p.1.0 p.1.1.0)
+    (both (word (codes "</")) (λ _. both read_name (λ _. both read_space (λ _. word (codes ">")))))
 
 -- ---- what runs up to a mark
 
@@ -120,7 +138,9 @@ unfoldable pub read_comment : Reader Item
 read_comment = mapped (λ p. leaf (Leaf.comment p.1.0)) (both (word (codes "<!--")) (λ _. read_comment_text))
 
 unfoldable pub read_cdata : Reader Item
-read_cdata = mapped (λ p. leaf (Leaf.cdata p.1.0)) (both (word (codes "<![CDATA[")) (λ _. both (read_until (codes "]]>")) (λ _. word (codes "]]>"))))
+read_cdata =
+    mapped (λ p. leaf (Leaf.cdata p.1.0))
+    (both (word (codes "<![CDATA[")) (λ _. both (read_until (codes "]]>")) (λ _. word (codes "]]>"))))
 
 abbrev pub is_xml : List ℕ → Bool
 is_xml target = bytes_eq (map to_ascii_lowercase target) (codes "xml")
@@ -133,7 +153,10 @@ instruction_of p = leaf (Leaf.instruction record { target = p.1.0; space = p.1.1
 
 unfoldable pub read_instruction : Reader Item
 read_instruction =
-    mapped instruction_of (both (word (codes "<?")) (λ _. kept parted (both (kept (λ n. not (is_xml n)) read_name) (λ _. both read_space (λ _. both (read_until (codes "?>")) (λ _. word (codes "?>")))))))
+    mapped instruction_of
+    (both (word (codes "<?"))
+    (λ _. kept parted (both (kept (λ n. not (is_xml n)) read_name)
+    (λ _. both read_space (λ _. both (read_until (codes "?>")) (λ _. word (codes "?>")))))))
 
 -- ---- the XML declaration
 
@@ -158,17 +181,25 @@ read_option_by name test false = mapped (λ _. None) (look_at (λ _. true))
 unfoldable pub read_option : List ℕ → (List ℕ → Bool) → Reader (Option Attribute)
 read_option name test = choose_by (begins_part name) (read_option_by name test)
 
-abbrev pub declaration_of : Unit {0} × (Attribute × (Option Attribute × (Option Attribute × (List ℕ × Unit {0})))) → Item
-declaration_of p = leaf (Leaf.declaration record { version = p.1.0; encoding = p.1.1.0; standalone = p.1.1.1.0; space = p.1.1.1.1.0 })
+abbrev pub declaration_of : Unit {0} × (Attribute × (Option Attribute × (Option Attribute × (List ℕ × Unit {0})))) →
+    Item
+declaration_of p =
+    leaf (Leaf.declaration record { version = p.1.0; encoding = p.1.1.0; standalone = p.1.1.1.0; space = p.1.1.1.1.0 })
 
 unfoldable pub read_declaration : Reader Item
 read_declaration =
-    mapped declaration_of (both (word (codes "<?xml")) (λ _. both (read_part (codes "version") is_version) (λ _. both (read_option (codes "encoding") is_encoding_name) (λ _. both (read_option (codes "standalone") is_yes_or_no) (λ _. both read_space (λ _. word (codes "?>")))))))
+    mapped declaration_of
+    (both (word (codes "<?xml"))
+    (λ _. both (read_part (codes "version") is_version)
+    (λ _. both (read_option (codes "encoding") is_encoding_name)
+    (λ _. both (read_option (codes "standalone") is_yes_or_no) (λ _. both read_space (λ _. word (codes "?>")))))))
 
 -- ---- the document type declaration
 
 unfoldable pub read_quoted : Quote → Reader (List ℕ)
-read_quoted q = mapped (λ p. p.1.0) (both (word (quote_char q ∷ [])) (λ _. both (run (λ c. is_char c && not (c == quote_char q))) (λ _. word (quote_char q ∷ []))))
+read_quoted q =
+    mapped (λ p. p.1.0) (both (word (quote_char q ∷ []))
+    (λ _. both (run (λ c. is_char c && not (c == quote_char q))) (λ _. word (quote_char q ∷ []))))
 
 pub data InnerForm : Type 0 where
   in_comment in_instruction : InnerForm
@@ -177,14 +208,18 @@ pub data InnerForm : Type 0 where
 
 unfoldable pub inner_form : List ℕ → InnerForm
 inner_form text =
-    cond (begins (codes "<!--") text) in_comment (cond (begins (codes "<?") text) in_instruction (cond (ascii_head text == 34) (in_quotes double) (cond (ascii_head text == 39) (in_quotes single) in_character)))
+    cond (begins (codes "<!--") text) in_comment
+    (cond (begins (codes "<?") text) in_instruction
+    (cond (ascii_head text == 34) (in_quotes double) (cond (ascii_head text == 39) (in_quotes single) in_character)))
 
 abbrev pub is_inner_char : ℕ → Bool
 is_inner_char c = is_char c && list_all (λ d. not (c == d)) (codes "\"']")
 
 abbrev pub read_inner_by : InnerForm → Reader SubsetUnit
 read_inner_by in_comment = mapped (λ p. SubsetUnit.comment p.1.0) (both (word (codes "<!--")) (λ _. read_comment_text))
-read_inner_by in_instruction = mapped (λ p. SubsetUnit.instruction p.1.0) (both (word (codes "<?")) (λ _. both (read_until (codes "?>")) (λ _. word (codes "?>"))))
+read_inner_by in_instruction =
+    mapped (λ p. SubsetUnit.instruction p.1.0)
+    (both (word (codes "<?")) (λ _. both (read_until (codes "?>")) (λ _. word (codes "?>"))))
 read_inner_by (in_quotes q) = mapped (SubsetUnit.quoted q) (read_quoted q)
 read_inner_by in_character = mapped SubsetUnit.char (one_of is_inner_char)
 
@@ -202,14 +237,17 @@ pub data UnitForm : Type 0 where
   with_subset with_character : UnitForm
 
 unfoldable pub unit_form : List ℕ → UnitForm
-unit_form text = cond (ascii_head text == 34) (with_quotes double) (cond (ascii_head text == 39) (with_quotes single) (cond (ascii_head text == 91) with_subset with_character))
+unit_form text =
+    cond (ascii_head text == 34) (with_quotes double)
+    (cond (ascii_head text == 39) (with_quotes single) (cond (ascii_head text == 91) with_subset with_character))
 
 abbrev pub is_unit_char : ℕ → Bool
 is_unit_char c = is_char c && list_all (λ d. not (c == d)) (codes "\"'[]<>")
 
 abbrev pub read_unit_by : UnitForm → Reader DoctypeUnit
 read_unit_by (with_quotes q) = mapped (DoctypeUnit.quoted q) (read_quoted q)
-read_unit_by with_subset = mapped (λ p. DoctypeUnit.subset p.1.0) (both (word (codes "[")) (λ _. both read_subset (λ _. word (codes "]"))))
+read_unit_by with_subset =
+    mapped (λ p. DoctypeUnit.subset p.1.0) (both (word (codes "[")) (λ _. both read_subset (λ _. word (codes "]"))))
 read_unit_by with_character = mapped DoctypeUnit.char (one_of is_unit_char)
 
 unfoldable pub read_unit : Reader DoctypeUnit
@@ -225,7 +263,9 @@ abbrev pub doctype_of : Unit {0} × (List ℕ × (List ℕ × (List DoctypeUnit 
 doctype_of p = leaf (Leaf.doctype record { space = p.1.0; name = p.1.1.0; units = p.1.1.1.0 })
 
 unfoldable pub read_doctype : Reader Item
-read_doctype = mapped doctype_of (both (word (codes "<!DOCTYPE")) (λ _. both (kept some_space read_space) (λ _. both read_name (λ _. both read_units (λ _. word (codes ">"))))))
+read_doctype =
+    mapped doctype_of (both (word (codes "<!DOCTYPE"))
+    (λ _. both (kept some_space read_space) (λ _. both read_name (λ _. both read_units (λ _. word (codes ">"))))))
 
 -- ---- texts
 
@@ -240,7 +280,9 @@ unfoldable pub read_pieces : Reader (List Piece)
 read_pieces = many in_text (read_piece (λ c. false))
 
 unfoldable pub read_text : Reader Item
-read_text = mapped (λ p. leaf (Leaf.text p.0)) (both (kept (λ ps. not (is_nil (written_pieces ps))) read_pieces) (λ _. look_at ends_text))
+read_text =
+    mapped (λ p. leaf (Leaf.text p.0))
+    (both (kept (λ ps. not (is_nil (written_pieces ps))) read_pieces) (λ _. look_at ends_text))
 
 -- ---- items
 
@@ -252,8 +294,11 @@ unfoldable pub item_form : List ℕ → ItemForm
 item_form text =
     cond (begins (codes "<") text)
     (cond (begins (codes "/") (drop 1 text)) as_end_tag
-    (cond (begins (codes "?") (drop 1 text)) (cond (is_name_read (codes "xml") (read_name (drop 2 text))) as_declaration as_instruction)
-    (cond (begins (codes "!") (drop 1 text)) (cond (begins (codes "-") (drop 2 text)) as_comment (cond (begins (codes "[") (drop 2 text)) as_cdata as_doctype)) as_tag)))
+    (cond (begins (codes "?") (drop 1 text))
+    (cond (is_name_read (codes "xml") (read_name (drop 2 text))) as_declaration as_instruction)
+    (cond (begins (codes "!") (drop 1 text))
+    (cond (begins (codes "-") (drop 2 text)) as_comment
+    (cond (begins (codes "[") (drop 2 text)) as_cdata as_doctype)) as_tag)))
     as_text
 
 abbrev pub read_by : Bool → ItemForm → Reader Item

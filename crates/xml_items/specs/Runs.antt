@@ -1,4 +1,4 @@
--- Over which bytes a run goes on.
+-- What private functions promise: over which bytes a run goes on.
 use Rattle.std.specs.Prelude.{ℕ, Bool}
 use Rattle.xml_items.specs.declared.classes.Stops.{Stops}
 use Rattle.xml_items.specs.Plain.{is_run_byte}

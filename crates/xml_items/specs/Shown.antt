@@ -1,8 +1,9 @@
--- An item as code hands it out: its kind, and spans in the bytes.
+-- What callers read: an item as code hands it out, by its kind and its spans in the bytes.
 use Rattle.std.specs.Prelude.{◌≡◌, ℕ, ◌+◌, Bool, true, false, List, ◌++◌, length}
 use Rattle.xml_model.specs.declared.Span.{Span}
 use Rattle.xml_model.specs.Chars.{size}
-use Rattle.xml_model.specs.Items.{Tag, Leaf, Item, leaf, start_tag, empty_tag, end_tag, text, cdata, declaration, doctype, written_pieces, written_attributes, written_units, spelling, begins_at}
+use Rattle.xml_model.specs.Items.{Tag, Leaf, Item, leaf, start_tag, empty_tag, end_tag, text, cdata, declaration}
+use Rattle.xml_model.specs.Items.{doctype, written_pieces, written_attributes, written_units, spelling, begins_at}
 use Rattle.xml_model.specs.Records.{declaration_attributes}
 use Rattle.xml_chars.specs.Places.{span_from, IsTextSpan}
 use Rattle.xml_items.specs.declared.ItemKind.{ItemKind}
@@ -52,7 +53,13 @@ item_content at (empty_tag t) = tag_content at t
 item_content at (end_tag name space) = span_from (at + 2 + size name) space
 
 abbrev pub item_shown : ℕ → Item → ItemShown
-item_shown at i = record { kind = item_kind i; span = record { start = at; end = at + length (spelling i) }; name = item_name at i; content = item_content at i }
+item_shown at i =
+    record {
+      kind = item_kind i;
+      span = record { start = at; end = at + length (spelling i) };
+      name = item_name at i;
+      content = item_content at i;
+    }
 
 -- the item that begins at the place
 pub record IsItemAt (bytes : List ℕ) (at : ℕ) (found : ItemShown) : Type 0 where

@@ -1,4 +1,4 @@
--- What follows each part of an attribute that was read.
+-- What private functions promise: what follows each part of an attribute that was read.
 use Rattle.std.specs.Prelude.{List, ◌∷◌, ◌++◌, ℕ}
 use Rattle.std.specs.Str.{chars}
 use Rattle.xml_model.specs.Items.{Attribute, quote_char, written_pieces}
@@ -24,8 +24,22 @@ abbrev pub after_space_of : Attribute → List ℕ → List ℕ
 after_space_of a rest = a.name ++ after_name_of a rest
 
 abbrev pub suffixes : Attribute × List ℕ → Suffixes
-suffixes p = record { after_space = after_space_of p.0 p.1; after_name = after_name_of p.0 p.1; value = value_of p.0 p.1; after_value = after_value_of p.0 p.1; rest = p.1 }
+suffixes p =
+    record {
+      after_space = after_space_of p.0 p.1;
+      after_name = after_name_of p.0 p.1;
+      value = value_of p.0 p.1;
+      after_value = after_value_of p.0 p.1;
+      rest = p.1;
+    }
 
--- the same of what code hands out
+-- what follows each part of what code hands out
 abbrev pub suffixes_seen : AttributeText → Suffixes
-suffixes_seen f = record { after_space = chars f.after_space.now; after_name = chars f.after_name.now; value = chars f.value.now; after_value = chars f.after_value.now; rest = chars f.rest.now }
+suffixes_seen f =
+    record {
+      after_space = chars f.after_space.now;
+      after_name = chars f.after_name.now;
+      value = chars f.value.now;
+      after_value = chars f.after_value.now;
+      rest = chars f.rest.now;
+    }

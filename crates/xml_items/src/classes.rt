@@ -94,7 +94,8 @@ const BLOCK: usize = 32;
 /// What follows the whole blocks at the start over which a run goes on.
 #[inline(always)]
 fn after_blocks(bytes: &[u8], stops: Stops) -> &[u8]
-    ensures run { prefix_len (goes_on stops) bytes.now ≡ length bytes.now - length result.now + prefix_len (goes_on stops) result.now }
+    ensures run { prefix_len (goes_on stops) bytes.now ≡ length bytes.now - length result.now + prefix_len
+        (goes_on stops) result.now }
     ensures shorter { length result.now ≤ length bytes.now }
 {
     let mut rest = bytes;

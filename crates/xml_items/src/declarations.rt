@@ -1,7 +1,8 @@
 //! The XML declaration (XML 1.0, productions 23 to 26, 32, 80 and 81).
 #![tactic(auto)]
 
-ghost use Rattle.std.specs.Prelude.{◌≡◌, ◌≤◌, ◌<◌, ◌+◌, ◌^◌, ◌&&◌, not, true, length, nat_lt, cond, option_map, IfSome, codes, bytes_eq};
+ghost use Rattle.std.specs.Prelude.{◌≡◌, ◌≤◌, ◌<◌, ◌+◌, ◌^◌, ◌&&◌, not, true, length, nat_lt, cond, option_map, IfSome};
+ghost use Rattle.std.specs.Prelude.{codes, bytes_eq};
 ghost use Rattle.std.specs.List.{list_all};
 ghost use Rattle.std.specs.Char.{is_ascii_digit};
 ghost use Rattle.std.specs.Option.{option_copied};
@@ -10,7 +11,7 @@ ghost use Rattle.xml_model.specs.Items.{is_nil, is_letter, is_version, is_encodi
 ghost use Rattle.xml_chars.specs.Readers.{Gives, skip, mapped};
 ghost use Rattle.xml_items.specs.Reading.{begins_part, read_part, read_option, read_declaration};
 ghost use Rattle.xml_items.specs.Parts.{read_named, value_text, is_encoding_char};
-ghost use Rattle.xml_items.specs.Counted.{counted_shown};
+ghost use Rattle.xml_items.specs.Counting.{counted_shown};
 
 use crate::spans::span_between;
 use crate::tags::attribute_of;
@@ -111,7 +112,8 @@ fn is_yes_or_no(text: &str) -> bool
 /// The value of the part of that name at the start, and what follows the part.
 fn part_of<'a>(text: &'a str, name: &str) -> Option<(&'a str, &'a str)>
     requires { list_all (λ b. nat_lt b 128) name.now ≡ true }
-    ensures read { Gives (λ x. (chars x.0.now, chars x.1.now)) result (mapped value_text (read_named name.now) (chars text.now)) }
+    ensures read { Gives (λ x. (chars x.0.now, chars x.1.now)) result
+        (mapped value_text (read_named name.now) (chars text.now)) }
     ensures shorter { IfSome result (λ x. length x.1.now ≤ length text.now) }
 {
     let part = attribute_of(text)?;
@@ -141,7 +143,8 @@ fn begins_part(text: &str, name: &str) -> bool
 
 /// What follows the version at the start.
 fn after_version(text: &str) -> Option<&str>
-    ensures read { option_map chars (option_copied result) ≡ skip (read_part (codes "version") is_version) (chars text.now) }
+    ensures read { option_map chars (option_copied result) ≡ skip (read_part (codes "version") is_version)
+        (chars text.now) }
     ensures shorter { IfSome result (λ r. length r.now ≤ length text.now) }
 {
     let (value, rest) = part_of(text, "version")?;
@@ -150,7 +153,8 @@ fn after_version(text: &str) -> Option<&str>
 
 /// What follows the encoding at the start, which may be left out.
 fn after_encoding(text: &str) -> Option<&str>
-    ensures read { option_map chars (option_copied result) ≡ skip (read_option (codes "encoding") is_encoding_name) (chars text.now) }
+    ensures read { option_map chars (option_copied result) ≡ skip (read_option (codes "encoding") is_encoding_name)
+        (chars text.now) }
     ensures shorter { IfSome result (λ r. length r.now ≤ length text.now) }
 {
     if !begins_part(text, "encoding") {
@@ -166,7 +170,8 @@ fn after_encoding(text: &str) -> Option<&str>
 
 /// What follows the standalone part at the start, which may be left out.
 fn after_standalone(text: &str) -> Option<&str>
-    ensures read { option_map chars (option_copied result) ≡ skip (read_option (codes "standalone") is_yes_or_no) (chars text.now) }
+    ensures read { option_map chars (option_copied result) ≡ skip (read_option (codes "standalone") is_yes_or_no)
+        (chars text.now) }
     ensures shorter { IfSome result (λ r. length r.now ≤ length text.now) }
 {
     if !begins_part(text, "standalone") {

@@ -8,7 +8,9 @@ ghost use Rattle.xml_model.specs.Chars.{is_char};
 ghost use Rattle.xml_model.specs.Items.{quote_char};
 ghost use Rattle.xml_chars.specs.Readers.{skip, one_of, after_run};
 ghost use Rattle.xml_items.specs.Quotes.{quote_of};
-ghost use Rattle.xml_items.specs.Reading.{read_quoted, in_comment, in_instruction, in_character, with_subset, with_character, read_inner_by, read_unit_by, is_inner_char, is_unit_char, read_inner, read_subset, read_unit, read_units, read_doctype};
+ghost use Rattle.xml_items.specs.Reading.{read_quoted, in_comment, in_instruction, in_character, with_subset};
+ghost use Rattle.xml_items.specs.Reading.{with_character, read_inner_by, read_unit_by, is_inner_char, is_unit_char};
+ghost use Rattle.xml_items.specs.Reading.{read_inner, read_subset, read_unit, read_units, read_doctype};
 ghost use Rattle.xml_items.specs.Shown.{item_shown};
 
 use crate::marks::{find_past_chars, holds};
@@ -21,7 +23,8 @@ use xml_chars::text::{head, space_of, step, word_of};
 
 /// What follows the first character, where it is a Char other than the quote.
 fn after_quoted_char(text: &str, quote: u8) -> Option<&str>
-    ensures read { option_map chars (option_copied result) ≡ skip (one_of (λ c. is_char c && not (c == quote))) (chars text.now) }
+    ensures read { option_map chars (option_copied result) ≡ skip (one_of (λ c. is_char c && not (c == quote)))
+        (chars text.now) }
     ensures shorter { IfSome result (λ r. length r.now < length text.now) }
 {
     let (c, rest) = step(text)?;

@@ -1,14 +1,16 @@
 //! The items of a document: texts, tags, comments and the rest (XML 1.0, productions 14 to 44).
 #![tactic(auto)]
 
-ghost use Rattle.std.specs.Prelude.{◌≡◌, ◌≢◌, ◌==◌, ◌<◌, ◌+◌, ◌^◌, ◌↔◌, List, ℕ, drop, true, length, option_map, codes, Some, IfOk, IfErr, IfSome};
+ghost use Rattle.std.specs.Prelude.{◌≡◌, ◌≢◌, ◌==◌, ◌<◌, ◌+◌, ◌^◌, ◌↔◌, List, ℕ, drop, true, length, option_map, codes};
+ghost use Rattle.std.specs.Prelude.{Some, IfOk, IfErr, IfSome};
 ghost use Rattle.std.specs.Str.{chars, IsUtf8, IsCharBoundary};
 ghost use Rattle.xml_model.specs.Items.{first_place};
 ghost use Rattle.xml_chars.specs.Readers.{word};
 ghost use Rattle.xml_chars.specs.Reading.{ascii_head, read_name};
 ghost use Rattle.xml_items.specs.Reading.{is_name_read, read_item};
 ghost use Rattle.xml_items.specs.Shown.{IsItemAt, HasNoItem, HasTextSpans};
-ghost use Rattle.xml_items.specs.Counted.{counted_shown, with_count, IsCountedAt};
+ghost use Rattle.xml_items.specs.Counted.{IsCountedAt};
+ghost use Rattle.xml_items.specs.Counting.{counted_shown, with_count};
 
 mod attributes;
 mod classes;
@@ -32,7 +34,7 @@ use xml_chars::text::{head, step, text_at, word_of};
 use xml_model::Span;
 
 /// The kinds of items.
-#[derive(Clone, Copy, Debug, PartialEq, Eq)]
+#[derive(Clone, Copy, Debug, PartialEq)]
 pub enum ItemKind {
     Text,
     StartTag,
@@ -46,7 +48,7 @@ pub enum ItemKind {
 }
 
 /// An item, by places in the document's bytes.
-#[derive(Clone, Copy, Debug, PartialEq, Eq)]
+#[derive(Clone, Copy, Debug, PartialEq)]
 pub struct Item {
     pub kind: ItemKind,
     /// The whole item.
@@ -60,7 +62,7 @@ pub struct Item {
 }
 
 /// An item with the number of its attributes.
-#[derive(Clone, Copy, Debug, PartialEq, Eq)]
+#[derive(Clone, Copy, Debug, PartialEq)]
 pub struct Counted {
     pub item: Item,
     /// The number of attributes of a tag, or of parts of the XML declaration; 0 for the others.
@@ -68,19 +70,19 @@ pub struct Counted {
 }
 
 /// No item begins at the place.
-#[derive(Clone, Copy, Debug, PartialEq, Eq)]
+#[derive(Clone, Copy, Debug, PartialEq)]
 pub struct ItemFault;
 
 /// An attribute of a tag, or a part of the XML declaration, by places in the document's bytes.
-#[derive(Clone, Copy, Debug, PartialEq, Eq)]
+#[derive(Clone, Copy, Debug, PartialEq)]
 pub struct AttributeItem {
     pub name: Span,
     /// What is between the quotes.
     pub value: Span,
 }
 
-/// The first place of the document, where its items begin: that after a byte order mark, which belongs to no item, or its
-/// start (XML 1.0, section 4.3.3).
+/// The first place of the document, where its items begin: that after a byte order mark, which belongs to no item, or
+/// its start (XML 1.0, section 4.3.3).
 pub fn first_place(bytes: &[u8]) -> u32
     ensures { result ≡ first_place bytes.now }
 {
@@ -129,8 +131,8 @@ fn without_attributes(item: Option<Item>) -> Option<Counted>
     })
 }
 
-/// The item at the start of a text that begins at the place with `<?`, which is the document's first place or is not. What
-/// follows the `<` is `rest`.
+/// The item at the start of a text that begins at the place with `<?`, which is the document's first place or is not.
+/// What follows the `<` is `rest`.
 fn question_item_of(text: &str, rest: &str, at: u32, first: bool) -> Option<Counted>
     requires room { at + length text.now < 2 ^ 32 }
     requires rest { word (codes "<") (chars text.now) ≡ Some (tt, chars rest.now) }
@@ -182,8 +184,8 @@ fn marked_item_of(text: &str, rest: &str, at: u32, first: bool) -> Option<Counte
     tag_at(text, at)
 }
 
-/// The item at the start of a text that begins at the place, which is the document's first place or is not. A rarer item is
-/// copied from where it is read into, so that texts and tags need not be stored.
+/// The item at the start of a text that begins at the place, which is the document's first place or is not. A rarer
+/// item is copied from where it is read into, so that texts and tags need not be stored.
 #[inline(always)]
 fn item_of(text: &str, at: u32, first: bool) -> Option<Counted>
     requires { at + length text.now < 2 ^ 32 }
@@ -203,9 +205,9 @@ fn item_of(text: &str, at: u32, first: bool) -> Option<Counted>
     tag_at(text, at)
 }
 
-/// The item that begins at the place, with the number of its attributes: `Ok(None)` exactly at the end, and `Err` exactly
-/// where the place is before the end and no item begins there. It is always inlined, so that the parts of the item need not
-/// be stored.
+/// The item that begins at the place, with the number of its attributes: `Ok(None)` exactly at the end, and `Err`
+/// exactly where the place is before the end and no item begins there. It is always inlined, so that the parts of the
+/// item need not be stored.
 #[inline(always)]
 pub fn next_counted(bytes: &[u8], at: u32) -> Result<Option<Counted>, ItemFault>
     requires utf8 { IsUtf8 bytes.now }
@@ -229,8 +231,8 @@ pub fn next_counted(bytes: &[u8], at: u32) -> Result<Option<Counted>, ItemFault>
     }
 }
 
-/// The item that begins at the place: `Ok(None)` exactly at the end, and `Err` exactly where the place is before the end
-/// and no item begins there.
+/// The item that begins at the place: `Ok(None)` exactly at the end, and `Err` exactly where the place is before the
+/// end and no item begins there.
 #[inline]
 pub fn next_item(bytes: &[u8], at: u32) -> Result<Option<Item>, ItemFault>
     requires utf8 { IsUtf8 bytes.now }

@@ -1,7 +1,8 @@
 //! Comments, CDATA sections and instructions at the start of a text (XML 1.0, productions 15 to 21).
 #![tactic(auto)]
 
-ghost use Rattle.std.specs.Prelude.{◌≡◌, ◌≤◌, ◌<◌, ◌+◌, ◌^◌, ◌==◌, ◌||◌, not, true, length, nat_lt, slice_index, option_map, IfSome};
+ghost use Rattle.std.specs.Prelude.{◌≡◌, ◌≤◌, ◌<◌, ◌+◌, ◌^◌, ◌==◌, ◌||◌, not, true, length, nat_lt, slice_index};
+ghost use Rattle.std.specs.Prelude.{option_map, IfSome};
 ghost use Rattle.std.specs.List.{list_all};
 ghost use Rattle.std.specs.Option.{option_copied};
 ghost use Rattle.std.specs.Str.{chars};
@@ -50,7 +51,7 @@ fn find<'a>(text: &'a str, mark: &str, first: u8) -> Option<&'a str>
     Some(rest)
 }
 
-/// The same, where all characters before the mark may be in a document.
+/// The text from the first place on where the mark is, where all characters before it may be in a document.
 pub fn find_past_chars<'a>(text: &'a str, mark: &str, first: u8) -> Option<&'a str>
     requires ascii { list_all (λ b. nat_lt b 128) mark.now ≡ true }
     requires first { (first < 128) × (0 < length mark.now) × (slice_index mark.now 0 ≡ first) }

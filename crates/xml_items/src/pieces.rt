@@ -10,7 +10,8 @@ ghost use Rattle.xml_model.specs.Items.{quote_char};
 ghost use Rattle.xml_chars.specs.Readers.{skip, after_run};
 ghost use Rattle.xml_chars.specs.Reading.{read_reference};
 ghost use Rattle.xml_items.specs.Plain.{is_plain_text, is_plain_value, is_plain_char};
-ghost use Rattle.xml_items.specs.Reading.{is_literal, read_piece, ends_text, in_text, read_pieces, ends_value, in_value, read_value};
+ghost use Rattle.xml_items.specs.Reading.{is_literal, read_piece, ends_text, in_text, read_pieces, ends_value};
+ghost use Rattle.xml_items.specs.Reading.{in_value, read_value};
 ghost use Rattle.xml_items.specs.Quotes.{quote_of};
 
 use crate::classes::{plain_char_len, plain_text_len, plain_value_len};
@@ -82,7 +83,8 @@ fn after_text_piece(text: &str) -> Option<&str>
 /// What follows the piece at the start of a value that the quote ends.
 fn after_value_piece(text: &str, quote: u8) -> Option<&str>
     requires { quote_char (quote_of quote) ≡ quote }
-    ensures read { option_map chars (option_copied result) ≡ skip (read_piece (ends_value (quote_of quote))) (chars text.now) }
+    ensures read { option_map chars (option_copied result) ≡ skip (read_piece (ends_value (quote_of quote)))
+        (chars text.now) }
     ensures shorter { IfSome result (λ r. length r.now < length text.now) }
 {
     if head(text) == b'&' {
@@ -149,8 +151,8 @@ pub fn after_pieces(text: &str) -> Option<&str>
     }
 }
 
-/// What follows the pieces of a value that the quote ends, whatever they are, up to the quote; None where one of them is
-/// wrong.
+/// What follows the pieces of a value that the quote ends, whatever they are, up to the quote; None where one of them
+/// is wrong.
 #[inline(never)]
 fn after_any_value(text: &str, quote: u8) -> Option<&str>
     requires { quote_char (quote_of quote) ≡ quote }

@@ -11,7 +11,8 @@ pub fn span_between(at: u32, text: &str, from: &str, to: &str) -> Span
     requires room { at + length text.now < 2 ^ 32 }
     requires from { length from.now ≤ length text.now }
     requires to { length to.now ≤ length from.now }
-    ensures { result ≡ record { start = at + (length text.now - length from.now); end = at + (length text.now - length to.now) } }
+    ensures { result ≡ record
+        { start = at + (length text.now - length from.now); end = at + (length text.now - length to.now) } }
 {
     Span {
         start: at + (text.len() - from.len()) as u32,

@@ -7,9 +7,10 @@ ghost use Rattle.std.specs.Str.{chars};
 ghost use Rattle.xml_model.specs.Items.{quote_char};
 ghost use Rattle.xml_chars.specs.Readers.{Gives, skip, word};
 ghost use Rattle.xml_items.specs.Quotes.{quote_of};
-ghost use Rattle.xml_items.specs.Reading.{read_quote, read_bare, read_attribute, read_attributes, read_close, read_tag, read_end_tag};
+ghost use Rattle.xml_items.specs.Reading.{read_quote, read_bare, read_attribute, read_attributes, read_close, read_tag};
+ghost use Rattle.xml_items.specs.Reading.{read_end_tag};
 ghost use Rattle.xml_items.specs.Shown.{item_shown, tag_kind};
-ghost use Rattle.xml_items.specs.Counted.{counted, counted_shown};
+ghost use Rattle.xml_items.specs.Counting.{counted, counted_shown};
 ghost use Rattle.xml_items.specs.Suffixes.{suffixes, suffixes_seen};
 
 use crate::pieces::after_value;
@@ -59,8 +60,11 @@ pub struct AttributeText<'a> {
 #[inline(always)]
 pub fn bare_attribute_of(text: &str) -> Option<AttributeText<'_>>
     ensures read { Gives suffixes_seen result (option_map suffixes (read_bare (chars text.now))) }
-    ensures first { IfSome result (λ f. (length f.after_space.now ≡ length text.now) × (length f.after_name.now ≤ length f.after_space.now)) }
-    ensures later { IfSome result (λ f. (length f.value.now < length f.after_name.now) × (length f.after_value.now ≤ length f.value.now) × (length f.rest.now < length f.after_value.now)) }
+    ensures first { IfSome result
+        (λ f. (length f.after_space.now ≡ length text.now) × (length f.after_name.now ≤ length f.after_space.now)) }
+    ensures later { IfSome result
+        (λ f. (length f.value.now < length f.after_name.now) × (length f.after_value.now ≤ length f.value.now) ×
+        (length f.rest.now < length f.after_value.now)) }
 {
     let (_, after_name) = name_of(text)?;
     let (_, rest) = space_of(after_name);
@@ -81,8 +85,11 @@ pub fn bare_attribute_of(text: &str) -> Option<AttributeText<'_>>
 /// The attribute at the start, with the white space before it; None where none begins the text.
 pub fn attribute_of(text: &str) -> Option<AttributeText<'_>>
     ensures read { Gives suffixes_seen result (option_map suffixes (read_attribute (chars text.now))) }
-    ensures first { IfSome result (λ f. (length f.after_space.now ≤ length text.now) × (length f.after_name.now ≤ length f.after_space.now)) }
-    ensures later { IfSome result (λ f. (length f.value.now < length f.after_name.now) × (length f.after_value.now ≤ length f.value.now) × (length f.rest.now < length f.after_value.now)) }
+    ensures first { IfSome result
+        (λ f. (length f.after_space.now ≤ length text.now) × (length f.after_name.now ≤ length f.after_space.now)) }
+    ensures later { IfSome result
+        (λ f. (length f.value.now < length f.after_name.now) × (length f.after_value.now ≤ length f.value.now) ×
+        (length f.rest.now < length f.after_value.now)) }
 {
     let (space, after_space) = space_of(text);
     if space.is_empty() {

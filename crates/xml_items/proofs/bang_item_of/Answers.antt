@@ -2,7 +2,7 @@ use Rattle.std.proofs.Common.{◌∙◌, sym, ap}
 use Rattle.std.specs.Prelude.{option_map}
 use Rattle.std.specs.Str.{chars}
 use Rattle.xml_chars.specs.Reading.{ascii_head}
-use Rattle.xml_items.specs.Counted.{with_count}
+use Rattle.xml_items.specs.Counting.{with_count}
 use Rattle.xml_items.specs.Reading.{as_comment, as_cdata, as_doctype}
 use Rattle.xml_items.proofs.CountLemmas.{comment_counts, cdata_counts, doctype_counts}
 use Rattle.xml_items.proofs.WalkLemmas.{by_form, form_comment, form_cdata, form_doctype}

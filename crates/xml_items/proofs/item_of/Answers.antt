@@ -1,7 +1,7 @@
 use Rattle.std.proofs.Common.{◌∙◌, sym, ap}
 use Rattle.std.specs.Prelude.{option_map}
 use Rattle.std.specs.Str.{chars}
-use Rattle.xml_items.specs.Counted.{with_count}
+use Rattle.xml_items.specs.Counting.{with_count}
 use Rattle.xml_items.specs.Reading.{as_text, as_tag, as_end_tag}
 use Rattle.xml_items.proofs.CountLemmas.{text_counts, end_counts}
 use Rattle.xml_items.proofs.WalkLemmas.{by_form, form_text, form_end, form_tag}

@@ -2,7 +2,7 @@ use Rattle.std.proofs.Common.{◌∙◌, sym, ap, true, false, Bool}
 use Rattle.std.specs.Prelude.{codes, option_map}
 use Rattle.std.specs.Str.{chars}
 use Rattle.xml_chars.specs.Reading.{read_name}
-use Rattle.xml_items.specs.Counted.{with_count}
+use Rattle.xml_items.specs.Counting.{with_count}
 use Rattle.xml_items.specs.Reading.{is_name_read, as_instruction, as_declaration, read_by}
 use Rattle.xml_items.proofs.CountLemmas.{counts, instruction_counts}
 use Rattle.xml_items.proofs.WalkLemmas.{by_form, form_question}

@@ -23,7 +23,9 @@ impl<'a> Attributes<'a> {
         requires size { length bytes.now < 2 ^ 32 }
         requires kind { has_attributes item.kind ≡ true }
         requires answered { IsItemAt bytes.now item.span.start item }
-        ensures { (i : ModelItem) → begins_at bytes.now item.span.start i ≡ true → item ≡ item_shown item.span.start i → attributes_left result ≡ attributes_shown item.content.start (item_attributes i) }
+        ensures { (i : ModelItem) → begins_at bytes.now item.span.start i ≡ true →
+            item ≡ item_shown item.span.start i →
+            attributes_left result ≡ attributes_shown item.content.start (item_attributes i) }
     {
         Attributes {
             rest: text_at(bytes, item.content.start),

@@ -2,7 +2,7 @@ use Rattle.std.proofs.Common.{◌≡◌, ◌≤◌, ◌+◌, length}
 use Rattle.std.specs.Prelude.{option_map}
 use Rattle.std.specs.Str.{chars, IsUtf8}
 use Rattle.xml_items.specs.Reading.{read_attributes}
-use Rattle.xml_items.specs.Counted.{counted_from, counted}
+use Rattle.xml_items.specs.Counting.{counted_from, counted}
 use Rattle.xml_items.proofs.tags.after_attributes.Given as goal
 
 abbrev pub invariant-loop-space : goal.invariant-loop-space
