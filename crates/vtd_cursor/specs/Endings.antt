@@ -1,4 +1,5 @@
--- Where pieces of a document begin and end, by its records and its bytes (this project's own).
+-- Where pieces of a document begin and end, by its records and its bytes (this project's own): what private functions
+-- promise.
 use Rattle.std.specs.Prelude.{◌≡◌, ℕ, zero, suc, ◌+◌, ◌<◌, ◌≤◌, Bool, true, false, cond, not, ◌||◌, ◌==◌, List, length}
 use Rattle.xml_model.specs.Items.{Tag, Item, leaf, end_tag, begins_at, spelling}
 use Rattle.xml_model.specs.Records.{Record, kind_number}
