@@ -37,7 +37,7 @@ pub record EndTagAt (bytes : List ℕ) (at : ℕ) : Type 0 where
   pub space : List ℕ
   pub begins : begins_at bytes at (end_tag name space) ≡ true
 
--- so many end tags stand one after another, from a place to another
+-- so many end tags follow one another, from a place to another
 abbrev pub EndTags : List ℕ → ℕ → ℕ → ℕ → Type 0
 EndTags bytes zero from to = from ≡ to
 EndTags bytes (suc n) from to =
@@ -70,7 +70,7 @@ pub record HasTagOf (bytes words : List ℕ) (n : ℕ) : Type 0 where
   pub tag : Tag
   pub is : IsTagOf bytes rs n at closed tag
 
--- an item with a < in front: a tag of any kind
+-- an item that begins with a <: a tag of any kind
 abbrev pub is_tag_item : Item → Bool
 is_tag_item (leaf x) = false
 is_tag_item _ = true
