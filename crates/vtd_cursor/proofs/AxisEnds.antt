@@ -4,7 +4,7 @@ use Rattle.std.specs.List.{Contains}
 use Rattle.std.proofs.lemmas.Grind.{reverse_onto}
 use Rattle.xml_model.specs.Tree.{Entry}
 use Rattle.xml_model.specs.declared.Node.{Node}
-use Rattle.xml_model.proofs.Each.{Pairs, each_at, contains_here, contains_next}
+use Rattle.xml_model.proofs.Each.{each_at, contains_here, contains_next}
 use Rattle.xml_model.specs.Contexts.{Rises}
 use Rattle.xml_model.proofs.Filters.{none_of}
 use Rattle.vtd_words.specs.Table.{node_of}

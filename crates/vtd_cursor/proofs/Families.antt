@@ -1,19 +1,13 @@
 -- What is in a node, by levels of records: the walks over a level find the ends of axes.
-use Rattle.std.proofs.Common.{◌≡◌, ℕ, suc, ◌<◌, ◌≤◌, Bool, true, false, cond, ◌&&◌, ◌||◌, ◌==◌, List, length, refl, ap, ap₂, sym, ◌∙◌, arith, filter, Option, Some, None, inl, inr, nat_lt, eq-eqb, eqb-true, lt-ltb, ltb-true}
+use Rattle.std.proofs.Common.{◌≡◌, ℕ, suc, ◌<◌, ◌≤◌, Bool, true, List, ap, sym, ◌∙◌, arith, filter, Option, Some, None, inl, inr}
 use Rattle.std.specs.List.{Contains}
-use Rattle.std.proofs.lemmas.Bool.{cases_lt, false≢true, and_parts}
+use Rattle.std.proofs.lemmas.Bool.{cases_lt}
 use Rattle.xml_model.specs.declared.Node.{Node}
-use Rattle.xml_model.specs.Items.{first_place}
-use Rattle.xml_model.specs.Records.{Record, document, records, named, tag_records, attributes_records, attributes_place, forest_records, past_start}
+use Rattle.xml_model.specs.Records.{Record}
 use Rattle.xml_model.specs.Tree.{Thing, Entry}
-use Rattle.xml_model.specs.Scan.{level_of, record_at, is_run, Passes}
-use Rattle.xml_model.specs.Laws.{is_under, is_one_under, nodes_above, is_child_thing, is_attribute_thing, is_root_thing, records_of}
-use Rattle.xml_model.proofs.Each.{each_more}
-use Rattle.xml_model.proofs.Fits.{Ends}
-use Rattle.xml_model.proofs.Levels.{FromLevel, leaf_from, level_at}
+use Rattle.xml_model.specs.Scan.{level_of, record_at, Passes}
 use Rattle.vtd_cursor.specs.Moves.{first_of, last_of}
 use Rattle.vtd_cursor.specs.Searches.{IsWanted, FirstFrom, LastBefore}
-use Rattle.xml_model.specs.Contexts.{Rises}
 use Rattle.xml_model.proofs.Filters.{none_of}
 use Rattle.xml_model.proofs.Inside.{Holds, RecordsShow}
 use Rattle.vtd_cursor.proofs.AxisEnds.{first_is, last_is}
@@ -64,4 +58,3 @@ last_meets P want pass rs es z level end k h a b m some low passes (Some node) f
       ])
     ] in
     ap (λ n. Some n) f.shown ∙ sym (last_is P es k.rises y f.there (m.back y f.there f.is after f.before) (λ x c p. let q = m.out x c p in f.greatest x c q.0 q.2))
-

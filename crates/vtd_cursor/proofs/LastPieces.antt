@@ -2,12 +2,11 @@
 use Rattle.std.proofs.Common.{◌≡◌, ℕ, zero, suc, ◌+◌, ◌-◌, ◌<◌, Bool, true, false, cond, not, List, [], ◌∷◌, ◌++◌, length, refl, ap, sym, ◌∙◌, subst, arith, append-nil, length-append, add-zero, add-one}
 use Rattle.std.specs.Prelude.{codes}
 use Rattle.std.specs.List.{AllByRecursion as Each}
-use Rattle.std.proofs.lemmas.List.{get_or_append_left, get_or-append-add}
 use Rattle.std.proofs.lemmas.Bool.{false≢true}
 use Rattle.xml_model.specs.Chars.{size}
 use Rattle.xml_model.specs.Items.{Attribute, Tag, Instruction, Leaf, end_tag, begins_at, spelling, written_attribute, written_pieces, written_leaf, written_end, before_value, start_tag}
 use Rattle.xml_model.specs.Nest.{Forest, done, single, empty, element, is_content_leaf}
-use Rattle.xml_model.specs.Records.{Record, document, named, plain, declares, attributes_records, attributes_place, tag_records, leaf_records, forest_records, past_leaf, past_empty, past_start, past_forest, past_element}
+use Rattle.xml_model.specs.Records.{Record, named, plain, declares, attributes_records, attributes_place, tag_records, leaf_records, forest_records, past_leaf, past_empty, past_start, past_forest, past_element}
 use Rattle.xml_model.specs.Tree.{one_if}
 use Rattle.xml_model.specs.Scan.{record_at}
 use Rattle.xml_model.proofs.Inside.{each_record, in_place}

@@ -1,5 +1,5 @@
 -- The ends of the axes of a node, as the walks find them.
-use Rattle.std.proofs.Common.{◌≡◌, ℕ, suc, ◌+◌, ◌<◌, ◌≤◌, ◌⊎◌, Bool, true, false, cond, not, ◌&&◌, ◌||◌, ◌==◌, List, [], ◌∷◌, length, filter, refl, ap, ap₂, sym, ◌∙◌, subst, arith, Option, Some, None, IsNone, IfSome, inl, inr, nat_lt, lt-ltb, ltb-true, eqb-true, leb-true}
+use Rattle.std.proofs.Common.{◌≡◌, ℕ, suc, ◌+◌, ◌<◌, ◌≤◌, Bool, true, false, cond, not, ◌&&◌, ◌||◌, ◌==◌, List, [], ◌∷◌, length, filter, refl, ap, ap₂, sym, ◌∙◌, subst, arith, Option, Some, None, IsNone, IfSome, inl, inr, nat_lt, lt-ltb, ltb-true, eqb-true, leb-true}
 use Rattle.std.specs.List.{Contains}
 use Rattle.std.proofs.lemmas.Bool.{cases_lt, false≢true, and_parts, and_from}
 use Rattle.xml_model.specs.declared.Kind.{Kind}
@@ -9,12 +9,10 @@ use Rattle.xml_model.specs.declared.Axis.TheVariants as axes
 use Rattle.xml_model.specs.Items.{first_place}
 use Rattle.xml_model.specs.Nest.{Forest}
 use Rattle.xml_model.specs.Records.{Record, records}
-use Rattle.xml_model.specs.Tree.{Thing, Entry, Path, Identifies, before, steps, steps_under, step_eq, is_some_steps, kind_of, on_axis, axis_list}
+use Rattle.xml_model.specs.Tree.{Thing, Entry, Identifies, before, kind_of, on_axis, axis_list}
 use Rattle.xml_model.specs.Scan.{level_of, record_at, holder_by_scan, Passes, is_within, is_attribute_part}
-use Rattle.xml_model.specs.Laws.{IndexesDecide, nodes_above, is_child_thing, is_attribute_thing, is_root_thing, is_under, is_one_under, same_parent, holder_index, by_indexes, is_child_kind}
+use Rattle.xml_model.specs.Laws.{IndexesDecide, nodes_above, is_child_thing, is_attribute_thing, is_root_thing, is_under, is_one_under, same_parent, holder_index, by_indexes}
 use Rattle.xml_model.proofs.NodeLaws.{axis_of_two, places_of_two, siblings_of_child, parent_of_node}
-use Rattle.xml_model.proofs.Each.{each_at}
-use Rattle.xml_model.proofs.Axes.{formed, Formed}
 use Rattle.vtd_words.specs.Lists.{Lists}
 use Rattle.vtd_words.specs.Table.{IsNestOf, IsParent, node_of, nodes_of}
 use Rattle.vtd_cursor.specs.Moves.{first_of, last_of}
@@ -23,7 +21,7 @@ use Rattle.vtd_cursor.proofs.AxisEnds.{first_is}
 use Rattle.xml_model.proofs.Filters.{none_of}
 use Rattle.vtd_cursor.proofs.Families.{Meets, first_meets, last_meets}
 use Rattle.xml_model.proofs.Inside.{Holds, Keeps, OneUnder, one_under_out, one_under_back, nested, above_held, above_root, root_first, records_show, keeps, held_by, element_holds, root_holds, holds_by_kind, child_after, under_kind, later_after}
-use Rattle.xml_model.proofs.Things.{child_no_root, attribute_no_root, root_kind, no_root_element, child_kind, attribute_kind, kind_root}
+use Rattle.xml_model.proofs.Things.{child_no_root, attribute_no_root, root_kind, no_root_element, attribute_kind, kind_root}
 use Rattle.xml_model.proofs.AttributeRuns.{attributes_pass, attribute_held}
 
 within_low : (level : ℕ) (r : Record) → is_within level r ≡ true → level ≤ level_of r

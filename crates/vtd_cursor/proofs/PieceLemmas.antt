@@ -1,7 +1,7 @@
 -- What the searches over records and bytes find.
-use Rattle.std.proofs.Common.{◌≡◌, ℕ, suc, ◌+◌, ◌-◌, ◌<◌, ◌≤◌, Bool, true, false, not, List, refl, ap, sym, ◌∙◌, subst, arith, inl, inr}
+use Rattle.std.proofs.Common.{◌≡◌, ℕ, suc, ◌+◌, ◌-◌, ◌<◌, Bool, true, false, not, List, refl, ap, sym, ◌∙◌, subst, arith}
 use Rattle.std.specs.Str.{IsUtf8}
-use Rattle.std.proofs.lemmas.Bool.{cases_lt, false≢true}
+use Rattle.std.proofs.lemmas.Bool.{false≢true}
 use Rattle.std.proofs.lemmas.Str.{IsUtf8-drop}
 use Rattle.xml_model.specs.Items.{Tag, Item, end_tag, begins_at}
 use Rattle.xml_model.specs.Records.{Record}
@@ -12,11 +12,10 @@ use Rattle.xml_items.specs.declared.ItemKind.{ItemKind}
 use Rattle.xml_items.specs.declared.ItemKind.TheVariants as kinds
 use Rattle.vtd_words.specs.declared.packing.Parts.{Parts}
 use Rattle.vtd_words.specs.Packed.{record_of}
-use Rattle.vtd_words.specs.Table.{Shows}
 use Rattle.xml_items.specs.Reading.{tag_item}
 use Rattle.xml_items.specs.Shown.{item_shown, tag_kind, IsItemAt}
 use Rattle.xml_items.proofs.OneItem.{one_item}
-use Rattle.vtd_cursor.specs.Endings.{record_end, ends_tag, is_tag_item, EndTagAt, EndTags, HasTagAt, HasTagOf, IsNearestTag, IsTagOf, IsLastPiece, in_leaf, in_tag, IsEnding}
+use Rattle.vtd_cursor.specs.Endings.{ends_tag, is_tag_item, EndTagAt, EndTags, HasTagAt, IsTagOf, IsLastPiece, in_leaf, in_tag, IsEnding}
 use Rattle.vtd_cursor.proofs.TagPlaces.{tag_place}
 
 -- an item found at a place is the one that begins there

@@ -1,26 +1,19 @@
 -- What a walk along the records knows on its way.
-use Rattle.std.proofs.Common.{◌≡◌, ℕ, zero, suc, ◌+◌, ◌-◌, ◌<◌, ◌≤◌, ◌^◌, Bool, true, false, cond, ◌&&◌, ◌||◌, ◌==◌, List, [], ◌∷◌, length, refl, ap, ap₂, sym, ◌∙◌, subst, arith, inl, inr, Option, Some, None, is_some, option_map, eq-eqb}
-use Rattle.std.specs.List.{Contains, find}
+use Rattle.std.proofs.Common.{◌≡◌, ℕ, ◌+◌, ◌-◌, ◌<◌, ◌≤◌, Bool, true, false, ◌||◌, ◌==◌, List, length, ap, sym, ◌∙◌, subst, arith, inl, inr, Option, Some, None}
+use Rattle.std.specs.List.{Contains}
 use Rattle.std.proofs.lemmas.Bool.{cases_lt, false≢true, le-leb, lt-leb, eqb-true, and_parts}
-use Rattle.std.proofs.lemmas.Option.{none-some}
 use Rattle.xml_model.specs.declared.Kind.{Kind}
 use Rattle.xml_model.specs.declared.Kind.TheVariants as kinds
 use Rattle.xml_model.specs.declared.Node.{Node}
 use Rattle.xml_model.specs.Items.{first_place}
 use Rattle.xml_model.specs.Nest.{Forest}
 use Rattle.xml_model.specs.Records.{Record, records}
-use Rattle.xml_model.specs.Tree.{Thing, Entry, at_index, kind_of}
-use Rattle.xml_model.specs.Scan.{level_of, record_at, kind_of_token, is_text_token, is_within, is_attribute_part, Passes}
-use Rattle.xml_model.specs.Laws.{FirstRecordShows, is_attribute_thing, is_child_thing, is_child_kind}
-use Rattle.xml_model.proofs.NodeLaws.{first_record_of_node}
-use Rattle.vtd_words.specs.declared.packing.Parts.{Parts}
+use Rattle.xml_model.specs.Tree.{Thing, Entry, kind_of}
+use Rattle.xml_model.specs.Scan.{level_of, record_at, is_within, is_attribute_part, Passes}
+use Rattle.xml_model.specs.Laws.{is_attribute_thing, is_child_thing, is_child_kind}
 use Rattle.vtd_words.specs.Lists.{Lists}
-use Rattle.vtd_words.specs.Packed.{record_of}
-use Rattle.vtd_words.specs.Table.{ArePartsAt, IsNestOf, node_of, nodes_of}
-use Rattle.vtd_words.proofs.Fitting.{nest_shown}
-use Rattle.vtd_words.proofs.Shown.{shown_length}
-use Rattle.xml_model.proofs.Indexes.{index_found, is_there, one_kind}
-use Rattle.xml_model.proofs.Things.{attribute_kind, attribute_thing, attribute_token, child_kind}
+use Rattle.vtd_words.specs.Table.{IsNestOf, nodes_of}
+use Rattle.xml_model.proofs.Things.{attribute_kind, attribute_thing, child_kind}
 use Rattle.xml_model.proofs.AttributeRuns.{attribute_part}
 use Rattle.xml_model.proofs.Inside.{levels_shown, child_after}
 use Rattle.vtd_cursor.specs.Searches.{IsWanted, NodeOfLevel, FirstFrom, LastBefore}

@@ -1,6 +1,5 @@
 -- The tags of an element of a table, and the value of an attribute.
 use Rattle.std.proofs.Common.{◌≡◌, ℕ, suc, ◌+◌, ◌-◌, ◌<◌, ◌^◌, Bool, true, false, List, ◌++◌, length, refl, ap, sym, ◌∙◌, subst, arith, length-append}
-use Rattle.std.specs.List.{Contains}
 use Rattle.std.specs.Str.{IsUtf8}
 use Rattle.std.proofs.lemmas.Bool.{false≢true, false_from_ne_true}
 use Rattle.std.proofs.lemmas.Str.{IsUtf8-drop}
@@ -243,4 +242,3 @@ pub quote_found : (bytes : List ℕ) (lists : Lists) → length bytes < 2 ^ 30 �
 quote_found bytes lists few node k past q parts p nest s e w =
     let x = attribute_of e.what (w.1 ∙ k) in
     let v : ValueFound x.0 e.start e.stop parts = value_of bytes lists few node past q parts p nest s e w x.0 x.1 in omega (arith, v.offset, v.len, v.stops)
-

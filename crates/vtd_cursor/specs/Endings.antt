@@ -1,4 +1,5 @@
--- Where pieces of a document begin and end, by its records and its bytes (this project's own).
+-- Where pieces of a document begin and end, by its records and its bytes (this project's own): what private functions
+-- promise.
 use Rattle.std.specs.Prelude.{◌≡◌, ℕ, zero, suc, ◌+◌, ◌<◌, ◌≤◌, Bool, true, false, cond, not, ◌||◌, ◌==◌, List, length}
 use Rattle.xml_model.specs.Items.{Tag, Item, leaf, end_tag, begins_at, spelling}
 use Rattle.xml_model.specs.Records.{Record, kind_number}
@@ -36,7 +37,7 @@ pub record EndTagAt (bytes : List ℕ) (at : ℕ) : Type 0 where
   pub space : List ℕ
   pub begins : begins_at bytes at (end_tag name space) ≡ true
 
--- so many end tags stand one after another, from a place to another
+-- so many end tags follow one another, from a place to another
 abbrev pub EndTags : List ℕ → ℕ → ℕ → ℕ → Type 0
 EndTags bytes zero from to = from ≡ to
 EndTags bytes (suc n) from to =
@@ -69,7 +70,7 @@ pub record HasTagOf (bytes words : List ℕ) (n : ℕ) : Type 0 where
   pub tag : Tag
   pub is : IsTagOf bytes rs n at closed tag
 
--- an item with a < in front: a tag of any kind
+-- an item that begins with a <: a tag of any kind
 abbrev pub is_tag_item : Item → Bool
 is_tag_item (leaf x) = false
 is_tag_item _ = true

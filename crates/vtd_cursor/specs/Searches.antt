@@ -1,4 +1,4 @@
--- Nodes that are found by a walk along the records (this project's own).
+-- Nodes that are found by a walk along the records (this project's own): what private functions promise.
 use Rattle.std.specs.Prelude.{◌≡◌, ℕ, suc, ◌<◌, ◌≤◌, Bool, true, List, length, Option, Some, None, Contains}
 use Rattle.xml_model.specs.declared.Node.{Node}
 use Rattle.xml_model.specs.Records.{Record}

@@ -26,6 +26,8 @@ tags_by false t inside start stop = record {
   empty = false;
 }
 
+-- What private functions promise.
+
 -- a node is an element that is not one empty tag
 pub record HasEndTag (bytes : List ℕ) (lists : Lists) (node : Node) : Type 0 where
   pub nest : Forest

@@ -62,17 +62,17 @@ impl<'n, 'a, W: Words> Model for Cursor<'n, 'a, W> {
     } };
 
     ghost invariant = { λ c. IsCursor c.table.now.bytes (W.lists c.table.now.words) c.node
-      (map (λ p. p.node) c.saved.items) c.saved.capacity };
+        (map (λ p. p.node) c.saved.items) c.saved.capacity };
 }
 
 impl<'n, 'a, W: Words> Cursor<'n, 'a, W> {
     /// A cursor on the root of a document, with no node saved.
     pub fn new(alloc: Global, nav: &'n Nav<'a, W>) -> Cursor<'n, 'a, W>
         ensures { result ≡ record {
-            bytes = nav.entry.now.bytes;
-            words = nav.entry.now.words;
-            node = root_node;
-            saved = [];
+          bytes = nav.entry.now.bytes;
+          words = nav.entry.now.words;
+          node = root_node;
+          saved = [];
         } }
     {
         Cursor {

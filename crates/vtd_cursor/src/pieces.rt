@@ -18,10 +18,15 @@ use xml_model::TokenKind;
 
 // The numbers of the kinds of records that begin or end a piece.
 const START_TAG: u8 = TokenKind::StartTag as u8;
+
 const VALUE: u8 = TokenKind::Value as u8;
+
 const COMMENT: u8 = TokenKind::Comment as u8;
+
 const TARGET: u8 = TokenKind::Target as u8;
+
 const DATA: u8 = TokenKind::Data as u8;
+
 const CDATA: u8 = TokenKind::Cdata as u8;
 
 /// Where the piece begins whose first record has these parts.

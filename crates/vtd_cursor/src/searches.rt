@@ -17,7 +17,9 @@ use xml_model::{Kind, Node, TokenKind};
 
 // The numbers of the kinds of records that attributes and declarations have.
 const ATTRIBUTE_NAME: u8 = TokenKind::AttributeName as u8;
+
 const NAMESPACE_NAME: u8 = TokenKind::NamespaceName as u8;
+
 const VALUE: u8 = TokenKind::Value as u8;
 
 /// Whether a record is of an attribute or a declaration of a level, its name or its value.

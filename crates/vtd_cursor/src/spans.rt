@@ -10,7 +10,7 @@ ghost use Rattle.xml_chars.specs.Places.{span_from};
 ghost use Rattle.vtd_words.specs.Table.{ForEachEntry, IsNestOf, IsNodeOf, nodes_of};
 ghost use Rattle.vtd_cursor.specs.Tags.{tags_by, HasEndTag};
 
-use crate::pieces::{end_of_level, piece_start, tag_of, record_end};
+use crate::pieces::{end_of_level, piece_start, record_end, tag_of};
 use vtd_location::Nav;
 use vtd_words::{Table, Words, parts_at};
 use xml_items::ItemKind;

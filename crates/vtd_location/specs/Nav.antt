@@ -1,18 +1,13 @@
 -- Documents that no check refuses, with their records (this project's own).
-use Rattle.std.specs.Prelude.{◌≡◌, ℕ, ◌<◌, ◌^◌, List, map, length}
-use Rattle.xml_model.specs.Items.{first_place}
+use Rattle.std.specs.Prelude.{ℕ, List}
 use Rattle.xml_model.specs.Nest.{Forest}
-use Rattle.xml_model.specs.Records.{records, word}
-use Rattle.xml_model.specs.Accepted.{Accepted}
 use Rattle.vtd_words.specs.Lists.{Lists}
+use Rattle.vtd_words.specs.Table.{IsNestTo, IsTableTo}
 
--- the nest of a document that is accepted, whose records the words are
-pub record IsNavOf (bytes : List ℕ) (lists : Lists) (nest : Forest) : Type 0 where
-  pub accepted : Accepted 8 bytes nest
-  pub recorded : lists.records ≡ map word (records nest (first_place bytes))
+-- the nest of a document that is accepted whole, by all eight layers, whose records the words are
+abbrev pub IsNavOf : List ℕ → Lists → Forest → Type 0
+IsNavOf bytes lists nest = IsNestTo 8 bytes lists nest
 
--- an accepted document of fewer than 2 to the power 30 bytes beside words that are its records
-pub record IsNav (bytes : List ℕ) (lists : Lists) : Type 0 where
-  pub few : length bytes < 2 ^ 30
-  pub nest : Forest
-  pub shown : IsNavOf bytes lists nest
+-- a document of fewer than 2 to the power 30 bytes that is accepted whole, beside words that are its records
+abbrev pub IsNav : List ℕ → Lists → Type 0
+IsNav bytes lists = IsTableTo 8 bytes lists

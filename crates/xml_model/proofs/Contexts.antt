@@ -7,7 +7,7 @@ use Rattle.std.proofs.lemmas.Bool.{le-leb, eq-eqb, eqb-true}
 use Rattle.xml_model.specs.declared.Axis.{Axis}
 use Rattle.xml_model.specs.declared.Axis.TheVariants as axes
 use Rattle.xml_model.specs.Nest.{Forest, is_nest}
-use Rattle.xml_model.specs.Tree.{Thing, Entry, all}
+use Rattle.xml_model.specs.Tree.{Entry, all}
 use Rattle.xml_model.specs.Laws.{by_indexes, holder_index, is_child_thing, is_root_thing, is_under, IsNode}
 use Rattle.xml_model.proofs.AllAxes.{child_first}
 use Rattle.xml_model.proofs.Each.{each_at, each_more, contains_here, contains_next}

@@ -9,40 +9,18 @@ use Rattle.std.proofs.lemmas.Option.{none-some, same_Some}
 use Rattle.xml_model.proofs.Indexes.{index_found}
 use Rattle.xml_model.proofs.Inside.{tag_level}
 use Rattle.xml_model.proofs.Things.{element_token, is_element_kind, kind_element}
-use Rattle.xml_model.specs.declared.Kind.{Kind}
 use Rattle.xml_model.specs.declared.Kind.TheVariants as kinds
 use Rattle.xml_model.specs.Items.{meets}
 use Rattle.xml_model.specs.Levels.{is_element, at_depth, is_tag, if_tag_of, tags_from}
 use Rattle.xml_model.specs.Nest.{Forest, is_nest, flat}
 use Rattle.xml_model.specs.Records.{Record, document, records}
-use Rattle.xml_model.specs.Scan.{level_of, record_at, kind_of_token, is_text_token, kind_by_scan, begins_by_scan}
+use Rattle.xml_model.specs.Scan.{level_of, record_at, kind_of_token, kind_by_scan, begins_by_scan}
 use Rattle.xml_model.specs.Scan.{second_begins, is_start_token}
-use Rattle.xml_model.specs.Tree.{Thing, Entry, all, at_index, kind_of}
+use Rattle.xml_model.specs.Tree.{Entry, all, at_index, kind_of}
 use Rattle.xml_model.specs.Laws.{FirstRecordShows}
-use Rattle.xml_model.proofs.Each.{each_at}
 use Rattle.xml_model.proofs.NodeLaws.{first_record_of_node, node_at_record}
-use Rattle.xml_model.specs.Contexts.{Rises}
-use Rattle.xml_model.proofs.Filters.{same_test, filter_same, none_of, split_or}
+use Rattle.xml_model.proofs.Filters.{same_test, filter_same, none_of, one_here, split_or}
 use Rattle.xml_model.proofs.TreeOrder.{in_order}
-
-one_here : (P : Entry → Bool) (at : ℕ) (es : List Entry) → Rises es → (y : Entry) → Contains es y → y.index ≡ at → P y ≡ true →
-    filter (λ e. e.index == at && P e) es ≡ y ∷ []
-one_here P at [] r y c p t = absurd (omega (arith, c.1))
-one_here P at (x ∷ es) r y (zero, l, s) p t =
-    let here : (x.index == at && P x) ≡ true = and_from _ _ (eq-eqb x.index at (ap (λ z. z.index) s ∙ p)) (ap P s ∙ t) in
-    ap (λ b. cond b (x ∷ filter (λ e. e.index == at && P e) es) (filter (λ e. e.index == at && P e) es)) here
-    ∙ ap₂ (λ z zs. z ∷ zs) s (none_of (λ e. e.index == at && P e) es
-    (λ e c q. let later : x.index < e.index = each_at (λ z. x.index < z.index) es e r.0 c in
-    omega (arith, later, ap (λ z. z.index) s, p, eqb-true e.index at (and_parts (e.index == at) (P e) q).0)))
-one_here P at (x ∷ es) r y (suc n, l, s) p t =
-    let c : Contains es y = (n, omega (arith, l), s) in
-    let later : x.index < y.index = each_at (λ z. x.index < z.index) es y r.0 c in
-    by (x.index == at) refl later (one_here P at es r.1 y c p t)
-  where
-    by : (b : Bool) → (x.index == at) ≡ b → x.index < y.index → filter (λ e. e.index == at && P e) es ≡ y ∷ [] →
-        cond (b && P x) (x ∷ filter (λ e. e.index == at && P e) es) (filter (λ e. e.index == at && P e) es) ≡ y ∷ []
-    by true e h i = absurd (omega (arith, h, p, eqb-true x.index at e))
-    by false e h i = i
 
 record ElementAt (es : List Entry) (n : ℕ) : Type 0 where
   entry : Entry

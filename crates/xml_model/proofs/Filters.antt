@@ -1,8 +1,8 @@
 -- Filters of lists of nodes, of which the indexes may rise; and whether one of a list passes.
 use Rattle.std.proofs.Common.{◌≡◌, ℕ, zero, suc, ◌<◌, ◌≤◌, Bool, true, false, cond, ◌||◌, List, [], ◌∷◌, ◌++◌, refl, ap, ap₂}
-use Rattle.std.proofs.Common.{sym, ◌∙◌, arith, filter}
+use Rattle.std.proofs.Common.{sym, ◌∙◌, arith, filter, ◌==◌, ◌&&◌}
 use Rattle.std.specs.List.{Contains, list_any}
-use Rattle.std.proofs.lemmas.Bool.{false≢true, or_left, or_right}
+use Rattle.std.proofs.lemmas.Bool.{false≢true, and_from, and_parts, eq-eqb, eqb-true, or_left, or_right}
 use Rattle.xml_model.specs.Tree.{Entry}
 use Rattle.xml_model.proofs.Each.{each_at, contains_here, contains_next}
 use Rattle.xml_model.specs.Contexts.{Rises}
@@ -24,6 +24,26 @@ none_of P (x ∷ es) h = by (P x) refl (none_of P es (λ y c p. h y (contains_ne
     by : (b : Bool) → P x ≡ b → filter P es ≡ [] → cond b (x ∷ filter P es) (filter P es) ≡ []
     by true p k = absurd (h x (contains_here x es) p)
     by false p k = k
+
+-- where one node at an index passes a test, it alone is at the index and passes
+pub one_here : (P : Entry → Bool) (at : ℕ) (es : List Entry) → Rises es → (y : Entry) → Contains es y → y.index ≡ at → P y ≡ true →
+    filter (λ e. e.index == at && P e) es ≡ y ∷ []
+one_here P at [] r y c p t = absurd (omega (arith, c.1))
+one_here P at (x ∷ es) r y (zero, l, s) p t =
+    let here : (x.index == at && P x) ≡ true = and_from _ _ (eq-eqb x.index at (ap (λ z. z.index) s ∙ p)) (ap P s ∙ t) in
+    ap (λ b. cond b (x ∷ filter (λ e. e.index == at && P e) es) (filter (λ e. e.index == at && P e) es)) here
+    ∙ ap₂ (λ z zs. z ∷ zs) s (none_of (λ e. e.index == at && P e) es
+    (λ e c q. let later : x.index < e.index = each_at (λ z. x.index < z.index) es e r.0 c in
+    omega (arith, later, ap (λ z. z.index) s, p, eqb-true e.index at (and_parts (e.index == at) (P e) q).0)))
+one_here P at (x ∷ es) r y (suc n, l, s) p t =
+    let c : Contains es y = (n, omega (arith, l), s) in
+    let later : x.index < y.index = each_at (λ z. x.index < z.index) es y r.0 c in
+    by (x.index == at) refl later (one_here P at es r.1 y c p t)
+  where
+    by : (b : Bool) → (x.index == at) ≡ b → x.index < y.index → filter (λ e. e.index == at && P e) es ≡ y ∷ [] →
+        cond (b && P x) (x ∷ filter (λ e. e.index == at && P e) es) (filter (λ e. e.index == at && P e) es) ≡ y ∷ []
+    by true e h i = absurd (omega (arith, h, p, eqb-true x.index at e))
+    by false e h i = i
 
 -- a filter by one test or another, where what passes the one is before what passes the other
 pub split_pairs : (A B : Entry → Bool) (es : List Entry) → Rises es →

@@ -1,5 +1,5 @@
 -- The nodes from an index on, one record after another.
-use Rattle.std.proofs.Common.{◌≡◌, ℕ, suc, ◌<◌, ◌≤◌, Bool, cond, not, List, [], ◌∷◌, ◌++◌, Option, Some, None, refl, sym, ap, ap₂, ◌∙◌, arith}
+use Rattle.std.proofs.Common.{◌≡◌, ℕ, suc, ◌<◌, ◌≤◌, cond, not, List, [], ◌∷◌, ◌++◌, Some, None, refl, sym, ap, ap₂, ◌∙◌, arith}
 use Rattle.std.proofs.Common.{inl, inr, nat_lt, ◌==◌}
 use Rattle.std.specs.Prelude.{filter, find, option_to_list}
 use Rattle.std.proofs.lemmas.Bool.{cases_lt, lt-ltb, le-ltb, eq-eqb, ne_eqb}
@@ -44,20 +44,20 @@ from_next n low high (e ∷ es) h =
       | inl l ↦
           ap (λ b. cond (not b) (e ∷ from_index n es) (from_index n es)) (lt-ltb e.index n l) ∙ from_next n (suc e.index) high es h.1
           ∙ sym (ap₂ (λ b c. option_to_list (cond b (Some e) (at_index n es)) ++ cond (not c) (e ∷ from_index (suc n) es) (from_index (suc n) es))
-              (ne_eqb e.index n (λ same. omega (arith, l, same))) (lt-ltb e.index (suc n) (omega (arith, l))))
+          (ne_eqb e.index n (λ same. omega (arith, l, same))) (lt-ltb e.index (suc n) (omega (arith, l))))
       | inr l ↦ elim (cases_lt n e.index) [
         | inl k ↦
             ap (λ b. cond (not b) (e ∷ from_index n es) (from_index n es)) (le-ltb e.index n l)
-                ∙ ap (λ xs. e ∷ xs) (from_all n (suc e.index) high es h.1 (omega (arith, l)))
+            ∙ ap (λ xs. e ∷ xs) (from_all n (suc e.index) high es h.1 (omega (arith, l)))
             ∙ sym (ap₂ (λ o c. option_to_list o ++ cond (not c) (e ∷ from_index (suc n) es) (from_index (suc n) es))
-                (absent n (suc n) high (e ∷ es) (omega (arith, k), h.1) (omega arith)) (le-ltb e.index (suc n) (omega (arith, k)))
+            (absent n (suc n) high (e ∷ es) (omega (arith, k), h.1) (omega arith)) (le-ltb e.index (suc n) (omega (arith, k)))
             ∙ ap (λ xs. e ∷ xs) (from_all (suc n) (suc e.index) high es h.1 (omega (arith, k))))
         | inr k ↦
             let same : e.index ≡ n = omega (arith, l, k) in
             ap (λ b. cond (not b) (e ∷ from_index n es) (from_index n es)) (le-ltb e.index n l)
-                ∙ ap (λ xs. e ∷ xs) (from_all n (suc e.index) high es h.1 (omega (arith, l)))
+            ∙ ap (λ xs. e ∷ xs) (from_all n (suc e.index) high es h.1 (omega (arith, l)))
             ∙ sym (ap₂ (λ b c. option_to_list (cond b (Some e) (at_index n es)) ++ cond (not c) (e ∷ from_index (suc n) es) (from_index (suc n) es))
-                (eq-eqb e.index n same) (lt-ltb e.index (suc n) (omega (arith, same)))
+            (eq-eqb e.index n same) (lt-ltb e.index (suc n) (omega (arith, same)))
             ∙ ap (λ xs. e ∷ xs) (from_all (suc n) (suc e.index) high es h.1 (omega (arith, same))))
       ]
     ]

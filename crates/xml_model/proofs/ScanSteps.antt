@@ -1,10 +1,10 @@
 -- One step of each scan of the records, by index, as loops take them.
-use Rattle.std.proofs.Common.{◌≡◌, ℕ, suc, ◌+◌, ◌<◌, ◌≤◌, true, false, cond, List, [], ◌∷◌, refl, ap, sym, ◌∙◌, arith, length, length-drop, take, drop, le-leb, add-one, nat_lt, ◌&&◌, ◌||◌}
+use Rattle.std.proofs.Common.{◌≡◌, ℕ, suc, ◌+◌, ◌<◌, ◌≤◌, true, false, cond, List, [], ◌∷◌, refl, ap, sym, ◌∙◌, arith, length, length-drop, take, drop, add-one}
 use Rattle.std.proofs.lemmas.Bool.{lt-leb}
 use Rattle.std.proofs.lemmas.List.{drop_more, drop_all, length-take-le}
 use Rattle.std.proofs.lemmas.Grind.{take_at_read}
 use Rattle.xml_model.specs.Records.{Record, document}
-use Rattle.xml_model.specs.Scan.{level_of, record_at, end_from, is_run, run_from, run_has, tag_or, last_tag, begins_node, next_prev, second_begins, begins_by_scan}
+use Rattle.xml_model.specs.Scan.{level_of, record_at, end_from, is_run, run_from, tag_or, last_tag, begins_node, next_prev, second_begins, begins_by_scan}
 use Rattle.xml_model.proofs.Owners.{last_tag_append}
 
 -- the records from an index on

@@ -1,5 +1,5 @@
 -- The nodes on an axis of some of a list of context nodes, in document order, each once (XPath 1.0, sections 2 and
--- 2.2), and what a pass over the tree finds in place of them. The latter is this project's own.
+-- 2.2), and what a pass over the tree finds for them. The latter is this project's own.
 use Rattle.std.specs.Prelude.{ℕ, suc, ◌<◌, Bool, cond, not, ◌&&◌, ◌||◌, ◌==◌, List, [], ◌∷◌, ◌++◌}
 use Rattle.std.specs.Prelude.{nat_lt, nat_le, min, max, filter, Contains}
 use Rattle.std.specs.List.{AllByRecursion, list_any}

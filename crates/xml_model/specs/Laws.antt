@@ -27,7 +27,7 @@ records_of (Thing.text xs) l at = run_records l at xs
 records_of (Thing.comment cs) l at = leaf_records l at (Leaf.comment cs)
 records_of (Thing.instruction i) l at = leaf_records l at (Leaf.instruction i)
 
--- all records are those before the node's, the node's, and those after them; and the node's places say so
+-- all records are those before the node's, the node's, and those after them; and the node's indexes say so
 pub record HasRecords (whole : List Record) (e : Entry) : Type 0 where
   pub prefix : List Record
   pub rest : List Record
@@ -45,7 +45,7 @@ pub record FirstRecordShows (whole : List Record) (e : Entry) : Type 0 where
 abbrev pub is_under : Entry → Entry → Bool
 is_under x y = nat_lt x.index y.index && nat_lt y.index x.past
 
--- of two nodes, whether y is under x, after x, or x itself, by paths on the left and by places on the right
+-- of two nodes, whether y is under x, after x, or x itself, by paths on the left and by indexes on the right
 pub record IndexesDecide (x y : Entry) : Type 0 where
   pub under : is_some_steps (steps x.path y.path) ≡ is_under x y
   pub order : before x.path y.path ≡ nat_lt x.index y.index
@@ -85,7 +85,7 @@ nodes_above e = above e.what (length e.holders)
 abbrev pub is_one_under : Entry → Entry → Bool
 is_one_under x y = is_under x y && nodes_above y == suc (nodes_above x)
 
--- the place of the nearest element that holds a node, and 0, the root's, where none does
+-- the index of the nearest element that holds a node, and 0, the root's, where none does
 abbrev pub holder_index : List Holder → ℕ
 holder_index [] = 0
 holder_index (x ∷ xs) = x.index
@@ -94,7 +94,7 @@ holder_index (x ∷ xs) = x.index
 abbrev pub same_parent : Entry → Entry → Bool
 same_parent x y = is_child_thing x.what && is_child_thing y.what && holder_index x.holders == holder_index y.holders
 
--- whether y is on an axis of x, by places
+-- whether y is on an axis of x, by indexes
 abbrev pub by_indexes : Axis → Entry → Entry → Bool
 by_indexes axes.Itself x y = x.index == y.index
 by_indexes axes.Parent x y = is_one_under y x
@@ -109,7 +109,7 @@ by_indexes axes.Preceding x y = nat_le y.past x.index && is_child_thing y.what
 by_indexes axes.FollowingSibling x y = same_parent x y && nat_lt x.index y.index
 by_indexes axes.PrecedingSibling x y = same_parent x y && nat_lt y.index x.index
 
--- of a child x of z, whether y is a later sibling, or an earlier one: a child of z too, with a higher place, or a
+-- of a child x of z, whether y is a later sibling, or an earlier one: a child of z too, with a higher index, or a
 -- lower one
 pub record SiblingsDecide (z x y : Entry) : Type 0 where
   pub following : on_axis axes.FollowingSibling x.path y.path ≡ (by_indexes axes.Child z y && nat_lt x.index y.index)
@@ -122,7 +122,7 @@ pub record HasParent (nest : Forest) (first : ℕ) (x : Entry) : Type 0 where
   pub above : on_axis axes.Parent x.path parent.path ≡ true
   pub index : parent.index ≡ holder_by_scan x.index (records nest first)
 
--- the nodes on an axis of x, in axis order, by places
+-- the nodes on an axis of x, in axis order, by indexes
 abbrev pub list_by_indexes : Axis → Entry → List Entry → List Entry
 list_by_indexes axis x es = reverse_if (is_reverse axis) (filter (by_indexes axis x) es)
 

@@ -17,7 +17,7 @@ is_element _ = false
 abbrev pub at_depth : ℕ → List Entry → List Entry
 at_depth k es = filter (λ e. is_element e.what && length e.holders == k) es
 
--- what stands for no child
+-- what is written where there is no child
 abbrev pub no_child : ℕ
 no_child = 0xFFFF_FFFF
 
@@ -25,11 +25,11 @@ no_child = 0xFFFF_FFFF
 abbrev pub first_child : List Entry → Entry → ℕ
 first_child deeper e = unwrap_or (position (λ c. is_child (steps e.path c.path)) deeper) no_child
 
--- level 1 or 2: of each element of that depth its place, and the position of its first child element in the next level
+-- level 1 or 2: of each element of that depth its index, and the position of its first child element in the next level
 unfoldable pub level : ℕ → List Entry → List (ℕ × ℕ)
 level k es = map (λ e. (e.index, first_child (at_depth (suc k) es) e)) (at_depth k es)
 
--- level 3: the places of the elements of depth 3
+-- level 3: the indexes of the elements of depth 3
 unfoldable pub last_level : List Entry → List ℕ
 last_level es = map (λ e. e.index) (at_depth 3 es)
 

@@ -151,6 +151,6 @@ abbrev pub IsElement : Thing → Type 0
 IsElement (Thing.element t inside) = Unit {0}
 IsElement _ = ⊥
 
--- every element with its first record at a place ends its records at another
+-- every element with its first record at an index ends its records at another
 abbrev pub EndsAt : Forest → ℕ → ℕ → ℕ → Type 0
 EndsAt nest first at past = AllByRecursion (λ e. IsElement e.what → e.index ≡ at → e.past ≡ past) (all nest first)

@@ -1,5 +1,5 @@
 //! Laws over the definitions. Each function does nothing; its contract is the law, which the check proves. Other crates
-//! cite the lemmas of `proofs/NodeLaws.antt`, which say the same. `first` is the place of the first item.
+//! cite lemmas of `proofs/` that say the same, most of them in `NodeLaws`. `first` is the place of the first item.
 
 ghost use Rattle.std.specs.Prelude.{◌≡◌, ℕ, List, true, false, map, not, ◌&&◌, ◌==◌, ◌≤◌, is_some, length, take};
 ghost use Rattle.std.specs.Prelude.{IsUtf8};
@@ -62,7 +62,7 @@ pub fn one_refusal()
         (f g : DocFault) → IsRefusal bytes f → IsRefusal bytes g → f ≡ g }
 {}
 
-/// Along the tree, in document order, the places rise strictly.
+/// Along the tree, in document order, the indexes rise strictly.
 pub fn indexes_rise()
     ensures { (nest : Forest) (first : ℕ) → IsStrictlyIncreasing (map (λ e. e.index) (all nest first)) }
 {}
@@ -73,7 +73,7 @@ pub fn one_node()
         x.index ≡ y.index → x ≡ y }
 {}
 
-/// The records of a node are a part of all records, which begins at its place.
+/// The records of a node are a part of all records, which begins at its index.
 pub fn nodes_have_records()
     ensures { (nest : Forest) (first : ℕ) → is_nest nest ≡ true →
         (e : Entry) → IsNode nest first e → HasRecords (records nest first) e }
@@ -85,7 +85,7 @@ pub fn first_record_shows()
         (e : Entry) → IsNode nest first e → FirstRecordShows (records nest first) e }
 {}
 
-/// The records of a node end where a scan of the records from its place ends.
+/// The records of a node end where a scan of the records from its index ends.
 pub fn ends_by_scan()
     ensures { (nest : Forest) (first : ℕ) → is_nest nest ≡ true →
         (e : Entry) → IsNode nest first e → e.past ≡ past_by_scan (kind_of e.what) e.index (records nest first) }
@@ -97,21 +97,21 @@ pub fn element_ends_by_scan()
         (at : ℕ) → EndsAt nest first at (end_by_scan at (records nest first)) }
 {}
 
-/// Of two nodes one is under the other exactly where its place lies in the other's range, and it is before the other
-/// in document order exactly where its place is lower.
+/// Of two nodes one is under the other exactly where its index is in the other's range, and it is before the other in
+/// document order exactly where its index is lower.
 pub fn indexes_decide()
     ensures { (nest : Forest) (first : ℕ) (x y : Entry) → IsNode nest first x → IsNode nest first y →
         IndexesDecide x y }
 {}
 
-/// A node is on an axis of another exactly where their places say so.
+/// A node is on an axis of another exactly where their indexes say so.
 pub fn axes_by_indexes()
     ensures { (nest : Forest) (first : ℕ) → is_nest nest ≡ true →
         (axis : Axis) (x y : Entry) → IsNode nest first x → IsNode nest first y →
         on_axis axis x.path y.path ≡ by_indexes axis x y }
 {}
 
-/// The nodes on an axis, in axis order, are those that the places say.
+/// The nodes on an axis, in axis order, are those that the indexes say.
 pub fn axis_lists_by_indexes()
     ensures { (nest : Forest) (first : ℕ) → is_nest nest ≡ true →
         (axis : Axis) (x : Entry) → IsNode nest first x →
@@ -154,19 +154,19 @@ pub fn parent_exists()
         (x : Entry) → IsNode nest first x → is_root_thing x.what ≡ false → HasParent nest first x }
 {}
 
-/// The places of the nodes are the indexes of the records that begin a node.
+/// The indexes of the nodes are those of the records that begin a node.
 pub fn indexes_by_scan()
     ensures { (nest : Forest) (first : ℕ) → is_nest nest ≡ true → list_all meets (flat nest) ≡ true →
         map (λ e. e.index) (all nest first) ≡ starts_by_scan (records nest first) }
 {}
 
-/// There is a node at a place exactly where the record with that index begins one, by the records round it.
+/// There is a node at an index exactly where the record with that index begins one, by the records round it.
 pub fn begins_by_scan_decides()
     ensures { (nest : Forest) (first : ℕ) → is_nest nest ≡ true → list_all meets (flat nest) ≡ true →
         (n : ℕ) → is_some (at_index n (all nest first)) ≡ begins_by_scan n (records nest first) }
 {}
 
-/// The kind of the node at a place is that which the record with that index begins, by the records round it; there is
+/// The kind of the node at an index is that which the record with that index begins, by the records round it; there is
 /// none where it begins none.
 pub fn kind_by_scan_decides()
     ensures { (nest : Forest) (first : ℕ) → is_nest nest ≡ true → list_all meets (flat nest) ≡ true →
