@@ -17,5 +17,6 @@ pub mod NodeNameLemmas
 pub mod HolderLemmas
 pub mod UriLemmas
 pub mod ResolverLemmas
+pub mod MemoLemmas
 pub mod RepeatLemmas
 pub mod SieveLemmas

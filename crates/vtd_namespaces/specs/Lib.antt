@@ -10,4 +10,5 @@ pub mod Faults
 pub mod Repeats
 pub mod Scope
 pub mod Reach
+pub mod Memos
 pub mod Offences

@@ -1,9 +1,14 @@
 -- The offences of a tag's names, name by name.
-use Rattle.std.specs.Prelude.{◌≡◌, ℕ, Bool, true, not, ◌&&◌, List, [], ◌∷◌, ◌++◌, encode_utf8_all}
+use Rattle.std.specs.Prelude.{◌≡◌, ◌≢◌, ℕ, Bool, true, not, Option, ◌&&◌, List, [], ◌∷◌, ◌++◌, encode_utf8_all}
 use Rattle.std.specs.Option.{unwrap_or}
 use Rattle.xml_model.specs.Chars.{size, prefix_of, is_name, is_qname}
 use Rattle.xml_model.specs.Items.{Attribute, Tag}
-use Rattle.xml_model.specs.Records.{declares}
+use Rattle.xml_model.specs.declared.TokenKind.TheVariants as token
+use Rattle.xml_model.specs.Nest.{Forest}
+use Rattle.xml_model.specs.Records.{Record, declares, kind_number}
+use Rattle.xml_model.specs.Tree.{Holder}
+use Rattle.vtd_words.specs.Table.{nodes_of}
+use Rattle.vtd_namespaces.specs.Scope.{IsNearest}
 use Rattle.xml_model.specs.Names.{Expanded}
 use Rattle.xml_model.specs.Accepted.{expanded_of, seen_with, same_expanded, is_bound}
 use Rattle.vtd_text.specs.Fingerprints.{is_taken}
@@ -37,3 +42,9 @@ key_of tags a = unwrap_or (expanded_of tags a).uri [] ++ encode_utf8_all (expand
 abbrev pub IsNoted : List Tag → List ℕ → Attribute → Type 0
 IsNoted tags slots a = not (declares a.name) ≡ true → (prefix_of a.name ≡ [] → ⊥) →
     is_taken slots (key_of tags a) ≡ true
+
+-- a declaration is the nearest one of an attribute's prefix, where the attribute has a prefix and is no declaration, by the
+-- record of its name
+abbrev pub NearestOf : List ℕ → Forest → List Holder → Record → Attribute → Option ℕ → Type 0
+NearestOf bytes nest hs r a declaration = r.token ≢ kind_number token.NamespaceName → r.prefix ≢ 0 →
+    IsNearest (nodes_of bytes nest) hs (prefix_of a.name) declaration

@@ -1,15 +1,20 @@
 -- Which declarations reach a node, and how they are looked up (this project's own).
 use Rattle.std.specs.Prelude.{◌≡◌, ℕ, ◌+◌, ◌<◌, ◌≤◌, ◌^◌, ◌==◌, List, ◌∷◌, length, Option, Some, None, Bool}
-use Rattle.std.specs.Prelude.{true, false, bytes_eq, cond}
+use Rattle.std.specs.Prelude.{true, false, bytes_eq, cond, zero, suc, take, drop, encode_utf8_all, IfSome}
+use Rattle.std.specs.List.{slice_index_or}
+use Rattle.xml_model.specs.declared.TokenKind.TheVariants as token
+use Rattle.xml_model.specs.Items.{Tag}
+use Rattle.xml_model.specs.Scan.{record_at}
 use Rattle.xml_model.specs.declared.Kind.TheVariants as kinds
 use Rattle.xml_model.specs.Levels.{is_tag}
 use Rattle.xml_model.specs.Nest.{Forest}
-use Rattle.xml_model.specs.Records.{Record}
+use Rattle.xml_model.specs.Records.{Record, kind_number}
 use Rattle.xml_model.specs.Tree.{Thing, Entry, Holder}
 use Rattle.vtd_words.specs.Lists.{Lists}
 use Rattle.vtd_words.specs.Table.{IsNestOf, IsNodeOf, Shows, nodes_of}
 use Rattle.vtd_namespaces.specs.OpenTags.{open_before}
-use Rattle.vtd_namespaces.specs.Scope.{Chain, Opened}
+use Rattle.vtd_namespaces.specs.NameRecords.{AreAttributeRecords}
+use Rattle.vtd_namespaces.specs.Scope.{Chain, Opened, IsDeclarationIn}
 use Rattle.vtd_namespaces.specs.Undeclared.{NoneDeclared}
 
 -- the elements whose declarations reach a thing at a record, which others hold
@@ -39,12 +44,35 @@ pub record IsScope (bytes : List ℕ) (lists : Lists) (open_tags : List ℕ) (de
   pub opened : Opened open_tags hs
   pub many : length hs ≡ depth + 1
 
--- the open tags of a resolver are those after the records that it passed, and it knows where the declarations end
-pub record IsResolver (bytes : List ℕ) (lists : Lists) (open_tags : List ℕ) (passed end : ℕ) : Type 0 where
+-- what a number stands for that is no index of a name: 0 is for none
+abbrev pub some_of : ℕ → Option ℕ
+some_of zero = None
+some_of (suc n) = Some (suc n)
+
+-- the record of the name of a tag's declaration of the prefix that the bytes at a place are, or none, by the tag's record
+pub record IsKnown (bytes words : List ℕ) (tag offset len declaration : ℕ) : Type 0 where
+  pub found : (rs : List Record) → Shows words rs → (at : ℕ) (t : Tag) →
+      AreAttributeRecords bytes rs (tag + 1) at t.attributes →
+      (p : List ℕ) → take len (drop offset bytes) ≡ encode_utf8_all p →
+      IsDeclarationIn (tag + 1) t p (some_of declaration)
+  pub declares : (rs : List Record) → Shows words rs →
+      IfSome (some_of declaration) (λ n. (record_at n rs).token ≡ kind_number token.NamespaceName)
+
+-- what a memo notes at each of its places, where it is not free, is known
+abbrev pub IsMemo : List ℕ → List ℕ → List ℕ → List ℕ → List ℕ → List ℕ → Type 0
+IsMemo bytes words tags offsets lens declarations = (k : ℕ) → 0 < slice_index_or tags k 0 →
+    IsKnown bytes words (slice_index_or tags k 0) (slice_index_or offsets k 0) (slice_index_or lens k 0)
+    (slice_index_or declarations k 0)
+
+-- the open tags of a resolver are those after the records that it passed, it knows where the declarations end, and its memo is
+-- of the document
+pub record IsResolver (bytes : List ℕ) (lists : Lists) (open_tags : List ℕ) (passed end : ℕ)
+    (tags offsets lens declarations : List ℕ) : Type 0 where
   pub few : length bytes < 2 ^ 30
   pub within : passed ≤ length lists.records
   pub opened : (rs : List Record) → Shows lists.records rs → open_tags ≡ open_before passed rs
   pub undeclared : NoneDeclared lists.records end
+  pub known : IsMemo bytes lists.records tags offsets lens declarations
 
 -- whether two expanded names have one URI, or none: Namespaces in XML 1.0, section 2.1
 abbrev pub same_uri : Option (List ℕ) → Option (List ℕ) → Bool

@@ -50,6 +50,7 @@ pub fn declaration_in<W: Words>(bytes: &[u8], words: &W, first: u32, prefix: &[u
         (p : List ℕ) → prefix.now ≡ encode_utf8_all p → IsDeclarationIn first t p result }
     ensures declares { (rs : List Record) → Shows (list_of Part.Records (W.lists words.now)) rs →
         IfSome result (λ n. (record_at n rs).token ≡ kind_number token.NamespaceName) }
+    ensures later { IfSome result (λ n. first ≤ n) }
 {
     let mut number = 0;
     while let Some(parts) = attribute_at(words, first + 2 * number) {

@@ -7,6 +7,7 @@ mod compare;
 mod declarations;
 mod holders;
 pub mod laws;
+mod memo;
 mod nodes;
 mod offences;
 mod open_tags;

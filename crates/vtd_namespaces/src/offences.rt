@@ -19,12 +19,14 @@ ghost use Rattle.xml_model.specs.Accepted.{repeated, tag_offends};
 ghost use Rattle.vtd_words.specs.Lists.{list_of};
 ghost use Rattle.vtd_words.specs.Table.{IsNestOf, Shows, nodes_of};
 ghost use Rattle.vtd_text.specs.NameRecords.{IsDeclaration, IsNameOf};
-ghost use Rattle.vtd_namespaces.specs.NameRecords.{AreAttributeRecords, IsAttributeRecord, IsTagRecord};
+ghost use Rattle.vtd_namespaces.specs.Memos.{IsMemoOf};
+ghost use Rattle.vtd_namespaces.specs.NameRecords.{AreAttributeRecords, IsAttributeRecord, IsNameRecord, IsTagRecord};
 ghost use Rattle.vtd_namespaces.specs.Faults.{first_of};
 ghost use Rattle.vtd_namespaces.specs.Scope.{IsNearest, tags_in};
 ghost use Rattle.vtd_namespaces.specs.Reach.{IsScope};
-ghost use Rattle.vtd_namespaces.specs.Offences.{is_twin, seen_after, IsFine, IsWritten};
+ghost use Rattle.vtd_namespaces.specs.Offences.{is_twin, seen_after, IsFine, IsWritten, NearestOf};
 
+use crate::memo::{Memo, Prefix};
 use crate::qnames::{after_prefix, is_qname, prefix_of};
 use crate::records::{attribute_at, slice_of};
 use crate::scope::Scope;
@@ -117,27 +119,31 @@ fn is_twin_at<W: Words>(
 }
 
 /// Whether one of so many attributes of the nearest tag has the local part and the URI of an attribute whose prefix is
-/// not empty and is bound; the record of the first of them has the index `first`.
+/// not empty and is bound, by the record of its nearest declaration; the record of the first of them has the index
+/// `first`.
 fn has_twin<W: Words>(
     scope: &Scope<'_, '_, W>,
     first: u32,
     count: u32,
     name: &[u8],
     prefix_len: u32,
+    declaration: Option<u32>,
 ) -> bool
     requires room { first + 2 * count ≤ length (list_of Part.Records (W.lists scope.now.table.now.words)) }
     requires bound { first + 2 * count < 2 ^ 32 }
     requires prefix { 0 < prefix_len }
+    requires declaration { IfSome declaration
+        (IsDeclaration scope.now.table.now.bytes (W.lists scope.now.table.now.words)) }
     ensures { (nest : Forest) (x : Holder) (xs : List Holder) → IsScope scope.now.table.now.bytes
         (W.lists scope.now.table.now.words) scope.now.open_tags.now scope.now.depth nest (x ∷ xs) →
         first ≡ x.index + 1 → count ≤ length x.tag.attributes →
         (a : Attribute) → IsWritten name.now prefix_len a →
         is_some (attribute_uri (prefix_of_chars a.name) (tags_in (x ∷ xs))) ≡ true →
+        IsNearest (nodes_of scope.now.table.now.bytes nest) (x ∷ xs) (prefix_of_chars a.name) declaration →
         result ≡ list_any (is_twin (tags_in (x ∷ xs)) a) (take count x.tag.attributes) }
 {
-    let own = scope.declaration(prefix_of(name, prefix_len));
     for number in 0..count {
-        if is_twin_at(scope, first + 2 * number, name, prefix_len, own) {
+        if is_twin_at(scope, first + 2 * number, name, prefix_len, declaration) {
             return true;
         }
     }
@@ -146,18 +152,22 @@ fn has_twin<W: Words>(
 
 /// Whether an attribute or a declaration of the nearest tag offends, by the number of attributes before it, none of
 /// which offends; the record of the first of them has the index `first`. No two of them have one name. Where it is
-/// known to be new, none of them has its expanded name.
+/// known to be new, none of them has its expanded name. The declaration is the nearest one of its prefix, where it is an
+/// attribute that has one.
 fn attribute_offends<W: Words>(
     scope: &Scope<'_, '_, W>,
     first: u32,
     number: u32,
     parts: Parts,
     is_new: bool,
+    declaration: Option<u32>,
 ) -> bool
     requires room { first + 2 * number < length (list_of Part.Records (W.lists scope.now.table.now.words)) }
     requires bound { first + 2 * number < 2 ^ 32 }
     requires here { (rs : List Record) → Shows (list_of Part.Records (W.lists scope.now.table.now.words)) rs →
         record_of parts ≡ record_at (first + 2 * number) rs }
+    requires declaration { IfSome declaration
+        (IsDeclaration scope.now.table.now.bytes (W.lists scope.now.table.now.words)) }
     ensures { (nest : Forest) (x : Holder) (xs : List Holder) → IsScope scope.now.table.now.bytes
         (W.lists scope.now.table.now.words) scope.now.open_tags.now scope.now.depth nest (x ∷ xs) →
         first ≡ x.index + 1 → (done left : List Attribute) (a : Attribute) → x.tag.attributes ≡ done ++ (a ∷ left) →
@@ -165,6 +175,7 @@ fn attribute_offends<W: Words>(
         AllByRecursion (IsFine (tags_in (x ∷ xs))) done → AllByRecursion (λ b. bytes_eq a.name b.name ≡ false) done →
         (is_new ≡ true → is_some (attribute_uri (prefix_of_chars a.name) (tags_in (x ∷ xs))) ≡ true →
         list_any (is_twin (tags_in (x ∷ xs)) a) done ≡ false) →
+        NearestOf scope.now.table.now.bytes nest (x ∷ xs) (record_of parts) a declaration →
         result ≡ offends_as_attribute (tags_in (x ∷ xs)) (seen_after (tags_in (x ∷ xs)) [] done) a }
 {
     let name = slice_of(scope.table.bytes(), parts);
@@ -177,13 +188,39 @@ fn attribute_offends<W: Words>(
     if parts.prefix == 0 {
         return false;
     }
-    if !scope.is_bound(prefix_of(name, parts.prefix)) {
+    if !scope.is_bound(prefix_of(name, parts.prefix), declaration) {
         return true;
     }
     if is_new {
         return false;
     }
-    has_twin(scope, first, number, name, parts.prefix)
+    has_twin(scope, first, number, name, parts.prefix, declaration)
+}
+
+/// The record of the nearest declaration of an attribute's prefix, by the parts of its name's record; `None` for a
+/// declaration and for a name without a prefix.
+fn prefix_declaration<W: Words>(
+    scope: &Scope<'_, '_, W>,
+    memo: &mut Memo,
+    parts: Parts,
+) -> Option<u32>
+    requires known { IsMemoOf scope.now.table.now.bytes (W.lists scope.now.table.now.words).records memo.old }
+    ensures known { IsMemoOf scope.now.table.now.bytes (W.lists scope.now.table.now.words).records memo.new }
+    ensures found { (nest : Forest) (hs : List Holder) → IsScope scope.now.table.now.bytes
+        (W.lists scope.now.table.now.words) scope.now.open_tags.now scope.now.depth nest hs →
+        (a : Attribute) → IsNameRecord scope.now.table.now.bytes (record_of parts) a.name →
+        NearestOf scope.now.table.now.bytes nest hs (record_of parts) a result }
+    ensures declares { IfSome result (IsDeclaration scope.now.table.now.bytes (W.lists scope.now.table.now.words)) }
+{
+    if parts.token == TokenKind::NamespaceName as u8 || parts.prefix == 0 {
+        return None;
+    }
+    let sought = Prefix {
+        text: prefix_of(slice_of(scope.table.bytes(), parts), parts.prefix),
+        offset: parts.offset,
+        len: parts.prefix,
+    };
+    scope.declaration_known(memo, &sought)
 }
 
 /// The number of attributes from which on a filter is worth its making.
@@ -192,9 +229,15 @@ const MANY: u32 = 64;
 /// Where the first name of an attribute or a declaration of the nearest tag begins that offends; no two of them have
 /// one name, and the record of the first of them has the index `first`. Each is compared with those before it only
 /// where a filter takes its expanded name for one of theirs.
-fn attributes_offence_in_many<W: Words>(scope: &Scope<'_, '_, W>, first: u32) -> Option<u32>
-    requires { first ≤ length (list_of Part.Records (W.lists scope.now.table.now.words)) }
-    ensures { (nest : Forest) (x : Holder) (xs : List Holder) → IsScope scope.now.table.now.bytes
+fn attributes_offence_in_many<W: Words>(
+    scope: &Scope<'_, '_, W>,
+    memo: &mut Memo,
+    first: u32,
+) -> Option<u32>
+    requires known { IsMemoOf scope.now.table.now.bytes (W.lists scope.now.table.now.words).records memo.old }
+    requires first { first ≤ length (list_of Part.Records (W.lists scope.now.table.now.words)) }
+    ensures known { IsMemoOf scope.now.table.now.bytes (W.lists scope.now.table.now.words).records memo.new }
+    ensures offence { (nest : Forest) (x : Holder) (xs : List Holder) → IsScope scope.now.table.now.bytes
         (W.lists scope.now.table.now.words) scope.now.open_tags.now scope.now.depth nest (x ∷ xs) →
         first ≡ x.index + 1 → (at : ℕ) → AreAttributeRecords scope.now.table.now.bytes
           (records nest (first_place scope.now.table.now.bytes)) first at x.tag.attributes →
@@ -204,8 +247,9 @@ fn attributes_offence_in_many<W: Words>(scope: &Scope<'_, '_, W>, first: u32) ->
     let mut filter = FingerprintFilter::new();
     let mut number = 0;
     while let Some(parts) = attribute_at(scope.table.words(), first + 2 * number) {
-        let is_new = note_attribute(scope, &mut filter, parts);
-        if attribute_offends(scope, first, number, parts, is_new) {
+        let declaration = prefix_declaration(scope, memo, parts);
+        let is_new = note_attribute(scope, &mut filter, parts, declaration);
+        if attribute_offends(scope, first, number, parts, is_new, declaration) {
             return Some(parts.offset);
         }
         number += 1;
@@ -216,9 +260,15 @@ fn attributes_offence_in_many<W: Words>(scope: &Scope<'_, '_, W>, first: u32) ->
 /// Where the first name of an attribute or a declaration of the nearest tag begins that offends; no two of them have
 /// one name, and the record of the first of them has the index `first`. Each is compared with those before it; where
 /// one with a prefix is not among the first few, only where a filter takes its expanded name for one of theirs.
-fn attributes_offence<W: Words>(scope: &Scope<'_, '_, W>, first: u32) -> Option<u32>
-    requires { first ≤ length (list_of Part.Records (W.lists scope.now.table.now.words)) }
-    ensures { (nest : Forest) (x : Holder) (xs : List Holder) → IsScope scope.now.table.now.bytes
+fn attributes_offence<W: Words>(
+    scope: &Scope<'_, '_, W>,
+    memo: &mut Memo,
+    first: u32,
+) -> Option<u32>
+    requires known { IsMemoOf scope.now.table.now.bytes (W.lists scope.now.table.now.words).records memo.old }
+    requires first { first ≤ length (list_of Part.Records (W.lists scope.now.table.now.words)) }
+    ensures known { IsMemoOf scope.now.table.now.bytes (W.lists scope.now.table.now.words).records memo.new }
+    ensures offence { (nest : Forest) (x : Holder) (xs : List Holder) → IsScope scope.now.table.now.bytes
         (W.lists scope.now.table.now.words) scope.now.open_tags.now scope.now.depth nest (x ∷ xs) →
         first ≡ x.index + 1 → (at : ℕ) → AreAttributeRecords scope.now.table.now.bytes
           (records nest (first_place scope.now.table.now.bytes)) first at x.tag.attributes →
@@ -228,9 +278,10 @@ fn attributes_offence<W: Words>(scope: &Scope<'_, '_, W>, first: u32) -> Option<
     let mut number = 0;
     while let Some(parts) = attribute_at(scope.table.words(), first + 2 * number) {
         if number >= MANY && parts.prefix > 0 {
-            return attributes_offence_in_many(scope, first);
+            return attributes_offence_in_many(scope, memo, first);
         }
-        if attribute_offends(scope, first, number, parts, false) {
+        let declaration = prefix_declaration(scope, memo, parts);
+        if attribute_offends(scope, first, number, parts, false, declaration) {
             return Some(parts.offset);
         }
         number += 1;
@@ -242,10 +293,17 @@ fn attributes_offence<W: Words>(scope: &Scope<'_, '_, W>, first: u32) -> Option<
 const XMLNS: &[u8] = b"xmlns";
 
 /// Whether the name of the nearest tag offends, by the parts of its record.
-fn tag_name_offends<W: Words>(scope: &Scope<'_, '_, W>, tag: u32, parts: Parts) -> bool
-    requires { (rs : List Record) → Shows (list_of Part.Records (W.lists scope.now.table.now.words)) rs →
+fn tag_name_offends<W: Words>(
+    scope: &Scope<'_, '_, W>,
+    memo: &mut Memo,
+    tag: u32,
+    parts: Parts,
+) -> bool
+    requires known { IsMemoOf scope.now.table.now.bytes (W.lists scope.now.table.now.words).records memo.old }
+    requires here { (rs : List Record) → Shows (list_of Part.Records (W.lists scope.now.table.now.words)) rs →
         record_of parts ≡ record_at tag rs }
-    ensures { (nest : Forest) (x : Holder) (xs : List Holder) → IsScope scope.now.table.now.bytes
+    ensures known { IsMemoOf scope.now.table.now.bytes (W.lists scope.now.table.now.words).records memo.new }
+    ensures offends { (nest : Forest) (x : Holder) (xs : List Holder) → IsScope scope.now.table.now.bytes
         (W.lists scope.now.table.now.words) scope.now.open_tags.now scope.now.depth nest (x ∷ xs) →
         (at : ℕ) → IsTagRecord scope.now.table.now.bytes (records nest (first_place scope.now.table.now.bytes)) tag at
           x.tag →
@@ -259,14 +317,28 @@ fn tag_name_offends<W: Words>(scope: &Scope<'_, '_, W>, tag: u32, parts: Parts) 
     if prefix == XMLNS {
         return true;
     }
-    !scope.is_bound(prefix)
+    if prefix.is_empty() {
+        return false;
+    }
+    let sought = Prefix {
+        text: prefix,
+        offset: parts.offset,
+        len: parts.prefix,
+    };
+    !scope.is_bound(prefix, scope.declaration_known(memo, &sought))
 }
 
 /// Where the first name of the nearest tag begins that offends, by the index of the tag's record; no two names of its
 /// attributes and declarations are one.
-pub fn tag_offence<W: Words>(scope: &Scope<'_, '_, W>, tag: u32) -> Option<u32>
-    requires { tag < length (list_of Part.Records (W.lists scope.now.table.now.words)) }
-    ensures { (nest : Forest) (x : Holder) (xs : List Holder) → IsScope scope.now.table.now.bytes
+pub fn tag_offence<W: Words>(
+    scope: &Scope<'_, '_, W>,
+    memo: &mut Memo,
+    tag: u32,
+) -> Option<u32>
+    requires known { IsMemoOf scope.now.table.now.bytes (W.lists scope.now.table.now.words).records memo.old }
+    requires tag { tag < length (list_of Part.Records (W.lists scope.now.table.now.words)) }
+    ensures known { IsMemoOf scope.now.table.now.bytes (W.lists scope.now.table.now.words).records memo.new }
+    ensures offence { (nest : Forest) (x : Holder) (xs : List Holder) → IsScope scope.now.table.now.bytes
         (W.lists scope.now.table.now.words) scope.now.open_tags.now scope.now.depth nest (x ∷ xs) →
         tag ≡ x.index → (at : ℕ) →
         IsTagRecord scope.now.table.now.bytes (records nest (first_place scope.now.table.now.bytes)) tag at x.tag →
@@ -274,8 +346,8 @@ pub fn tag_offence<W: Words>(scope: &Scope<'_, '_, W>, tag: u32) -> Option<u32>
         result ≡ first_of (offending_tag at (tags_in xs) x.tag) }
 {
     let parts = parts_at(scope.table.words(), tag);
-    if tag_name_offends(scope, tag, parts) {
+    if tag_name_offends(scope, memo, tag, parts) {
         return Some(parts.offset);
     }
-    attributes_offence(scope, tag + 1)
+    attributes_offence(scope, memo, tag + 1)
 }

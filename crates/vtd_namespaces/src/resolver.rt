@@ -18,8 +18,9 @@ ghost use Rattle.vtd_namespaces.specs.Reach.{reach_of};
 ghost use Rattle.vtd_namespaces.specs.Uris.{uri_value};
 
 use crate::compare::is_uri;
-use crate::declarations::{declaration_for, declarations_end};
+use crate::declarations::declarations_end;
 use crate::holders::{XML, uri_by};
+use crate::memo::{Memo, Prefix, empty_memo, nearest_known};
 use crate::nodes::{local_of, prefix_of};
 use crate::open_tags::OpenTags;
 use crate::uri::Uri;
@@ -83,17 +84,20 @@ fn after_first<W: Words>(table: &Table<'_, W>, node: Node) -> u32
     node.at + 1
 }
 
-/// Answers the URIs of names and name tests for the nodes of a document. It keeps the open tags along the records, and
-/// knows where the declarations of the document end. So nodes that come in document order cost, together, one read for
-/// each record up to the last of them, and for each node the names of those open tags that are before the end of the
-/// declarations; no records at all but the node's, where the document declares nothing. A node before the last one that
-/// was asked for begins anew at the first record. Contracts see the bytes and the words of the document.
+/// Answers the URIs of names and name tests for the nodes of a document. It keeps the open tags along the records, knows
+/// where the declarations of the document end, and notes what it found out of tags. So nodes that come in document order
+/// cost, together, one read for each record up to the last of them, and for each node a look into the notes for those of
+/// its open tags that are before the end of the declarations; the names of such a tag are walked once for each prefix, as
+/// long as the 8,192 places of the notes have room. Where the document declares nothing, a node costs its own record
+/// alone. A node before the last one that was asked for begins anew at the first record. It sits on the stack, 130 KiB.
+/// Contracts see the bytes and the words of the document.
 #[derive(Drop)]
 pub struct Resolver<'t, 'a, W: Words> {
     table: &'t Table<'a, W>,
     open_tags: OpenTags,
     passed: u32,
     end: u32,
+    memo: Memo,
 }
 
 impl<'t, 'a, W: Words> Model for Resolver<'t, 'a, W> {
@@ -104,7 +108,8 @@ impl<'t, 'a, W: Words> Model for Resolver<'t, 'a, W> {
 
     ghost view = { λ r. r.table.now };
 
-    ghost invariant = { λ r. IsResolver r.table.now.bytes (W.lists r.table.now.words) r.open_tags r.passed r.end };
+    ghost invariant = { λ r. IsResolver r.table.now.bytes (W.lists r.table.now.words) r.open_tags r.passed r.end
+        r.memo.tags r.memo.offsets r.memo.lens r.memo.declarations };
 }
 
 impl<'t, 'a, W: Words> Resolver<'t, 'a, W> {
@@ -118,6 +123,7 @@ impl<'t, 'a, W: Words> Resolver<'t, 'a, W> {
             open_tags: OpenTags::new(),
             passed: 0,
             end,
+            memo: empty_memo(),
         }
     }
 
@@ -139,13 +145,19 @@ impl<'t, 'a, W: Words> Resolver<'t, 'a, W> {
         go_to(self.table.words(), &mut self.open_tags, self.passed, past);
         self.passed = past;
         let parts = parts_at(self.table.words(), node.at);
-        declaration_for(
+        let sought = Prefix {
+            text: prefix,
+            offset: parts.offset,
+            len: parts.prefix,
+        };
+        nearest_known(
             self.table.bytes(),
             self.table.words(),
+            &mut self.memo,
             &self.open_tags,
             reach_of(parts),
             self.end,
-            prefix,
+            &sought,
         )
     }
 

@@ -10,6 +10,7 @@ ghost use Rattle.vtd_namespaces.specs.Undeclared.{NoneDeclared};
 use crate::compare::same_uri;
 use crate::declarations::declaration_for;
 use crate::holders::XML;
+use crate::memo::{Memo, Prefix, nearest_known};
 use crate::open_tags::OpenTags;
 use crate::uri::Uri;
 use vtd_text::Chars;
@@ -29,6 +30,7 @@ pub struct Scope<'s, 'a, W: Words> {
 
 impl<'s, 'a, W: Words> Scope<'s, 'a, W> {
     ghost use Rattle.vtd_namespaces.specs.Scope.{IsNearest, tags_in};
+    ghost use Rattle.vtd_namespaces.specs.Memos.{IsMemoOf};
     ghost use Rattle.vtd_namespaces.specs.Reach.{IsScope, same_uri};
     ghost use Rattle.vtd_namespaces.specs.Uris.{uri_value};
     ghost use Rattle.xml_model.specs.Accepted.{is_bound};
@@ -53,9 +55,31 @@ impl<'s, 'a, W: Words> Scope<'s, 'a, W> {
         )
     }
 
+    /// The same by a memo of what tags declare: the record of the name of the nearest declaration of a prefix, or `None`
+    /// where there is none.
+    pub fn declaration_known(&self, memo: &mut Memo, prefix: &Prefix<'_>) -> Option<u32>
+        requires known { IsMemoOf self.now.table.now.bytes (W.lists self.now.table.now.words).records memo.old }
+        ensures known { IsMemoOf self.now.table.now.bytes (W.lists self.now.table.now.words).records memo.new }
+        ensures found { (nest : Forest) (hs : List Holder) → IsScope self.now.table.now.bytes
+            (W.lists self.now.table.now.words) self.now.open_tags.now self.now.depth nest hs →
+            (p : List ℕ) → prefix.now.text.now ≡ encode_utf8_all p →
+            IsNearest (nodes_of self.now.table.now.bytes nest) hs p result }
+        ensures declares { IfSome result (IsDeclaration self.now.table.now.bytes (W.lists self.now.table.now.words)) }
+    {
+        nearest_known(
+            self.table.bytes(),
+            self.table.words(),
+            memo,
+            self.open_tags,
+            self.depth as usize + 1,
+            self.end,
+            prefix,
+        )
+    }
+
     /// The URI to which a prefix is bound that is not empty, by the record of its nearest declaration; none where it is
     /// not bound.
-    fn uri_by(&self, prefix: &[u8], declaration: Option<u32>) -> Uri<'a, W>
+    pub fn uri_by(&self, prefix: &[u8], declaration: Option<u32>) -> Uri<'a, W>
         requires { IfSome declaration (IsDeclaration self.now.table.now.bytes (W.lists self.now.table.now.words)) }
         ensures { (nest : Forest) (hs : List Holder) → IsScope self.now.table.now.bytes
             (W.lists self.now.table.now.words) self.now.open_tags.now self.now.depth nest hs →
@@ -95,12 +119,13 @@ impl<'s, 'a, W: Words> Scope<'s, 'a, W> {
         same_uri(self.uri_by(one, declaration), self.uri_of_prefix(other))
     }
 
-    /// Whether a prefix is bound (Namespaces in XML 1.0, section 5, constraint 'Prefix Declared'): the empty one needs
-    /// no binding, and `xml` always has one.
-    pub fn is_bound(&self, prefix: &[u8]) -> bool
+    /// Whether a prefix is bound, by the record of its nearest declaration (Namespaces in XML 1.0, section 5, constraint
+    /// 'Prefix Declared'): the empty one needs no binding, and `xml` always has one.
+    pub fn is_bound(&self, prefix: &[u8], declaration: Option<u32>) -> bool
         ensures { (nest : Forest) (hs : List Holder) → IsScope self.now.table.now.bytes
             (W.lists self.now.table.now.words) self.now.open_tags.now self.now.depth nest hs →
-            (p : List ℕ) → prefix.now ≡ encode_utf8_all p → result ≡ is_bound p (tags_in hs) }
+            (p : List ℕ) → prefix.now ≡ encode_utf8_all p →
+            IsNearest (nodes_of self.now.table.now.bytes nest) hs p declaration → result ≡ is_bound p (tags_in hs) }
     {
         if prefix.is_empty() {
             return true;
@@ -108,6 +133,6 @@ impl<'s, 'a, W: Words> Scope<'s, 'a, W> {
         if prefix == XML {
             return true;
         }
-        self.declaration(prefix).is_some()
+        declaration.is_some()
     }
 }

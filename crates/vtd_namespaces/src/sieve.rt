@@ -1,7 +1,7 @@
 //! A sieve for the expanded names of a tag's attributes (Namespaces in XML 1.0, section 6.3): a fingerprint filter
 //! whose keys are the URI and the local part.
 
-ghost use Rattle.std.specs.Prelude.{◌≡◌, ℕ, ◌<◌, ◌^◌, true, false, not, List, [], fold};
+ghost use Rattle.std.specs.Prelude.{◌≡◌, ℕ, ◌<◌, ◌^◌, true, false, not, List, [], fold, IfSome};
 ghost use Rattle.std.specs.Option.{unwrap_or};
 ghost use Rattle.xml_model.specs.Items.{Attribute};
 ghost use Rattle.xml_model.specs.Nest.{Forest};
@@ -10,10 +10,13 @@ ghost use Rattle.xml_model.specs.Tree.{Holder};
 ghost use Rattle.vtd_words.specs.Packed.{record_of};
 ghost use Rattle.vtd_text.specs.Fingerprints.{mixed, is_taken};
 ghost use Rattle.vtd_namespaces.specs.NameRecords.{IsNameRecord};
-ghost use Rattle.vtd_namespaces.specs.Scope.{tags_in};
+ghost use Rattle.xml_model.specs.Chars.{prefix_of as prefix_of_chars};
+ghost use Rattle.vtd_words.specs.Table.{nodes_of};
+ghost use Rattle.vtd_text.specs.NameRecords.{IsDeclaration};
+ghost use Rattle.vtd_namespaces.specs.Scope.{tags_in, IsNearest};
 ghost use Rattle.vtd_namespaces.specs.Reach.{IsScope};
 ghost use Rattle.vtd_namespaces.specs.Uris.{uri_value};
-ghost use Rattle.vtd_namespaces.specs.Offences.{key_of, IsNoted, IsWritten};
+ghost use Rattle.vtd_namespaces.specs.Offences.{key_of, IsNoted, IsWritten, NearestOf};
 
 use crate::qnames::{after_prefix, prefix_of};
 use crate::records::slice_of;
@@ -35,39 +38,53 @@ fn number_of_uri<W: Words>(uri: Uri<'_, W>) -> u64
     }
 }
 
-/// Notes the expanded name of an attribute whose prefix is not empty; true where no attribute that was noted before has
-/// it.
+/// Notes the expanded name of an attribute whose prefix is not empty, by the record of the nearest declaration of the
+/// prefix; true where no attribute that was noted before has it.
 fn note_name<W: Words>(
     scope: &Scope<'_, '_, W>,
     filter: &mut FingerprintFilter,
     name: &[u8],
     prefix_len: u32,
+    declaration: Option<u32>,
 ) -> bool
     requires prefix { 0 < prefix_len }
+    requires declaration { IfSome declaration
+        (IsDeclaration scope.now.table.now.bytes (W.lists scope.now.table.now.words)) }
     ensures new { (nest : Forest) (hs : List Holder) → IsScope scope.now.table.now.bytes
         (W.lists scope.now.table.now.words) scope.now.open_tags.now scope.now.depth nest hs →
-        (a : Attribute) → IsWritten name.now prefix_len a → result ≡ not (is_taken filter.old (key_of (tags_in hs) a)) }
+        (a : Attribute) → IsWritten name.now prefix_len a →
+        IsNearest (nodes_of scope.now.table.now.bytes nest) hs (prefix_of_chars a.name) declaration → result ≡ not (is_taken filter.old (key_of (tags_in hs) a)) }
     ensures noted { (nest : Forest) (hs : List Holder) → IsScope scope.now.table.now.bytes
         (W.lists scope.now.table.now.words) scope.now.open_tags.now scope.now.depth nest hs →
-        (a : Attribute) → IsWritten name.now prefix_len a → is_taken filter.new (key_of (tags_in hs) a) ≡ true }
+        (a : Attribute) → IsWritten name.now prefix_len a →
+        IsNearest (nodes_of scope.now.table.now.bytes nest) hs (prefix_of_chars a.name) declaration →
+        is_taken filter.new (key_of (tags_in hs) a) ≡ true }
     ensures kept { (key : List ℕ) → is_taken filter.old key ≡ true → is_taken filter.new key ≡ true }
 {
-    let uri = number_of_uri(scope.uri_of_prefix(prefix_of(name, prefix_len)));
+    let uri = number_of_uri(scope.uri_by(prefix_of(name, prefix_len), declaration));
     filter.note_fingerprint(mix_bytes(uri, after_prefix(name, prefix_len)))
 }
 
 /// Notes an attribute of the nearest tag, where it is one with a prefix and no declaration; true only where no
-/// attribute that was noted before has its expanded name.
-pub fn note_attribute<W: Words>(scope: &Scope<'_, '_, W>, filter: &mut FingerprintFilter, parts: Parts) -> bool
+/// attribute that was noted before has its expanded name. The declaration is the nearest one of its prefix.
+pub fn note_attribute<W: Words>(
+    scope: &Scope<'_, '_, W>,
+    filter: &mut FingerprintFilter,
+    parts: Parts,
+    declaration: Option<u32>,
+) -> bool
+    requires { IfSome declaration (IsDeclaration scope.now.table.now.bytes (W.lists scope.now.table.now.words)) }
     ensures new { (nest : Forest) (hs : List Holder) → IsScope scope.now.table.now.bytes
         (W.lists scope.now.table.now.words) scope.now.open_tags.now scope.now.depth nest hs →
         (a : Attribute) → parts.token ≡ name_token a.name →
-        IsNameRecord scope.now.table.now.bytes (record_of parts) a.name → result ≡ true →
+        IsNameRecord scope.now.table.now.bytes (record_of parts) a.name →
+        NearestOf scope.now.table.now.bytes nest hs (record_of parts) a declaration → result ≡ true →
         is_taken filter.old (key_of (tags_in hs) a) ≡ false }
     ensures noted { (nest : Forest) (hs : List Holder) → IsScope scope.now.table.now.bytes
         (W.lists scope.now.table.now.words) scope.now.open_tags.now scope.now.depth nest hs →
         (a : Attribute) → parts.token ≡ name_token a.name →
-        IsNameRecord scope.now.table.now.bytes (record_of parts) a.name → IsNoted (tags_in hs) filter.new a }
+        IsNameRecord scope.now.table.now.bytes (record_of parts) a.name →
+        NearestOf scope.now.table.now.bytes nest hs (record_of parts) a declaration → IsNoted (tags_in hs) filter.new a }
     ensures kept { (key : List ℕ) → is_taken filter.old key ≡ true → is_taken filter.new key ≡ true }
 {
     if parts.token == TokenKind::NamespaceName as u8 || parts.prefix == 0 {
@@ -78,5 +95,6 @@ pub fn note_attribute<W: Words>(scope: &Scope<'_, '_, W>, filter: &mut Fingerpri
         filter,
         slice_of(scope.table.bytes(), parts),
         parts.prefix,
+        declaration,
     )
 }

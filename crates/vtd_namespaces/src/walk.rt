@@ -11,10 +11,12 @@ ghost use Rattle.vtd_words.specs.Lists.{list_of};
 ghost use Rattle.vtd_words.specs.Packed.{record_of};
 ghost use Rattle.vtd_words.specs.Table.{IsNestOf, Shows, nodes_of};
 ghost use Rattle.vtd_namespaces.specs.Faults.{first_of, OffenceAt};
+ghost use Rattle.vtd_namespaces.specs.Memos.{IsMemoOf};
 ghost use Rattle.vtd_namespaces.specs.OpenTags.{open_before};
 ghost use Rattle.vtd_namespaces.specs.Undeclared.{NoneDeclared};
 
 use crate::declarations::declarations_end;
+use crate::memo::{Memo, empty_memo};
 use crate::offences::tag_offence;
 use crate::open_tags::OpenTags;
 use crate::qnames::has_colon;
@@ -27,11 +29,13 @@ use xml_model::TokenKind;
 /// no record from `end` on is of a declaration's name.
 fn element_offence<W: Words>(
     table: &Table<'_, W>,
+    memo: &mut Memo,
     open_tags: &OpenTags,
     at: u32,
     depth: u8,
     end: u32,
 ) -> Option<u32>
+    requires known { IsMemoOf table.now.bytes (W.lists table.now.words).records memo.old }
     requires room { at < length (list_of Part.Records (W.lists table.now.words)) }
     requires opened { (rs : List Record) → Shows (list_of Part.Records (W.lists table.now.words)) rs →
         open_tags.now ≡ open_before (at + 1) rs }
@@ -40,7 +44,8 @@ fn element_offence<W: Words>(
         (record_at at rs).token ≡ kind_number token.StartTag }
     requires depth { (rs : List Record) → Shows (list_of Part.Records (W.lists table.now.words)) rs →
         (record_at at rs).depth ≡ depth }
-    ensures { (nest : Forest) → IsNestOf table.now.bytes (W.lists table.now.words) nest →
+    ensures known { IsMemoOf table.now.bytes (W.lists table.now.words).records memo.new }
+    ensures offence { (nest : Forest) → IsNestOf table.now.bytes (W.lists table.now.words) nest →
         over_names repeats [] (first_place table.now.bytes) nest ≡ [] →
         OffenceAt at result (nodes_of table.now.bytes nest) }
 {
@@ -52,7 +57,7 @@ fn element_offence<W: Words>(
         depth,
         end,
     };
-    tag_offence(&scope, at)
+    tag_offence(&scope, memo, at)
 }
 
 /// The place of the target of an instruction, where it has a colon (Namespaces in XML 1.0, section 7).
@@ -73,14 +78,17 @@ fn instruction_offence<W: Words>(table: &Table<'_, W>, at: u32, parts: Parts) ->
 /// the record, and then those before the next. No record from `end` on is of a declaration's name.
 fn offence_at<W: Words>(
     table: &Table<'_, W>,
+    memo: &mut Memo,
     open_tags: &mut OpenTags,
     at: u32,
     end: u32,
 ) -> Option<u32>
+    requires known { IsMemoOf table.now.bytes (W.lists table.now.words).records memo.old }
     requires room { at < length (list_of Part.Records (W.lists table.now.words)) }
     requires opened { (rs : List Record) → Shows (list_of Part.Records (W.lists table.now.words)) rs →
         open_tags.old ≡ open_before at rs }
     requires undeclared { NoneDeclared (list_of Part.Records (W.lists table.now.words)) end }
+    ensures known { IsMemoOf table.now.bytes (W.lists table.now.words).records memo.new }
     ensures opened { (rs : List Record) → Shows (list_of Part.Records (W.lists table.now.words)) rs →
         open_tags.new ≡ open_before (at + 1) rs }
     ensures offence { (nest : Forest) → IsNestOf table.now.bytes (W.lists table.now.words) nest →
@@ -93,7 +101,7 @@ fn offence_at<W: Words>(
     let parts = parts_at(table.words(), at);
     open_tags.pass(at, parts);
     if parts.token == TokenKind::StartTag as u8 {
-        return element_offence(table, open_tags, at, parts.depth, end);
+        return element_offence(table, memo, open_tags, at, parts.depth, end);
     }
     if parts.token == TokenKind::Target as u8 {
         return instruction_offence(table, at, parts);
@@ -111,8 +119,9 @@ pub fn first_offence<W: Words>(table: &Table<'_, W>) -> Option<u32>
     let records = table.words().len(Part::Records);
     let end = declarations_end(table.words());
     let mut open_tags = OpenTags::new();
+    let mut memo = empty_memo();
     for at in 0..records {
-        let offence = offence_at(table, &mut open_tags, at, end);
+        let offence = offence_at(table, &mut memo, &mut open_tags, at, end);
         if offence.is_some() {
             return offence;
         }

@@ -10,14 +10,15 @@ use Rattle.vtd_namespaces.proofs.offences.attributes_offence_in_many.Goals as go
 
 pub loop-parts-init : goal.loop-parts-init
 loop-parts-init g c = record {
+  known = c.requires.known;
   room = omega arith;
   bound = omega arith;
   inspected = λ nest x xs s e at hold h. none_inspected c.args.scope.now.table.now.bytes (records nest (first_place c.args.scope.now.table.now.bytes)) c.args.first at (tags_in (x ∷ xs)) x.tag.attributes hold;
   noted = λ nest x xs s e at hold h. tt;
 }
 
-pub returns-then-attribute_offends : goal.returns-then-attribute_offends
-returns-then-attribute_offends g c = λ nest x xs s e at hold h.
+pub returns-then-attribute_offends-clause-offence : goal.returns-then-attribute_offends-clause-offence
+returns-then-attribute_offends-clause-offence g c = λ nest x xs s e at hold h.
     let here = rw c.words.ensures.value at c.in-Some.ensures.some in
     let rs = records nest (first_place c.args.scope.now.table.now.bytes) in
     let n = next_inspected c.args.scope.now.table.now.bytes rs c.args.first c.loop-parts.number at (tags_in (x ∷ xs)) x.tag.attributes c.in-Some.parts (c.loop-parts.invariant.inspected nest x xs s e at hold h) (here rs (nest_shown _ _ nest s.few s.shown)) c.in-Some.ensures.kind in
@@ -25,13 +26,14 @@ returns-then-attribute_offends g c = λ nest x xs s e at hold h.
     n.hit
     (sym (c.attribute_offends.ensures nest x xs s e n.done n.left n.attribute n.split n.many n.fine (differ c.args.scope.now.table.now.bytes rs c.args.first c.loop-parts.number at (tags_in (x ∷ xs)) x.tag.attributes c.in-Some.parts n h)
     (λ k some. known_new (tags_in (x ∷ xs)) c.loop-parts.filter x.tag.attributes n.done n.left n.attribute c.loop-parts.number n.split n.many (c.loop-parts.invariant.noted nest x xs s e at hold h)
-    (c.note_attribute-is_new.ensures.new nest (x ∷ xs) s n.attribute o.token (known_record _ c.in-Some.parts n.attribute o) k) some))
+    (c.note_attribute-is_new.ensures.new nest (x ∷ xs) s n.attribute o.token (known_record _ c.in-Some.parts n.attribute o) (c.prefix_declaration-declaration.ensures.found nest (x ∷ xs) s n.attribute (known_record _ c.in-Some.parts n.attribute o)) k) some) (c.prefix_declaration-declaration.ensures.found nest (x ∷ xs) s n.attribute (known_record _ c.in-Some.parts n.attribute o)))
     ∙ c.if-attribute_offends.true)
 
 pub loop-parts-preserved : goal.loop-parts-preserved
 loop-parts-preserved g c =
     let room = rw c.words.ensures.value at c.in-Some.ensures.room in
     record {
+      known = c.prefix_declaration-declaration.ensures.known;
       room = omega (arith, room);
       bound = omega (arith, c.in-Some.ensures.bound);
       inspected = λ nest x xs s e at hold h.
@@ -42,7 +44,7 @@ loop-parts-preserved g c =
           n.miss
           (sym (c.attribute_offends.ensures nest x xs s e n.done n.left n.attribute n.split n.many n.fine (differ c.args.scope.now.table.now.bytes rs c.args.first c.loop-parts.number at (tags_in (x ∷ xs)) x.tag.attributes c.in-Some.parts n h)
           (λ k some. known_new (tags_in (x ∷ xs)) c.loop-parts.filter x.tag.attributes n.done n.left n.attribute c.loop-parts.number n.split n.many (c.loop-parts.invariant.noted nest x xs s e at hold h)
-          (c.note_attribute-is_new.ensures.new nest (x ∷ xs) s n.attribute o.token (known_record _ c.in-Some.parts n.attribute o) k) some))
+          (c.note_attribute-is_new.ensures.new nest (x ∷ xs) s n.attribute o.token (known_record _ c.in-Some.parts n.attribute o) (c.prefix_declaration-declaration.ensures.found nest (x ∷ xs) s n.attribute (known_record _ c.in-Some.parts n.attribute o)) k) some) (c.prefix_declaration-declaration.ensures.found nest (x ∷ xs) s n.attribute (known_record _ c.in-Some.parts n.attribute o)))
           ∙ c.if-attribute_offends.false);
       noted = λ nest x xs s e at hold h.
           let here = rw c.words.ensures.value at c.in-Some.ensures.some in
@@ -50,11 +52,11 @@ loop-parts-preserved g c =
           let n = next_inspected c.args.scope.now.table.now.bytes rs c.args.first c.loop-parts.number at (tags_in (x ∷ xs)) x.tag.attributes c.in-Some.parts (c.loop-parts.invariant.inspected nest x xs s e at hold h) (here rs (nest_shown _ _ nest s.few s.shown)) c.in-Some.ensures.kind in
           let o = (attends _ _ _ _ nest x xs s c.args.first c.loop-parts.number e n.done n.left n.attribute n.split n.many c.in-Some.parts here).other in
           noted_more (tags_in (x ∷ xs)) c.loop-parts.filter c.note_attribute-is_new.new.filter x.tag.attributes n.done n.left n.attribute c.loop-parts.number n.split n.many c.note_attribute-is_new.ensures.kept (c.loop-parts.invariant.noted nest x xs s e at hold h)
-          (c.note_attribute-is_new.ensures.noted nest (x ∷ xs) s n.attribute o.token (known_record _ c.in-Some.parts n.attribute o));
+          (c.note_attribute-is_new.ensures.noted nest (x ∷ xs) s n.attribute o.token (known_record _ c.in-Some.parts n.attribute o) (c.prefix_declaration-declaration.ensures.found nest (x ∷ xs) s n.attribute (known_record _ c.in-Some.parts n.attribute o)));
     }
 
-pub returns : goal.returns
-returns g c = λ nest x xs s e at hold h.
+pub returns-clause-offence : goal.returns-clause-offence
+returns-clause-offence g c = λ nest x xs s e at hold h.
     let none = rw c.words.ensures.value at c.in_default.ensures.none in
     let rs = records nest (first_place c.args.scope.now.table.now.bytes) in
     all_inspected c.args.scope.now.table.now.bytes rs c.args.first c.loop-parts.number at (tags_in (x ∷ xs)) x.tag.attributes (c.loop-parts.invariant.inspected nest x xs s e at hold h) (none rs (nest_shown _ _ nest s.few s.shown))

@@ -5,7 +5,7 @@ use Rattle.vtd_namespaces.proofs.TagLemmas.{offence_some, offence_none}
 use Rattle.vtd_namespaces.proofs.walk.first_offence.Goals as goal
 
 pub loop-at-init : goal.loop-at-init
-loop-at-init g c = record { opened = λ rs s. c.new-open_tags.ensures rs; before = λ nest s h. none_before_first offences _ }
+loop-at-init g c = record { known = λ k some. absurd (omega (arith, c.empty_memo-memo.ensures k, some)); opened = λ rs s. c.new-open_tags.ensures rs; before = λ nest s h. none_before_first offences _ }
 
 pub returns-then-is_some : goal.returns-then-is_some
 returns-then-is_some g c = λ nest s h.
@@ -15,6 +15,7 @@ returns-then-is_some g c = λ nest s h.
 
 pub loop-at-preserved : goal.loop-at-preserved
 loop-at-preserved g c = record {
+  known = c.offence_at-offence.ensures.known;
   opened = c.offence_at-offence.ensures.opened;
   before = λ nest s h.
       offence_none _ nest c.loop-at.at c.offence_at-offence.result (c.offence_at-offence.ensures.offence nest s h) (sym c.is_some.ensures ∙ c.if-is_some.false) (c.loop-at.invariant.before nest s h);

@@ -7,4 +7,5 @@ invariant_of-result g c = record {
   within = omega arith;
   opened = λ rs s. c.new.ensures rs;
   undeclared = rw c.words.ensures.value at c.declarations_end-end.ensures.after;
+  known = λ k some. absurd (omega (arith, c.empty_memo.ensures k, some));
 }
