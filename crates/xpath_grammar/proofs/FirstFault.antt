@@ -145,9 +145,6 @@ pub wanted_fine : (nodes : Bool) (e : Tree) (ms : List Mark) → (nodes && not (
 wanted_fine nodes e ms h = rw h refl
 
 -- an expression is its prefix and what is after it
-begun_cons : (m : Mark) (ms : List Mark) → begun (m ∷ ms) ≡ m ∷ ms
-begun_cons m ms = refl
-
 pub begun_step : (a : StepAxis) (t : StepTest) (ps : Trees) (w : Walk) → begun (step_marks (go a t ps w)) ≡ step_marks (go a t ps w)
 begun_step (Known Child) t ps w = refl
 begun_step (Known Descendant) t ps w = refl
