@@ -212,6 +212,10 @@ prefix_own bs (number t) h = first_in-plain bs (number_word t) [] ∙ or_else_no
 prefix_own bs (variable n) h = refl
 prefix_own bs (call f es) h = first_in-plain bs (function_word f es) [] ∙ or_else_none (own_fault (call f es))
 
+pub none_left : {X : Type 0} (o : Option X) → ((x : X) → o ≡ Some x → ⊥) → o ≡ None
+none_left None h = refl
+none_left (Some x) h = absurd (h x refl)
+
 -- what the working function knows that goes down the prefixes
 pub record Descends (bs : List (List ℕ × List ℕ)) (whole prefix : Tree) (found : Option StaticFault) : Type 0 where
   pub same : first_in bs (marks whole) ≡ or_else (first_in bs (prefix_marks prefix)) found
