@@ -24,13 +24,18 @@ order_same j k =
     ap (λ x. slice_cmp nat_cmp x (encode_utf8_all (chars (string_bytes k)))) (encodes-chars (string_bytes j) (IsUtf8-string_bytes j))
     ∙ ap (λ x. slice_cmp nat_cmp (string_bytes j) x) (encodes-chars (string_bytes k) (IsUtf8-string_bytes k))
 
-pub shown_insert : {Z : Type 0} (es : List (String Z × List ℕ)) (k : String Z) (u : List ℕ) → shown (insert_entry string_cmp es k u) ≡ bound_in (shown es) (chars (string_bytes k)) u
+pub shown_insert : {Z : Type 0} (es : List (String Z × List ℕ)) (k : String Z) (u : List ℕ)
+    → shown (insert_entry string_cmp es k u) ≡ bound_in (shown es) (chars (string_bytes k)) u
 shown_insert [] k u = refl
 shown_insert (e ∷ es) k u =
     this (shown_insert es k u) (string_cmp k e.0)
-    ∙ ap (λ o. match_ordering o ((chars (string_bytes k), u) ∷ shown (e ∷ es)) ((chars (string_bytes e.0), u) ∷ shown es) ((chars (string_bytes e.0), e.1) ∷ bound_in (shown es) (chars (string_bytes k)) u)) (sym (order_same k e.0))
+    ∙ ap (λ o. match_ordering o ((chars (string_bytes k), u) ∷ shown (e ∷ es)) ((chars (string_bytes e.0), u) ∷ shown es)
+        ((chars (string_bytes e.0), e.1) ∷ bound_in (shown es) (chars (string_bytes k)) u)) (sym (order_same k e.0))
   where
-    this : shown (insert_entry string_cmp es k u) ≡ bound_in (shown es) (chars (string_bytes k)) u → (o : Ordering) → shown (match_ordering o ((k, u) ∷ e ∷ es) ((e.0, u) ∷ es) (e ∷ insert_entry string_cmp es k u)) ≡ match_ordering o ((chars (string_bytes k), u) ∷ shown (e ∷ es)) ((chars (string_bytes e.0), u) ∷ shown es) ((chars (string_bytes e.0), e.1) ∷ bound_in (shown es) (chars (string_bytes k)) u)
+    this : shown (insert_entry string_cmp es k u) ≡ bound_in (shown es) (chars (string_bytes k)) u → (o : Ordering)
+        → shown (match_ordering o ((k, u) ∷ e ∷ es) ((e.0, u) ∷ es) (e ∷ insert_entry string_cmp es k u))
+            ≡ match_ordering o ((chars (string_bytes k), u) ∷ shown (e ∷ es)) ((chars (string_bytes e.0), u) ∷ shown es)
+            ((chars (string_bytes e.0), e.1) ∷ bound_in (shown es) (chars (string_bytes k)) u)
     this i Less = refl
     this i Equal = refl
     this i Greater = ap (λ x. (chars (string_bytes e.0), e.1) ∷ x) i
@@ -39,7 +44,8 @@ shown_insert (e ∷ es) k u =
 sought : {Z : Type 0} (bs : List ℕ) (k : String Z) → IsUtf8 bs → is_eq (slice_cmp nat_cmp bs (string_bytes k)) ≡ bytes_eq (chars bs) (chars (string_bytes k))
 sought bs k u = is_eq-slice_cmp bs (string_bytes k) ∙ same_text bs (string_bytes k) u (IsUtf8-string_bytes k)
 
-pub shown_lookup : {Z : Type 0} (es : List (String Z × List ℕ)) (bs : List ℕ) → IsUtf8 bs → map.lookup (is_at (λ k. slice_cmp nat_cmp bs (string_bytes k))) es ≡ lookup (shown es) (chars bs)
+pub shown_lookup : {Z : Type 0} (es : List (String Z × List ℕ)) (bs : List ℕ) → IsUtf8 bs
+    → map.lookup (is_at (λ k. slice_cmp nat_cmp bs (string_bytes k))) es ≡ lookup (shown es) (chars bs)
 shown_lookup [] bs u = refl
 shown_lookup (e ∷ es) bs u =
     ap (λ b. cond b (Some e.1) (map.lookup (is_at (λ k. slice_cmp nat_cmp bs (string_bytes k))) es)) (sought bs e.0 u)
@@ -52,7 +58,8 @@ order_equal p q h =
 
 order_after : (p q : List ℕ) → prefix_order p q ≡ Greater → p ≡ q → ⊥
 order_after p q h e =
-    let s : bytes_eq (encode_utf8_all p) (encode_utf8_all q) ≡ true = subst (λ z. bytes_eq (encode_utf8_all p) (encode_utf8_all z) ≡ true) e (bytes_same (encode_utf8_all p)) in
+    let s : bytes_eq (encode_utf8_all p) (encode_utf8_all q) ≡ true =
+        subst (λ z. bytes_eq (encode_utf8_all p) (encode_utf8_all z) ≡ true) e (bytes_same (encode_utf8_all p)) in
     let f : bytes_eq (encode_utf8_all p) (encode_utf8_all q) ≡ false = sym (is_eq-slice_cmp (encode_utf8_all p) (encode_utf8_all q)) ∙ ap is_eq h in
     cc
 
@@ -65,12 +72,15 @@ lookup_bound (b ∷ bs) p u q = this (lookup_bound bs p u q) (prefix_order p b.0
     same true y z = refl
     same false y z = refl
 
-    other : (x y : Bool) → bytes_eq q b.0 ≡ x → bytes_eq q p ≡ y → (p ≡ b.0 → ⊥) → cond x (Some b.1) (cond y (Some u) (lookup bs q)) ≡ cond y (Some u) (cond x (Some b.1) (lookup bs q))
+    other : (x y : Bool) → bytes_eq q b.0 ≡ x → bytes_eq q p ≡ y → (p ≡ b.0 → ⊥)
+        → cond x (Some b.1) (cond y (Some u) (lookup bs q)) ≡ cond y (Some u) (cond x (Some b.1) (lookup bs q))
     other true true e f n = absurd (n (sym (same_bytes q p f) ∙ same_bytes q b.0 e))
     other true false e f n = refl
     other false y e f n = refl
 
-    this : lookup (bound_in bs p u) q ≡ cond (bytes_eq q p) (Some u) (lookup bs q) → (o : Ordering) → prefix_order p b.0 ≡ o → lookup (match_ordering o ((p, u) ∷ b ∷ bs) ((b.0, u) ∷ bs) (b ∷ bound_in bs p u)) q ≡ cond (bytes_eq q p) (Some u) (cond (bytes_eq q b.0) (Some b.1) (lookup bs q))
+    this : lookup (bound_in bs p u) q ≡ cond (bytes_eq q p) (Some u) (lookup bs q) → (o : Ordering) → prefix_order p b.0 ≡ o
+        → lookup (match_ordering o ((p, u) ∷ b ∷ bs) ((b.0, u) ∷ bs) (b ∷ bound_in bs p u)) q
+            ≡ cond (bytes_eq q p) (Some u) (cond (bytes_eq q b.0) (Some b.1) (lookup bs q))
     this i Less h = refl
     this i Equal h =
         let e = order_equal p b.0 h in
@@ -89,7 +99,8 @@ not_xml p u h = this (bytes_eq xml p) (is_ncname p) h
 pub uri_bound : (bs : List (List ℕ × List ℕ)) (p u q : List ℕ) → can_bind p u ≡ true → uri_in (bound_in bs p u) q ≡ cond (bytes_eq q p) (Some u) (uri_in bs q)
 uri_bound bs p u q h = this (bytes_eq xml q) (bytes_eq q p) refl refl
   where
-    this : (x y : Bool) → bytes_eq xml q ≡ x → bytes_eq q p ≡ y → cond x (Some xml_uri) (lookup (bound_in bs p u) q) ≡ cond y (Some u) (cond x (Some xml_uri) (lookup bs q))
+    this : (x y : Bool) → bytes_eq xml q ≡ x → bytes_eq q p ≡ y
+        → cond x (Some xml_uri) (lookup (bound_in bs p u) q) ≡ cond y (Some u) (cond x (Some xml_uri) (lookup bs q))
     this true true e f =
         let n = not_xml p u h in
         let k : bytes_eq xml p ≡ true = subst (λ z. bytes_eq xml z ≡ true) (same_bytes q p f) e in
@@ -104,7 +115,8 @@ bound_still (b ∷ bs) p u h k =
     let s = and_parts (can_bind b.0 b.1) (list_all (λ c. can_bind c.0 c.1) bs) h in
     this s.0 (bound_still bs p u s.1 k) s.1 (prefix_order p b.0) refl
   where
-    this : can_bind b.0 b.1 ≡ true → AreBound (bound_in bs p u) → AreBound bs → (o : Ordering) → prefix_order p b.0 ≡ o → AreBound (match_ordering o ((p, u) ∷ b ∷ bs) ((b.0, u) ∷ bs) (b ∷ bound_in bs p u))
+    this : can_bind b.0 b.1 ≡ true → AreBound (bound_in bs p u) → AreBound bs → (o : Ordering) → prefix_order p b.0 ≡ o
+        → AreBound (match_ordering o ((p, u) ∷ b ∷ bs) ((b.0, u) ∷ bs) (b ∷ bound_in bs p u))
     this one i others Less e = rw k h
     this one i others Equal e = let g : can_bind b.0 u ≡ true = subst (λ z. can_bind z u ≡ true) (order_equal p b.0 e) k in rw g others
     this one i others Greater e = rw one i

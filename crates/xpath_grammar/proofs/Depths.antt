@@ -1,13 +1,10 @@
 -- Where too many brackets are open.
-use Rattle.std.proofs.Common.{◌≡◌, ℕ, zero, suc, ◌+◌, ◌<◌, ◌≤◌, Bool, true, false, cond, nat_lt, ◌||◌, List, [], ◌∷◌, take, refl, sym, ◌∙◌, arith, ◌⊎◌, inl, inr}
+use Rattle.std.proofs.Common.{◌≡◌, ℕ, zero, suc, ◌+◌, ◌<◌, ◌≤◌, Bool, true, false, cond, nat_lt, ◌||◌, List, [], ◌∷◌, take, refl, sym, ◌∙◌, arith, inl, inr}
 use Rattle.std.proofs.lemmas.Bool.{ltb-true, ltb-false}
 use Rattle.xpath_tokens.specs.declared.Token.{Token}
+use Rattle.xpath_tokens.proofs.Runs.{or_parts}
 use Rattle.xpath_grammar.specs.Parse.{opens, closes, count, IsDeep}
 use Rattle.xpath_grammar.specs.TokenParse.{deep_from}
-
-or_parts : (a b : Bool) → (a || b) ≡ true → (a ≡ true) ⊎ (b ≡ true)
-or_parts true b h = inl refl
-or_parts false b h = inr h
 
 after : (p : Token → Bool) (n : ℕ) (t : Token) → ℕ
 after p n t = cond (p t) (n + 1) n
@@ -18,9 +15,6 @@ counted p n t ts = this (p t)
     this : (b : Bool) → cond b (n + 1) n + count p ts ≡ n + cond b (suc (count p ts)) (count p ts)
     this true = omega arith
     this false = refl
-
-none_counted : (p : Token → Bool) (n : ℕ) → n + count p [] ≡ n
-none_counted p n = omega arith
 
 deep_sound : (o c : ℕ) (ts : List Token) → deep_from o c ts ≡ true → (n : ℕ) × ((c + count closes (take n ts)) + 64 < o + count opens (take n ts))
 deep_sound o c [] h = absurd cc

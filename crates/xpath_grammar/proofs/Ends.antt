@@ -1,7 +1,7 @@
 -- The ends of lists.
 use Rattle.std.proofs.Common.{◌≡◌, List, [], ◌∷◌, ◌++◌}
 
-no_appended : {A : Type 0} (xs : List A) (x : A) → xs ++ x ∷ [] ≡ [] → ⊥
+pub no_appended : {A : Type 0} (xs : List A) (x : A) → xs ++ x ∷ [] ≡ [] → ⊥
 no_appended [] x h = cc
 no_appended (y ∷ ys) x h = cc
 

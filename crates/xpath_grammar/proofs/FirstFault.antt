@@ -145,9 +145,6 @@ pub wanted_fine : (nodes : Bool) (e : Tree) (ms : List Mark) → (nodes && not (
 wanted_fine nodes e ms h = rw h refl
 
 -- an expression is its prefix and what is after it
-begun_cons : (m : Mark) (ms : List Mark) → begun (m ∷ ms) ≡ m ∷ ms
-begun_cons m ms = refl
-
 pub begun_step : (a : StepAxis) (t : StepTest) (ps : Trees) (w : Walk) → begun (step_marks (go a t ps w)) ≡ step_marks (go a t ps w)
 begun_step (Known Child) t ps w = refl
 begun_step (Known Descendant) t ps w = refl
@@ -214,6 +211,10 @@ prefix_own bs (literal t) h = refl
 prefix_own bs (number t) h = first_in-plain bs (number_word t) [] ∙ or_else_none (own_fault (number t))
 prefix_own bs (variable n) h = refl
 prefix_own bs (call f es) h = first_in-plain bs (function_word f es) [] ∙ or_else_none (own_fault (call f es))
+
+pub none_left : {X : Type 0} (o : Option X) → ((x : X) → o ≡ Some x → ⊥) → o ≡ None
+none_left None h = refl
+none_left (Some x) h = absurd (h x refl)
 
 -- what the working function knows that goes down the prefixes
 pub record Descends (bs : List (List ℕ × List ℕ)) (whole prefix : Tree) (found : Option StaticFault) : Type 0 where

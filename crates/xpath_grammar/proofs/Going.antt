@@ -1,7 +1,7 @@
 -- How a scan goes on by one token.
 use Rattle.std.proofs.Common.{◌-◌, ◌≡◌, ℕ, zero, suc, ◌+◌, ◌<◌, ◌≤◌, List, [], ◌∷◌, ◌++◌, length, Bool, false, refl, sym, ◌∙◌, ap, subst, arith, append_assoc, length-append, take, drop, get_or, add-one, drop-cons}
 use Rattle.std.proofs.lemmas.List.{take_more, take-append-drop, take-append-le, take_at, append_cancel_right}
-use Rattle.xpath_grammar.proofs.Ends.{same_last}
+use Rattle.xpath_grammar.proofs.Ends.{no_appended, same_last}
 use Rattle.xpath_tokens.specs.declared.Token.{Token}
 use Rattle.xpath_tokens.specs.declared.Token.TheVariants.{Open, Close, OpenSquare, CloseSquare}
 use Rattle.xpath_grammar.specs.Grammar.{ends, depth_after, depth, ended}
@@ -81,10 +81,6 @@ cuts_here {k} {xs} {is} {opened} {i} t s z r a =
 pub record Popped (k : ℕ) (ts : List Token) (is : List ℕ) (i : ℕ) : Type 0 where
   pub last : CutsAt k ts i
   pub others : AreCuts k (take i ts) is
-
-no_appended : (is : List ℕ) (i : ℕ) → is ++ i ∷ [] ≡ [] → ⊥
-no_appended [] i h = cc
-no_appended (j ∷ is) i h = cc
 
 pub cuts_pop : {k : ℕ} {ts : List Token} {xs : List ℕ} (is : List ℕ) (i : ℕ) → AreCuts k ts xs → xs ≡ is ++ i ∷ [] → Popped k ts is i
 cuts_pop is i (no_more f) h = absurd (no_appended is i (sym h))

@@ -1,9 +1,8 @@
 -- What the parser's functions rest on.
-use Rattle.std.proofs.Common.{◌≡◌, ◌≢◌, ℕ, ◌+◌, ◌≤◌, List, [], ◌∷◌, ◌++◌, length, take, drop, get_or, Bool, true, false, Some, None, Result, Ok, Err, refl, sym, ◌∙◌, ap, subst, arith, ◌==◌, ◌-◌, ◌⊎◌, inl, inr, append_assoc, add-one}
+use Rattle.std.proofs.Common.{◌≡◌, ◌≢◌, ℕ, ◌+◌, ◌≤◌, List, [], ◌∷◌, ◌++◌, length, take, drop, get_or, Bool, true, false, Some, None, Result, Ok, Err, refl, sym, ◌∙◌, ap, subst, arith, ◌-◌, ◌⊎◌, inl, inr, append_assoc, add-one}
 use Rattle.std.specs.Result.{IsErrAnd}
 use Rattle.std.specs.Borrow.{Bor}
 use Rattle.std.proofs.lemmas.Result.{err_from_is_err_and}
-use Rattle.std.proofs.lemmas.Bool.{eqb-true}
 use Rattle.std.proofs.lemmas.List.{append_cancel_right, append-nil, take_at, drop_at, length-take, take-append-drop, take_rest}
 use Rattle.xpath_tokens.specs.declared.Token.{Token}
 use Rattle.xpath_tokens.specs.declared.Token.TheVariants.{Open, Close, OpenSquare, CloseSquare, Dot, DotDot, Comma, Or, And, Compare, Arithmetic, Bar, Slash, SlashSlash, Function, Literal, Number, Variable}
@@ -193,11 +192,6 @@ pub unary_made : (ts : List Token) {a : Tree} → Derives UnionExpr (drop (leadi
 unary_made [] d = unary_one d
 unary_made (Arithmetic Subtract ∷ ts) d = unary_minus (unary_made ts d)
 unary_made (t ∷ ts) d = unary_one d
-
-pub minus_within : (ts : List Token) → leading_minuses ts ≤ length ts
-minus_within [] = omega arith
-minus_within (Arithmetic Subtract ∷ ts) = let h = minus_within ts in omega arith
-minus_within (t ∷ ts) = omega arith
 
 -- paths
 pub location_only : {ts : List Token} {e : Phrase} → first starts_primary ts ≡ false → Derives PathExpr ts e → Derives LocationPath ts e
@@ -632,20 +626,9 @@ pub filter_refuses_at : {Y : Type 0} (s : Symbol) (view : Y → Phrase) (ts ts' 
 filter_refuses_at s view ts ts' f r h refused g = let p = err_from_is_err_and r h in rw (p.1, p.2) (filter_refuses s view ts ts' f refused g)
 
 -- the same, of a call on what is left of a list from a place on
-pub refuses_after : {X Y : Type 0} (s s' : Symbol) (view : X → Phrase) (view' : Y → Phrase) (ts xs : List Token) (k : ℕ) (f : Fault) (r : Result X Fault) → IsErrAnd r (λ y. y ≡ f) → Answers {X = Y} s' view' (take (length xs - k) (drop k xs)) (Err f) → ((e : Phrase) → Derives s ts e → (g : Phrase) × Derives s' (drop k xs) g) → Answers s view ts r
-refuses_after {X} {Y} s s' view view' ts xs k f r h refused g =
-    refuses_at s s' view view' ts (drop k xs) f r h (subst (λ z. Answers {X = Y} s' view' z (Err f)) (take_rest xs k) refused) g
-
 pub filter_refuses_after : {Y : Type 0} (s : Symbol) (view : Y → Phrase) (ts xs : List Token) (k : ℕ) (f : Fault) (r : Result Expr Fault) → IsErrAnd r (λ y. y ≡ f) → Answers {X = Y} s view (take (length xs - k) (drop k xs)) (Err f) → ((e : Phrase) → Derives FilterExpr ts e → (g : Phrase) × Derives s (drop k xs) g) → AnswersFilter ts r
 filter_refuses_after {Y} s view ts xs k f r h refused g =
     filter_refuses_at s view ts (drop k xs) f r h (subst (λ z. Answers {X = Y} s view z (Err f)) (take_rest xs k) refused) g
-
-pub empty_list : {b : Bool} (ts : List Token) → b ≡ (length ts == 0) → b ≡ true → ts ≡ []
-empty_list [] h e = refl
-empty_list (t ∷ ts) h e = let k = eqb-true (length (t ∷ ts)) 0 (sym h ∙ e) in absurd (omega arith)
-
-pub some_list : {b : Bool} (ts : List Token) → b ≡ (length ts == 0) → b ≡ false → ts ≢ []
-some_list {b} ts h e n = let k = ap (λ x. length x == 0) n in cc
 
 -- a chain of operators, from the last
 pub chain_begin : (s : Symbol) (ts : List Token) → Remaining s expr (λ a. applied a []) ts ts

@@ -1,7 +1,8 @@
 -- An expression is refused nowhere exactly where each of its parts passes.
 use Rattle.std.proofs.Common.{◌≡◌, ℕ, Bool, true, false, not, ◌&&◌, List, [], ◌++◌, Option, Some, None, refl, sym, ◌∙◌, ap}
 use Rattle.xpath_tokens.specs.Reading.{or_else}
-use Rattle.xpath_grammar.specs.Tree.{Tree, Trees, Walk, or, and, union, compare, arithmetic, negate, path, from, filter, literal, number, variable, call, none, more, stop, go}
+use Rattle.xpath_grammar.specs.Tree.{Tree, Trees, Walk, or, and, union, compare, arithmetic, negate, path, from, filter, literal, number, variable, call}
+use Rattle.xpath_grammar.specs.Tree.{none, more, stop, go}
 use Rattle.xpath_grammar.specs.Functions.{signature_of, gives_nodes}
 use Rattle.xpath_grammar.specs.Static.{Mark, function_word, wanted, wants_nodes, axis_fault, test_fault, call_fault, marks, list_marks, step_marks, refusals}
 use Rattle.xpath_grammar.specs.Checking.{head, first_in}
@@ -70,7 +71,8 @@ mutual
   passes bs (number t) h = sym (prefix_own bs (number t) refl) ∙ h
   passes bs (variable n) h = absurd cc
   passes bs (call f es) h =
-      let p = none_parts (call_fault f es) (first_in bs (list_marks (wants_nodes (signature_of f)) es)) (sym (first_in-plain bs (function_word f es) (list_marks (wants_nodes (signature_of f)) es)) ∙ h) in
+      let p = none_parts (call_fault f es) (first_in bs (list_marks (wants_nodes (signature_of f)) es))
+          (sym (first_in-plain bs (function_word f es) (list_marks (wants_nodes (signature_of f)) es)) ∙ h) in
       (p.0, list_passes bs (wants_nodes (signature_of f)) es p.1)
 
   list_passes : (bs : List (List ℕ × List ℕ)) (nodes : Bool) (es : Trees) → IsClear bs (list_marks nodes es) → ListPasses bs nodes es
@@ -83,7 +85,8 @@ mutual
   steps_pass : (bs : List (List ℕ × List ℕ)) (w : Walk) → IsClear bs (step_marks w) → StepsPass bs w
   steps_pass bs stop h = tt
   steps_pass bs (go a t ps w) h =
-      let p = none_parts (or_else (or_else (axis_fault a) (test_fault bs t)) (first_in bs (list_marks false ps))) (first_in bs (step_marks w)) (sym (steps_first bs a t ps w) ∙ h) in
+      let p = none_parts (or_else (or_else (axis_fault a) (test_fault bs t)) (first_in bs (list_marks false ps))) (first_in bs (step_marks w))
+          (sym (steps_first bs a t ps w) ∙ h) in
       let q = none_parts (or_else (axis_fault a) (test_fault bs t)) (first_in bs (list_marks false ps)) p.0 in
       (none_parts (axis_fault a) (test_fault bs t) q.0, (list_passes bs false ps q.1, steps_pass bs w p.1))
 
@@ -102,7 +105,8 @@ mutual
   clear bs (path false stop) h = refl
   clear bs (path false (go a t ps w)) h = ap (first_in bs) (begun_step a t ps w) ∙ steps_clear bs (go a t ps w) h
   clear bs (from e w) h = join bs (wanted true e (marks e)) (step_marks w) (needed_join bs true e h.0.0 (clear bs e h.0.1)) (steps_clear bs w h.1)
-  clear bs (filter e ps) h = join bs (wanted true e (marks e)) (list_marks false ps) (needed_join bs true e h.0.0 (clear bs e h.0.1)) (list_clear bs false ps h.1)
+  clear bs (filter e ps) h = join bs (wanted true e (marks e)) (list_marks false ps) (needed_join bs true e h.0.0 (clear bs e h.0.1))
+      (list_clear bs false ps h.1)
   clear bs (literal t) h = refl
   clear bs (number t) h = prefix_own bs (number t) refl ∙ h
   clear bs (variable n) h = absurd h
@@ -112,14 +116,16 @@ mutual
 
   list_clear : (bs : List (List ℕ × List ℕ)) (nodes : Bool) (es : Trees) → ListPasses bs nodes es → IsClear bs (list_marks nodes es)
   list_clear bs nodes none h = refl
-  list_clear bs nodes (more e es) h = join bs (wanted nodes e (marks e)) (list_marks false es) (needed_join bs nodes e h.0.0 (clear bs e h.0.1)) (list_clear bs false es h.1)
+  list_clear bs nodes (more e es) h = join bs (wanted nodes e (marks e)) (list_marks false es) (needed_join bs nodes e h.0.0 (clear bs e h.0.1))
+      (list_clear bs false es h.1)
 
   steps_clear : (bs : List (List ℕ × List ℕ)) (w : Walk) → StepsPass bs w → IsClear bs (step_marks w)
   steps_clear bs stop h = refl
   steps_clear bs (go a t ps w) h =
       let own = none_both (axis_fault a) (test_fault bs t) h.0.0 h.0.1 in
       let list = none_both (or_else (axis_fault a) (test_fault bs t)) (first_in bs (list_marks false ps)) own (list_clear bs false ps h.1.0) in
-      steps_first bs a t ps w ∙ none_both (or_else (or_else (axis_fault a) (test_fault bs t)) (first_in bs (list_marks false ps))) (first_in bs (step_marks w)) list (steps_clear bs w h.1.1)
+      steps_first bs a t ps w ∙ none_both (or_else (or_else (axis_fault a) (test_fault bs t)) (first_in bs (list_marks false ps)))
+          (first_in bs (step_marks w)) list (steps_clear bs w h.1.1)
 
 pub first_passes : (bs : List (List ℕ × List ℕ)) (e : Tree) → first_in bs (marks e) ≡ None → Passes bs e
 first_passes bs e h = passes bs e h

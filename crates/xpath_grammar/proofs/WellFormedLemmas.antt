@@ -3,11 +3,19 @@ use Rattle.std.proofs.Common.{◌≡◌, ℕ, Bool, true, false, cond, List, [],
 use Rattle.std.specs.Str.{bytes_eq}
 use Rattle.xpath_tokens.specs.declared.Token.{Token}
 use Rattle.xpath_tokens.specs.declared.Token.TheVariants.{Close, CloseSquare, Comma, Or, And, Compare, Arithmetic, Bar, Slash, SlashSlash, Number}
-use Rattle.xpath_tokens.specs.Tokens.{find_named, delimiters, operator_signs, operator_names, IsNumber, IsToken, is_delimiter, is_sign, is_times, is_operator_name, is_node_type, is_function, is_axis, is_any, is_any_in, is_name, is_prefixed, is_literal, is_number, is_variable, Splits, done, next}
+use Rattle.xpath_tokens.specs.Tokens.{find_named, delimiters, operator_signs, operator_names, IsNumber, IsToken, is_delimiter, is_sign, is_times}
+use Rattle.xpath_tokens.specs.Tokens.{is_operator_name, is_node_type, is_function, is_axis, is_any, is_any_in, is_name, is_prefixed, is_literal, is_number}
+use Rattle.xpath_tokens.specs.Tokens.{is_variable, Splits, done, next}
 use Rattle.xpath_grammar.specs.declared.expr.Expr.{Expr}
 use Rattle.xpath_grammar.specs.declared.entry.GrammarFault.{GrammarFault}
 use Rattle.xpath_grammar.specs.Tree.{tree_of, Tree, Trees, Walk, none, more, stop, go}
-use Rattle.xpath_grammar.specs.Grammar.{Symbol, Phrase, expr, exprs, filtered, walk, appended, joined, filter_tree, Derives, or_one, or_more, and_one, and_more, equality_one, equality_more, relational_one, relational_more, additive_one, additive_more, multiplicative_one, multiplicative_more, unary_one, unary_minus, union_one, union_more, path_location, path_filter, path_slash, path_slash_slash, filter_one, filter_more, primary_bracket, primary_variable, primary_literal, primary_number, call_none, call_some, arguments_one, arguments_more, location_relative, location_root, location_slash, location_slash_slash, relative_one, relative_slash, relative_slash_slash, step, step_dot, step_dots, predicates_none, predicates_more, predicate}
+use Rattle.xpath_grammar.specs.Grammar.{Symbol, Phrase, expr, exprs, filtered, walk, appended, joined, filter_tree, Derives, or_one, or_more, and_one}
+use Rattle.xpath_grammar.specs.Grammar.{and_more, equality_one, equality_more, relational_one, relational_more, additive_one, additive_more}
+use Rattle.xpath_grammar.specs.Grammar.{multiplicative_one, multiplicative_more, unary_one, unary_minus, union_one, union_more, path_location, path_filter}
+use Rattle.xpath_grammar.specs.Grammar.{path_slash, path_slash_slash, filter_one, filter_more, primary_bracket, primary_variable, primary_literal}
+use Rattle.xpath_grammar.specs.Grammar.{primary_number, call_none, call_some, arguments_one, arguments_more, location_relative, location_root}
+use Rattle.xpath_grammar.specs.Grammar.{location_slash, location_slash_slash, relative_one, relative_slash, relative_slash_slash, step, step_dot, step_dots}
+use Rattle.xpath_grammar.specs.Grammar.{predicates_none, predicates_more, predicate}
 use Rattle.xpath_grammar.specs.TokenParse.{ParsesTokens}
 use Rattle.xpath_grammar.specs.Passes.{WellFormed, AllWellFormed, StepsWellFormed, HasStep}
 
@@ -137,6 +145,7 @@ formed predicates_none h = tt
 formed (predicates_more {us} {vs} {p} {ps} c d) h = let x = parts us vs h in appended_formed ps p (formed c x.0) (formed d x.1)
 formed (predicate {ts} d) h = formed d (parts ts (CloseSquare ∷ []) h.1).0
 
-pub formed_parse : {after : Bool} {text : List ℕ} (ts : List Token) (r : Result Expr GrammarFault) → Splits after text ts → ParsesTokens ts r → IfOk r (λ e. WellFormed (tree_of e))
+pub formed_parse : {after : Bool} {text : List ℕ} (ts : List Token) (r : Result Expr GrammarFault) → Splits after text ts → ParsesTokens ts r
+    → IfOk r (λ e. WellFormed (tree_of e))
 formed_parse ts (Ok e) s p = formed p.derived (split_spelled s)
 formed_parse ts (Err f) s p = tt

@@ -183,7 +183,8 @@ fn earlier(first: Option<Signature>, second: Option<Signature>) -> Option<Signat
     }
 }
 
-/// What a function takes and answers; None where it is not known.
+/// What a core function takes and answers (XPath 1.0, section 4); None where it is not known, as `id` and each name with
+/// a prefix.
 #[tactic(auto, using(crate::proofs::Tables::signature_parts))]
 pub fn signature_of(name: &Text) -> Option<Signature>
     ensures { result ≡ signature_of name.now }
@@ -258,7 +259,7 @@ fn is_within(most: Option<u8>, list: &Exprs) -> bool
     }
 }
 
-/// Whether the number of arguments fits.
+/// Whether the number of arguments fits a function.
 pub fn fits(signature: Signature, list: &Exprs) -> bool
     ensures { result ≡ fits signature (trees_of list.now) }
 {

@@ -102,7 +102,7 @@ fn steps_fault(bindings: &Bindings, steps: &Steps) -> Option<StaticFault>
 /// # Errors
 /// The refusal at the earliest token, and at one token the first in the order of `StaticFault`. The first token
 /// of an expression is taken with the brackets round it left aside, and with `child::` left out.
-#[tactic(auto, using(crate::proofs::PassLemmas::first_passes))]
+#[tactic(auto, using(crate::proofs::PassLemmas::first_passes, crate::proofs::FirstFault::first_refusal))]
 pub fn check(expr: &Expr, bindings: &Bindings) -> Result<(), StaticFault>
     ensures none { IfOk result (λ _. refusals bindings.now (tree_of expr.now) ≡ []) }
     ensures passes { IfOk result (λ _. Passes bindings.now (tree_of expr.now)) }

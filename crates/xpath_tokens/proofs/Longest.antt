@@ -126,10 +126,6 @@ any_in_at_least p vs h =
     rw (e, f) (omega arith)
 
 -- numbers
-digits_word : (cs : List ℕ) → list_all is_decimal_digit cs ≡ true → cs ≢ [] → are_digits cs ≡ true
-digits_word [] h n = absurd (n refl)
-digits_word (c ∷ cs) h n = h
-
 taken_digits : (cs : List ℕ) (n : ℕ) → run is_decimal_digit cs ≡ suc n → are_digits (take (suc n) cs) ≡ true
 taken_digits [] n h = absurd cc
 taken_digits (c ∷ cs) n h = subst (λ x. list_all is_decimal_digit (take x (c ∷ cs)) ≡ true) h (run-all is_decimal_digit (c ∷ cs))

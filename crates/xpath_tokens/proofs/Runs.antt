@@ -1,5 +1,6 @@
 -- Runs of characters that pass a test, and the names that are made of them.
-use Rattle.std.proofs.Common.{◌≡◌, ◌≢◌, ℕ, zero, suc, ◌+◌, ◌<◌, ◌≤◌, Bool, true, false, cond, not, ◌&&◌, ◌||◌, ◌==◌, List, [], ◌∷◌, ◌++◌, length, take, drop, refl, sym, ◌∙◌, ap, subst, arith}
+use Rattle.std.proofs.Common.{◌≡◌, ◌≢◌, ℕ, zero, suc, ◌+◌, ◌<◌, Bool, true, false, cond, not, ◌&&◌, ◌||◌, ◌==◌, List, [], ◌∷◌, ◌++◌, length, take, drop, refl, sym, ◌∙◌, ap, subst, arith, ◌⊎◌, inl, inr}
+use Rattle.std.proofs.lemmas.Bool.{eqb-true}
 use Rattle.std.specs.List.{list_all, list_any}
 use Rattle.xml_model.specs.Chars.{is_name_start, is_name_char, is_name, is_ncname}
 use Rattle.xpath_tokens.specs.Words.{run, is_ncname_start, is_ncname_char, ncname_length}
@@ -7,6 +8,18 @@ use Rattle.xpath_tokens.specs.Words.{run, is_ncname_start, is_ncname_char, ncnam
 pub and_parts : (a b : Bool) → (a && b) ≡ true → (a ≡ true) × (b ≡ true)
 and_parts true b h = (refl, h)
 and_parts false b h = absurd cc
+
+pub or_parts : (a b : Bool) → (a || b) ≡ true → (a ≡ true) ⊎ (b ≡ true)
+or_parts true b h = inl refl
+or_parts false b h = inr h
+
+-- what a test for an empty list says
+pub some_list : {X : Type 0} {b : Bool} (xs : List X) → b ≡ (length xs == 0) → b ≡ false → xs ≢ []
+some_list {X} {b} xs h e n = let k = ap (λ z. length z == 0) n in cc
+
+pub empty_list : {X : Type 0} {b : Bool} (xs : List X) → b ≡ (length xs == 0) → b ≡ true → xs ≡ []
+empty_list [] h e = refl
+empty_list (x ∷ xs) h e = let k = eqb-true (length (x ∷ xs)) 0 (sym h ∙ e) in absurd (omega arith)
 
 pub run-all : (p : ℕ → Bool) (cs : List ℕ) → list_all p (take (run p cs) cs) ≡ true
 run-all p [] = refl
@@ -27,14 +40,6 @@ pub run-stop : (p : ℕ → Bool) (us : List ℕ) (c : ℕ) (vs : List ℕ) → 
 run-stop p us c vs h n =
     let z : run p (c ∷ vs) ≡ 0 = rw n refl in
     run-append p us (c ∷ vs) h ∙ omega arith
-
-pub run-within : (p : ℕ → Bool) (cs : List ℕ) → run p cs ≤ length cs
-run-within p [] = omega arith
-run-within p (c ∷ cs) = this (run-within p cs) (p c)
-  where
-    this : run p cs ≤ length cs → (b : Bool) → cond b (suc (run p cs)) 0 ≤ length (c ∷ cs)
-    this i true = omega arith
-    this i false = omega arith
 
 -- the character after a run fails the test
 pub run-next : (p : ℕ → Bool) (cs : List ℕ) (c : ℕ) (vs : List ℕ) → drop (run p cs) cs ≡ c ∷ vs → p c ≡ false

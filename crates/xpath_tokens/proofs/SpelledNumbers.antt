@@ -1,5 +1,6 @@
 -- A scan of a spelling finds its number.
-use Rattle.std.proofs.Common.{◌≡◌, ℕ, ◌+◌, ◌*◌, ◌-◌, ◌/◌, ◌<◌, ◌≤◌, Bool, true, false, cond, not, ◌&&◌, ◌||◌, ◌==◌, nat_lt, List, [], ◌∷◌, drop, Option, Some, None, Result, Ok, Err, refl, sym, ◌∙◌, ap, arith, ◌⊎◌, inl, inr}
+use Rattle.std.proofs.Common.{◌≡◌, ℕ, ◌+◌, ◌*◌, ◌-◌, ◌/◌, ◌<◌, ◌≤◌, Bool, true, false, cond, not, ◌&&◌, ◌||◌, ◌==◌, nat_lt, List, [], ◌∷◌, drop, Option}
+use Rattle.std.proofs.Common.{Some, None, Result, Ok, Err, refl, sym, ◌∙◌, ap, arith, ◌⊎◌, inl, inr}
 use Rattle.std.specs.Prelude.{fold}
 use Rattle.std.specs.List.{list_any}
 use Rattle.std.proofs.lemmas.Bool.{ltb-true, ltb-false}
@@ -45,11 +46,15 @@ value_same None v w f (c ∷ cs) s =
     more : Same (grown v (10 * v + 1000000 * (c - 48))) (10 * w + 1000000 * (c - 48))
     more = grown_same v w (10 * v + 1000000 * (c - 48)) (10 * w + 1000000 * (c - 48)) s (omega arith) (λ e. ap (λ z. 10 * z + 1000000 * (c - 48)) e)
 
-    this : Same (scanned_from (Some 100000) v f cs).value (exact (Some 100000) w cs) → Same (scanned_from None (grown v (10 * v + 1000000 * (c - 48))) f cs).value (exact None (10 * w + 1000000 * (c - 48)) cs) → (b : Bool) → Same (fold scan_next (cond b (state (Some 100000) v f) (state None (grown v (10 * v + 1000000 * (c - 48))) f)) cs).value (cond b (exact (Some 100000) w cs) (exact None (10 * w + 1000000 * (c - 48)) cs))
+    this : Same (scanned_from (Some 100000) v f cs).value (exact (Some 100000) w cs)
+        → Same (scanned_from None (grown v (10 * v + 1000000 * (c - 48))) f cs).value (exact None (10 * w + 1000000 * (c - 48)) cs) → (b : Bool)
+        → Same (fold scan_next (cond b (state (Some 100000) v f) (state None (grown v (10 * v + 1000000 * (c - 48))) f)) cs).value
+        (cond b (exact (Some 100000) w cs) (exact None (10 * w + 1000000 * (c - 48)) cs))
     this i j true = i
     this i j false = j
 value_same (Some u) v w f (c ∷ cs) s =
-    value_same (Some (u / 10)) (grown v (v + u * (c - 48))) (w + u * (c - 48)) (f || (u == 0 && not (c == 48))) cs (grown_same v w (v + u * (c - 48)) (w + u * (c - 48)) s (omega arith) (λ e. ap (λ z. z + u * (c - 48)) e))
+    value_same (Some (u / 10)) (grown v (v + u * (c - 48))) (w + u * (c - 48)) (f || (u == 0 && not (c == 48))) cs
+    (grown_same v w (v + u * (c - 48)) (w + u * (c - 48)) s (omega arith) (λ e. ap (λ z. z + u * (c - 48)) e))
 
 exact_added : (u v : ℕ) (cs : List ℕ) → exact (Some u) v cs ≡ v + added u cs
 exact_added u v [] = omega arith
@@ -62,7 +67,9 @@ exact_whole v (c ∷ cs) = this (exact_whole (10 * v + (c - 48)) cs) (c == 46)
     tens : 10 * (1000000 * v) + 1000000 * (c - 48) ≡ 1000000 * (10 * v + (c - 48))
     tens = omega arith
 
-    this : exact None (1000000 * (10 * v + (c - 48))) cs ≡ 1000000 * spelled (10 * v + (c - 48)) (whole_digits cs) + added 100000 (places cs) → (b : Bool) → cond b (exact (Some 100000) (1000000 * v) cs) (exact None (10 * (1000000 * v) + 1000000 * (c - 48)) cs) ≡ 1000000 * spelled v (cond b [] (c ∷ whole_digits cs)) + added 100000 (cond b cs (places cs))
+    this : exact None (1000000 * (10 * v + (c - 48))) cs ≡ 1000000 * spelled (10 * v + (c - 48)) (whole_digits cs) + added 100000 (places cs) → (b : Bool)
+        → cond b (exact (Some 100000) (1000000 * v) cs) (exact None (10 * (1000000 * v) + 1000000 * (c - 48)) cs)
+        ≡ 1000000 * spelled v (cond b [] (c ∷ whole_digits cs)) + added 100000 (cond b cs (places cs))
     this i true = exact_added 100000 (1000000 * v) cs
     this i false = ap (λ z. exact None z cs) tens ∙ i
 
@@ -114,7 +121,9 @@ finer_same : (v : ℕ) (cs : List ℕ) → (scanned_from None v false cs).finer 
 finer_same v [] = refl
 finer_same v (c ∷ cs) = this (finer_same (grown v (10 * v + 1000000 * (c - 48))) cs) (c == 46)
   where
-    this : (scanned_from None (grown v (10 * v + 1000000 * (c - 48))) false cs).finer ≡ is_finer cs → (b : Bool) → (fold scan_next (cond b (state (Some 100000) v false) (state None (grown v (10 * v + 1000000 * (c - 48))) false)) cs).finer ≡ some_digit (drop 6 (cond b cs (places cs)))
+    this : (scanned_from None (grown v (10 * v + 1000000 * (c - 48))) false cs).finer ≡ is_finer cs → (b : Bool)
+        → (fold scan_next (cond b (state (Some 100000) v false) (state None (grown v (10 * v + 1000000 * (c - 48))) false)) cs).finer
+        ≡ some_digit (drop 6 (cond b cs (places cs)))
     this i true = finer_100000 v false cs
     this i false = i
 

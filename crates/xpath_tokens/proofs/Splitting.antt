@@ -13,17 +13,13 @@ use Rattle.xpath_tokens.specs.declared.Fault.{Fault}
 use Rattle.xpath_tokens.specs.declared.Fault.TheVariants.{Syntax, NoMemory}
 use Rattle.xpath_tokens.specs.Words.{is_ncname_start, is_ncname_char, word_length, IsFound}
 use Rattle.xpath_tokens.specs.Reading.{token_of}
-use Rattle.xpath_tokens.proofs.Runs.{and_parts, ncname_cons, ncname_nil}
+use Rattle.xpath_tokens.proofs.Runs.{and_parts, or_parts, ncname_cons, ncname_nil}
 use Rattle.xpath_tokens.proofs.Reading.{is_read, read_is}
 use Rattle.xpath_tokens.proofs.Longest.{longest_word, no_longer}
 
 -- no word begins with white space
 between : (a b c : ℕ) → (nat_le a c && nat_le c b) ≡ true → (a ≤ c) × (c ≤ b)
 between a b c h = let p = and_parts (nat_le a c) (nat_le c b) h in (leb-true a c p.0, leb-true c b p.1)
-
-or_parts : (a b : Bool) → (a || b) ≡ true → (a ≡ true) ⊎ (b ≡ true)
-or_parts true b h = inl refl
-or_parts false b h = inr h
 
 space_cases : (c : ℕ) → is_space c ≡ true → (c ≡ 32) ⊎ ((c ≡ 9) ⊎ ((c ≡ 10) ⊎ (c ≡ 13)))
 unfolding is_space in_ranges
@@ -314,13 +310,6 @@ lexed_no_token l some within no' ts d = let x = l.only ts d in let f = first_tok
 
 pub lexed_end : {text : List ℕ} {found : List Token} {after : Bool} {rest : List ℕ} → Lexed text found after rest → rest ≡ [] → Splits false text found
 lexed_end {text} {found} {after} l h = subst (Splits false text) (append-nil found) (l.sound [] (subst (λ x. Splits after x []) (sym h) (done blank_nil)))
-
-pub some_list : {b : Bool} (cs : List ℕ) → b ≡ (length cs == 0) → b ≡ false → cs ≢ []
-some_list {b} cs h e n = let k = ap (λ x. length x == 0) n in cc
-
-pub empty_list : {b : Bool} (cs : List ℕ) → b ≡ (length cs == 0) → b ≡ true → cs ≡ []
-empty_list [] h e = refl
-empty_list (c ∷ cs) h e = let k = eqb-true (length (c ∷ cs)) 0 (sym h ∙ e) in absurd (omega arith)
 
 pub refused_none : (o : Option Token) (f : Fault) → IsFound o (Err f) → f ≡ Syntax → o ≡ None
 refused_none o Syntax h e = h

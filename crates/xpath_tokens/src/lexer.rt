@@ -410,7 +410,7 @@ fn chars_of(alloc: Global, text: &str) -> Result<Vec<char>, AllocError>
     text.chars().collect(alloc)
 }
 
-/// The tokens that a text splits into, each as long as it can be (XPath 1.0, section 3.7).
+/// The tokens that a text splits into, each as long as it can be (XPath 1.0, section 3.7). It takes linear time.
 ///
 /// # Errors
 /// `Syntax` exactly where it splits into none; `NoMemory` where memory is not to be had.

@@ -8,9 +8,10 @@ use Rattle.xpath_grammar.specs.Tree.{tree_of, trees_of}
 use Rattle.xpath_grammar.specs.Shape.{test_of, after_test, IsStepTest}
 use Rattle.xpath_grammar.specs.Grammar.{expr, exprs}
 use Rattle.xpath_grammar.specs.Cutting.{applied, AreBinary}
+use Rattle.xpath_tokens.proofs.Runs.{some_list, empty_list}
 use Rattle.xpath_grammar.proofs.Remaining.{Remaining}
 use Rattle.xpath_grammar.proofs.Applied.{AreBinary-push}
-use Rattle.xpath_grammar.proofs.Parsing.{chain_begin, chain_on, chain_binary, refuses_at, filter_refuses_at, filter_refuses_after, empty_list, some_list, answers, makes, binary_one, cut_right, cut_none, unary_rest, unary_made, absolute_rest, deep_rest, relative_only, root_made, absolute_made, deep_made, filter_err, from_none, from_parts, from_made, filter_parts, filter_none, filter_made, primary_made, primary_inner, variable_made, literal_made, number_made, call_made, call_made_none, no_primary_shape, trees_begin, walks_begin, arguments_on, arguments_end, predicate_parts, no_predicate, predicate_inner, predicates_on, predicates_end, relative_on, relative_end, dot_made, step_rest, step_made, step_refused_at}
+use Rattle.xpath_grammar.proofs.Parsing.{chain_begin, chain_on, chain_binary, refuses_at, filter_refuses_at, filter_refuses_after, answers, makes, binary_one, cut_right, cut_none, unary_rest, unary_made, absolute_rest, deep_rest, relative_only, root_made, absolute_made, deep_made, filter_err, from_none, from_parts, from_made, filter_parts, filter_none, filter_made, primary_made, primary_inner, variable_made, literal_made, number_made, call_made, call_made_none, no_primary_shape, trees_begin, walks_begin, arguments_on, arguments_end, predicate_parts, no_predicate, predicate_inner, predicates_on, predicates_end, relative_on, relative_end, dot_made, step_rest, step_made, step_refused_at}
 use Rattle.xpath_grammar.proofs.Going.{cut_inside, first_inside, cuts_pop, cuts_none, popped_none}
 use Rattle.xpath_grammar.proofs.parser.+parser.Goals as goal
 

@@ -1,10 +1,12 @@
+use Rattle.std.specs.Prelude.{option_map}
 use Rattle.std.proofs.Common.{◌&&◌, not, false, Some, sym, ◌∙◌, ap, arith}
 use Rattle.xpath_tokens.specs.Reading.{or_else}
 use Rattle.xpath_grammar.specs.Tree.{tree_of, trees_of, walk_of}
 use Rattle.xpath_grammar.specs.Static.{marks, wanted, list_marks, axis_fault, test_fault}
 use Rattle.xpath_grammar.specs.Checking.{first_in}
 use Rattle.xpath_grammar.specs.Functions.{gives_nodes}
-use Rattle.xpath_grammar.proofs.FirstFault.{descends_begin, descends_on, descends_lacking, wanted_lacking, list_on, steps_on, steps_there}
+use Rattle.xpath_grammar.proofs.FirstFault.{none_left, descends_begin, descends_on, descends_lacking, descends_end, wanted_lacking, list_on, steps_on}
+use Rattle.xpath_grammar.proofs.FirstFault.{steps_there}
 use Rattle.xpath_grammar.proofs.refusal.+refusal.Goals as goal
 
 pub expr_fault-loop-part-init : goal.expr_fault-loop-part-init
@@ -23,6 +25,13 @@ expr_fault-loop-part-preserved t c =
     let fine = sym (c.lacks_nodes.ensures ∙ ap (λ x. x && not (gives_nodes p)) c.needs_nodes.ensures) ∙ c.if-lacks_nodes.false in
     let tail = c.tail_fault.ensures ∙ ap (first_in c.args.bindings.now) c.tail_of-in-Some.ensures.marks in
     rw (c.earlier-found.ensures) (descends_on c.args.bindings.now p c.loop-part.invariant (sym c.in-Some.ensures) fine tail)
+
+pub expr_fault-returns : goal.expr_fault-returns
+expr_fault-returns t c =
+    let none = none_left c.inner_part.result c.in_default.not-Some in
+    c.earlier.ensures
+    ∙ ap (λ x. or_else x c.loop-part.found) c.own_fault.ensures
+    ∙ descends_end c.args.bindings.now c.loop-part.invariant (sym c.inner_part.ensures ∙ ap (option_map (λ e. tree_of e.now)) none)
 
 pub list_fault-loop-rest-preserved : goal.list_fault-loop-rest-preserved
 list_fault-loop-rest-preserved t c =

@@ -1,7 +1,8 @@
 use Rattle.std.proofs.Common.{◌≡◌, ◌≢◌, ◌≤◌, length, take, drop, sym, ◌∙◌, ap, arith}
 use Rattle.xpath_tokens.specs.Reading.{token_of}
 use Rattle.xpath_tokens.specs.Words.{word_length}
-use Rattle.xpath_tokens.proofs.Splitting.{lexed_begin, lexed_on, lexed_no_word, lexed_no_token, lexed_end, some_list, empty_list, refused_none, same_fault}
+use Rattle.xpath_tokens.proofs.Splitting.{lexed_begin, lexed_on, lexed_no_word, lexed_no_token, lexed_end, refused_none, same_fault}
+use Rattle.xpath_tokens.proofs.Runs.{some_list, empty_list}
 use Rattle.xpath_tokens.proofs.lexer.tokens.Goals as goal
 
 pub loop-rest-init : goal.loop-rest-init
