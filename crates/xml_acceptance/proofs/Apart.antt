@@ -5,7 +5,9 @@ use Rattle.std.specs.List.{list_all}
 use Rattle.std.proofs.lemmas.Bool.{and_parts, and_from, false≢true, not-true}
 use lib.Utf8.{encode, encodes}
 use Rattle.xml_model.specs.Chars.{is_char, lacks}
-use Rattle.xml_model.specs.Items.{Piece, literal, entity, decimal, hexadecimal, Leaf, Item, leaf, start_tag, empty_tag, end_tag, written_piece, written_pieces, meets, meets_piece, is_nil, spelling, begins_at, ends_well, may_begin_at, first_place, walk, walk_from, walk_to_end}
+use Rattle.xml_model.specs.Items.{Piece, literal, entity, decimal, hexadecimal, Leaf, Item, leaf, start_tag, empty_tag, end_tag, written_piece}
+use Rattle.xml_model.specs.Items.{written_pieces, meets, meets_piece, is_nil, spelling, begins_at, ends_well, may_begin_at, first_place, walk}
+use Rattle.xml_model.specs.Items.{walk_from, walk_to_end}
 use Rattle.xml_model.specs.Nest.{Forest, flat}
 use Rattle.xml_model.specs.Accepted.{IsDocument}
 use Rattle.xml_items.proofs.OneItem.{opens}
@@ -50,14 +52,16 @@ first_of_text (p ∷ ps) m =
     first_piece p (written_pieces ps) (and_parts (meets_piece (λ c. false) p) _ r.1).0
 
 -- so no text begins where a text may end
-no_text : (bytes : List ℕ) (at : ℕ) (ps qs : List Piece) → ends_well (leaf (Leaf.text ps)) (drop at bytes) ≡ true → begins_at bytes at (leaf (Leaf.text qs)) ≡ true → ⊥
+no_text : (bytes : List ℕ) (at : ℕ) (ps qs : List Piece) → ends_well (leaf (Leaf.text ps)) (drop at bytes) ≡ true →
+    begins_at bytes at (leaf (Leaf.text qs)) ≡ true → ⊥
 unfolding spelling
 no_text bytes at ps qs e b =
     let i = leaf (Leaf.text qs) in
     let h = hold bytes at i b in
     let f = first_of_text qs h.meets in
     let rest = drop (at + length (spelling i)) bytes in
-    let split : drop at bytes ≡ encode f.char ++ (encodes f.more ++ rest) = h.whole ∙ ap (λ (l : List ℕ). encodes l ++ rest) f.is ∙ append_assoc (encode f.char) (encodes f.more) rest in
+    let split : drop at bytes ≡ encode f.char ++ (encodes f.more ++ rest) =
+    h.whole ∙ ap (λ (l : List ℕ). encodes l ++ rest) f.is ∙ append_assoc (encode f.char) (encodes f.more) rest in
     false≢true (sym f.other ∙ opens (drop at bytes) (encodes f.more ++ rest) f.char split (same (drop at bytes) e))
   where
     same : (bs : List ℕ) → ends_well (leaf (Leaf.text ps)) bs ≡ true → ends_well (leaf (Leaf.text [])) bs ≡ true
@@ -68,9 +72,11 @@ no_text bytes at ps qs e b =
 
 ends_there : (bytes : List ℕ) (at : ℕ) (i : Item) → begins_at bytes at i ≡ true → ends_well i (drop (at + length (spelling i)) bytes) ≡ true
 unfolding begins_at
-ends_there bytes at i b = (and_parts _ (ends_well i (drop (at + length (spelling i)) bytes)) (and_parts _ (may_begin_at i (first_place bytes) at) b).0).1
+ends_there bytes at i b =
+    (and_parts _ (ends_well i (drop (at + length (spelling i)) bytes)) (and_parts _ (may_begin_at i (first_place bytes) at) b).0).1
 
-text_none : (bytes : List ℕ) (at : ℕ) (ps : List Piece) (j : Item) → ends_well (leaf (Leaf.text ps)) (drop at bytes) ≡ true → begins_at bytes at j ≡ true → is_text j ≡ false
+text_none : (bytes : List ℕ) (at : ℕ) (ps : List Piece) (j : Item) → ends_well (leaf (Leaf.text ps)) (drop at bytes) ≡ true →
+    begins_at bytes at j ≡ true → is_text j ≡ false
 text_none bytes at ps (leaf (Leaf.text qs)) e b = absurd (no_text bytes at ps qs e b)
 text_none bytes at ps (leaf (Leaf.cdata cs)) e b = refl
 text_none bytes at ps (leaf (Leaf.comment cs)) e b = refl
@@ -81,7 +87,8 @@ text_none bytes at ps (start_tag t) e b = refl
 text_none bytes at ps (empty_tag t) e b = refl
 text_none bytes at ps (end_tag name space) e b = refl
 
-next_apart : (bytes : List ℕ) (at : ℕ) (i : Item) (is : List Item) → begins_at bytes at i ≡ true → walk_from bytes (at + length (spelling i)) is ≡ true → not (is_text i && begins_text is) ≡ true
+next_apart : (bytes : List ℕ) (at : ℕ) (i : Item) (is : List Item) → begins_at bytes at i ≡ true →
+    walk_from bytes (at + length (spelling i)) is ≡ true → not (is_text i && begins_text is) ≡ true
 next_apart bytes at (leaf (Leaf.text ps)) [] b w = refl
 next_apart bytes at (leaf (Leaf.text ps)) (j ∷ js) b w =
     let past = at + length (spelling (leaf (Leaf.text ps))) in
@@ -103,7 +110,8 @@ walk_apart bytes at (i ∷ is) w =
 
 pub document_apart : (bytes : List ℕ) (nest : Forest) → IsDocument bytes nest → apart (flat nest) ≡ true
 unfolding walk_to_end walk
-document_apart bytes nest d = walk_apart bytes (first_place bytes) (flat nest) (and_parts (walk_from bytes (first_place bytes) (flat nest)) _ d.walked).0
+document_apart bytes nest d =
+    walk_apart bytes (first_place bytes) (flat nest) (and_parts (walk_from bytes (first_place bytes) (flat nest)) _ d.walked).0
 
 -- ---- a part of them
 

@@ -1,15 +1,21 @@
 -- A document has at most half as many records as bytes: each item but a text has more bytes than twice its records, no text follows a
 -- text, and the root element makes up for the document's own record.
-use Rattle.std.proofs.Common.{◌≡◌, ℕ, zero, suc, ◌+◌, ◌*◌, ◌<◌, ◌≤◌, Bool, true, false, inl, inr, cond, not, List, [], ◌∷◌, ◌++◌, length, Option, Some, None, refl, sym, ap, ◌∙◌, arith}
+use Rattle.std.proofs.Common.{◌≡◌, ℕ, zero, suc, ◌+◌, ◌*◌, ◌<◌, ◌≤◌, Bool, true, false, inl, inr, cond, not, List, [], ◌∷◌, ◌++◌, length, Option}
+use Rattle.std.proofs.Common.{Some, None, refl, sym, ap, ◌∙◌, arith}
 use Rattle.std.specs.Prelude.{codes, option_to_list, ◌&&◌, ◌||◌, ◌==◌, bytes_eq, encode_utf8_all}
 use Rattle.std.specs.List.{list_all}
 use Rattle.std.proofs.lemmas.Bool.{and_parts, or_cases, eqb-true, false≢true, not-true}
 use Rattle.std.proofs.lemmas.List.{length-append}
 use Rattle.std.proofs.lemmas.List.Folds.{list_all-append}
 use Rattle.xml_model.specs.Chars.{size, is_name, is_white, is_blank}
-use Rattle.xml_model.specs.Items.{Attribute, Tag, Declaration, Instruction, Leaf, Item, leaf, start_tag, empty_tag, end_tag, written_pieces, written_attribute, written_attributes, written_option, written_leaf, written_start, written_empty, written_end, written_tag, before_value, quote_char, spelling, meets, meets_attribute, meets_tag, meets_part, meets_part_if_there, meets_instruction, meets_declaration, is_version, is_encoding_name, is_yes_or_no, begins_with_space, is_nil, first_place, walk, walk_to_end, end_of_items}
+use Rattle.xml_model.specs.Items.{Attribute, Tag, Declaration, Instruction, Leaf, Item, leaf, start_tag, empty_tag, end_tag, written_pieces}
+use Rattle.xml_model.specs.Items.{written_attribute, written_attributes, written_option, written_leaf, written_start, written_empty, written_end}
+use Rattle.xml_model.specs.Items.{written_tag, before_value, quote_char, spelling, meets, meets_attribute, meets_tag, meets_part, meets_part_if_there}
+use Rattle.xml_model.specs.Items.{meets_instruction, meets_declaration, is_version, is_encoding_name, is_yes_or_no, begins_with_space, is_nil}
+use Rattle.xml_model.specs.Items.{first_place, walk, walk_to_end, end_of_items}
 use Rattle.xml_model.specs.Nest.{Forest, done, single, empty, element, flat, is_nest, is_head, is_body, is_tail, is_misc, is_doctype, is_declaration}
-use Rattle.xml_model.specs.Records.{records, forest_records, leaf_records, tag_records, attributes_place, declaration_attributes, depth_at, past_leaf, past_empty, past_start, past_element, past_forest}
+use Rattle.xml_model.specs.Records.{records, forest_records, leaf_records, tag_records, attributes_place, declaration_attributes, depth_at, past_leaf}
+use Rattle.xml_model.specs.Records.{past_empty, past_start, past_element, past_forest}
 use Rattle.xml_model.specs.Accepted.{IsDocument}
 use Rattle.xml_model.proofs.Proper.{walk_to_end_meets}
 use Rattle.xml_acceptance.proofs.Apart.{is_text, begins_text, apart, apart-append, document_apart}
@@ -78,12 +84,14 @@ end_four name space n =
       length-append (codes "</") name,
     )
 
-option_four : (name : List ℕ) (test : List ℕ → Bool) (o : Option Attribute) → meets_part_if_there name test o ≡ true → 4 * length (option_to_list o) ≤ length (written_option o)
+option_four : (name : List ℕ) (test : List ℕ → Bool) (o : Option Attribute) → meets_part_if_there name test o ≡ true →
+    4 * length (option_to_list o) ≤ length (written_option o)
 option_four name test None m = omega arith
 option_four name test (Some a) m =
     attribute_four a (and_parts (meets_attribute a) _ (and_parts (meets_attribute a && bytes_eq a.name name) _ m).0).0
 
-declaration_half : (d : Declaration) → meets_declaration d ≡ true → 4 * length (declaration_attributes d) + 1 ≤ length (written_leaf (Leaf.declaration d))
+declaration_half : (d : Declaration) → meets_declaration d ≡ true →
+    4 * length (declaration_attributes d) + 1 ≤ length (written_leaf (Leaf.declaration d))
 declaration_half d m =
     let v = written_attribute d.version in
     let e = written_option d.encoding in
@@ -123,7 +131,8 @@ instruction_five i m =
     )
 
 -- a text has a record of its own and perhaps one byte
-leaf_half : (l at : ℕ) (x : Leaf) → meets (leaf x) ≡ true → 2 * length (leaf_records (suc l) at x) + 1 ≤ size (written_leaf x) + cond (is_text (leaf x)) 2 0
+leaf_half : (l at : ℕ) (x : Leaf) → meets (leaf x) ≡ true →
+    2 * length (leaf_records (suc l) at x) + 1 ≤ size (written_leaf x) + cond (is_text (leaf x)) 2 0
 unfolding meets
 leaf_half l at (Leaf.text ps) m = omega (arith, long (written_leaf (Leaf.text ps)), written_pos (leaf (Leaf.text ps)) m)
 leaf_half l at (Leaf.cdata cs) m = omega (arith, long (written_leaf (Leaf.cdata cs)), length-append (codes "<![CDATA[" ++ cs) (codes "]]>"))
@@ -150,7 +159,8 @@ at_most_one true = omega arith
 at_most_one false = omega arith
 
 -- a leaf with n records and s bytes, and what follows it with r records, up to a place
-joined : (b d : Bool) (at n s r past : ℕ) → not (b && d) ≡ true → 2 * n + 1 ≤ s + cond b 2 0 → at + s + 2 * r ≤ past + cond d 1 0 → at + 2 * (n + r) ≤ past + cond b 1 0
+joined : (b d : Bool) (at n s r past : ℕ) → not (b && d) ≡ true → 2 * n + 1 ≤ s + cond b 2 0 → at + s + 2 * r ≤ past + cond d 1 0 →
+    at + 2 * (n + r) ≤ past + cond b 1 0
 joined true true at n s r past h x y = absurd (false≢true h)
 joined true false at n s r past h x y = omega (arith, x, y)
 joined false true at n s r past h x y = omega (arith, x, y)
@@ -163,7 +173,8 @@ record ElementMeets (t : Tag) (inside : Forest) (space : List ℕ) (f : Forest) 
   end : is_name t.name ≡ true
   after : list_all meets (flat f) ≡ true
 
-element_meets : (t : Tag) (inside : Forest) (space : List ℕ) (f : Forest) → list_all meets (flat (element t inside space f)) ≡ true → ElementMeets t inside space f
+element_meets : (t : Tag) (inside : Forest) (space : List ℕ) (f : Forest) → list_all meets (flat (element t inside space f)) ≡ true →
+    ElementMeets t inside space f
 unfolding flat meets
 element_meets t inside space f m =
     let a = and_parts (meets_tag t) (list_all meets (flat inside ++ end_tag t.name space ∷ flat f)) m in
@@ -171,7 +182,8 @@ element_meets t inside space f m =
     let c = and_parts (is_name t.name && is_blank space) (list_all meets (flat f)) b.1 in
     record { tag = a.0; content = b.0; end = (and_parts (is_name t.name) _ c.0).0; after = c.1 }
 
-element_apart : (t : Tag) (inside : Forest) (space : List ℕ) (f : Forest) → apart (flat (element t inside space f)) ≡ true → (apart (flat inside) ≡ true) × (apart (flat f) ≡ true)
+element_apart : (t : Tag) (inside : Forest) (space : List ℕ) (f : Forest) → apart (flat (element t inside space f)) ≡ true →
+    (apart (flat inside) ≡ true) × (apart (flat f) ≡ true)
 unfolding flat
 element_apart t inside space f h = apart-append (flat inside) (end_tag t.name space ∷ flat f) h
 
@@ -189,13 +201,20 @@ content_half (single x f) l at m h =
     let s = size (written_leaf x) in
     let ns = leaf_records (suc l) at x in
     let rs = forest_records (suc l) (past_leaf at x) f in
-    let j = joined (is_text (leaf x)) (begins_text (flat f)) at (length ns) s (length rs) (past_forest (past_leaf at x) f) p.0 (leaf_half l at x q.0) (content_half f l (past_leaf at x) q.1 p.1) in
+    let j = joined (is_text (leaf x)) (begins_text (flat f)) at (length ns) s (length rs) (past_forest (past_leaf at x) f) p.0 (leaf_half l at x q.0)
+    (content_half f l (past_leaf at x) q.1 p.1) in
     omega (arith, j, length-append ns rs)
 content_half (empty t f) l at m h =
     let q = and_parts (meets (empty_tag t)) (list_all meets (flat f)) m in
     let ns = tag_records (suc l) at t in
     let rs = forest_records (suc l) (past_empty at t) f in
-    omega (arith, empty_half (suc l) at t (tag_of t q.0), content_half f l (past_empty at t) q.1 h, at_most_one (begins_text (flat f)), length-append ns rs)
+    omega (
+      arith,
+      empty_half (suc l) at t (tag_of t q.0),
+      content_half f l (past_empty at t) q.1 h,
+      at_most_one (begins_text (flat f)),
+      length-append ns rs,
+    )
 content_half (element t inside space f) l at m h =
     let e = element_meets t inside space f m in
     let a = element_apart t inside space f h in
@@ -253,7 +272,8 @@ body_half : (f : Forest) (at : ℕ) → is_body f ≡ true → list_all meets (f
 unfolding is_body
 body_half done at k m h = absurd (false≢true k)
 body_half (single x f) at k m h =
-    let q = single_meets x f m in single_half x f at q.0 (body_half f (past_leaf at x) (and_parts (is_misc x) (is_body f) k).1 q.1 (single_apart x f h))
+    let q = single_meets x f m in
+    single_half x f at q.0 (body_half f (past_leaf at x) (and_parts (is_misc x) (is_body f) k).1 q.1 (single_apart x f h))
 body_half (empty t f) at k m h =
     let q = empty_meets t f m in
     omega (
@@ -323,10 +343,12 @@ past_items (element t inside space f) p =
 document_ends : (bytes : List ℕ) (nest : Forest) → IsDocument bytes nest → past_forest (first_place bytes) nest ≡ length bytes
 unfolding walk_to_end
 document_ends bytes nest d =
-    past_items nest (first_place bytes) ∙ eqb-true _ _ (and_parts (walk bytes (flat nest)) (end_of_items (first_place bytes) (flat nest) == length bytes) d.walked).1
+    past_items nest (first_place bytes)
+    ∙ eqb-true _ _ (and_parts (walk bytes (flat nest)) (end_of_items (first_place bytes) (flat nest) == length bytes) d.walked).1
 
 pub document_half : (bytes : List ℕ) (nest : Forest) → IsDocument bytes nest → 2 * length (records nest (first_place bytes)) ≤ length bytes
 unfolding records
 document_half bytes nest d =
     let first = first_place bytes in
-    omega (arith, nest_half nest first d.nests (walk_to_end_meets bytes (flat nest) d.walked) (document_apart bytes nest d), document_ends bytes nest d)
+    let meet = walk_to_end_meets bytes (flat nest) d.walked in
+    omega (arith, nest_half nest first d.nests meet (document_apart bytes nest d), document_ends bytes nest d)

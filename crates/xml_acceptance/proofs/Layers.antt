@@ -1,11 +1,13 @@
 -- Where whole items pass the lower layers, those layers do not refuse; and a fault of the next layer is the refusal.
-use Rattle.std.proofs.Common.{◌≡◌, ℕ, suc, ◌+◌, ◌<◌, ◌≤◌, Bool, true, false, List, [], ◌∷◌, ◌++◌, length, refl, sym, ap, ◌∙◌, arith, append-nil, append_assoc}
+use Rattle.std.proofs.Common.{◌≡◌, ℕ, suc, ◌+◌, ◌<◌, ◌≤◌, Bool, true, false, List, [], ◌∷◌, ◌++◌, length, refl, sym, ap, ◌∙◌, arith, append-nil}
+use Rattle.std.proofs.Common.{append_assoc}
 use Rattle.std.specs.Prelude.{IsUtf8, Some}
 use Rattle.xml_model.specs.declared.DocFault.{DocFault}
 use Rattle.xml_model.specs.declared.DocFault.TheVariants as faults
 use Rattle.xml_model.specs.Items.{Item, spelling, begins_at, walk_from, walk_to_end, first_place, end_of_items}
 use Rattle.xml_model.specs.Nest.{Forest, is_nest, flat}
-use Rattle.xml_model.specs.Accepted.{RefusesItem, RefusesNesting, DoesNotBegin, over_items, unknown_item, encoding_item, Refuses, IsRefusal, AcceptedTo, layer}
+use Rattle.xml_model.specs.Accepted.{RefusesItem, RefusesNesting, DoesNotBegin, over_items, unknown_item, encoding_item, Refuses, IsRefusal}
+use Rattle.xml_model.specs.Accepted.{AcceptedTo, layer}
 use Rattle.xml_model.proofs.Bridge.{one_walk, no_syntax, no_utf8}
 use Rattle.std.proofs.lemmas.Bool.{and_parts, and_from}
 use Rattle.xml_items.proofs.OneItem.{one_item_on_walks}
@@ -15,7 +17,8 @@ use Rattle.xml_acceptance.proofs.Prefixes.{ends_nest}
 
 -- ---- one item more
 
-pub walk_more : (bytes : List ℕ) (p : ℕ) (is : List Item) (i : Item) → walk_from bytes p is ≡ true → begins_at bytes (end_of_items p is) i ≡ true → walk_from bytes p (is ++ i ∷ []) ≡ true
+pub walk_more : (bytes : List ℕ) (p : ℕ) (is : List Item) (i : Item) → walk_from bytes p is ≡ true → begins_at bytes (end_of_items p is) i ≡ true →
+    walk_from bytes p (is ++ i ∷ []) ≡ true
 walk_more bytes p [] i w b = and_from _ _ b refl
 walk_more bytes p (j ∷ is) i w b =
     let h = and_parts (begins_at bytes p j) (walk_from bytes (p + length (spelling j)) is) w in
@@ -32,7 +35,8 @@ pub record Whole (bytes : List ℕ) (items : List Item) : Type 0 where
   pub utf8 : IsUtf8 bytes
   pub walked : walk_to_end bytes items ≡ true
 
-no_item : (f : ℕ → Item → List ℕ) (bytes : List ℕ) (items : List Item) (at : ℕ) → Whole bytes items → over_items f (first_place bytes) items ≡ [] → RefusesItem f bytes at → ⊥
+no_item : (f : ℕ → Item → List ℕ) (bytes : List ℕ) (items : List Item) (at : ℕ) → Whole bytes items → over_items f (first_place bytes) items ≡ [] →
+    RefusesItem f bytes at → ⊥
 no_item f bytes items at w e r =
     let same : r.items ≡ items = one_walk bytes (one_item_on_walks bytes) r.items items r.walked w.walked in
     let h : at ∷ r.others ≡ [] = sym r.first ∙ ap (over_items f (first_place bytes)) same ∙ e in
@@ -42,7 +46,8 @@ no_longest : (prefix rest : List Item) (nest : Forest) → is_nest nest ≡ true
 no_longest prefix [] nest n e h = h nest n (e ∙ append-nil prefix)
 no_longest prefix (i ∷ is) nest n e h = h (record { nest = nest; rest = is; nests = n; split = e ∙ sym (append_assoc prefix (i ∷ []) is) })
 
-no_nesting : (bytes : List ℕ) (items : List Item) (at : ℕ) (deep : Bool) → Whole bytes items → run [] whole items ≡ Some (state [] tail) → RefusesNesting bytes at deep → ⊥
+no_nesting : (bytes : List ℕ) (items : List Item) (at : ℕ) (deep : Bool) → Whole bytes items → run [] whole items ≡ Some (state [] tail) →
+    RefusesNesting bytes at deep → ⊥
 no_nesting bytes items at deep w ends r =
     let n = ends_nest items ends in
     no_longest r.prefix r.rest n.0 n.1 (n.2 ∙ one_walk bytes (one_item_on_walks bytes) items (r.prefix ++ r.rest) w.walked r.walked) r.longest
@@ -101,6 +106,7 @@ pub nesting_layer : (at : ℕ) (deep : Bool) → layer (nesting_fault at deep) �
 nesting_layer at false = refl
 nesting_layer at true = refl
 
-pub nesting_refusal : (bytes : List ℕ) (at : ℕ) (deep : Bool) → AcceptedTo bytes 4 → RefusesNesting bytes at deep → IsRefusal bytes (nesting_fault at deep)
+pub nesting_refusal : (bytes : List ℕ) (at : ℕ) (deep : Bool) → AcceptedTo bytes 4 → RefusesNesting bytes at deep →
+    IsRefusal bytes (nesting_fault at deep)
 nesting_refusal bytes at false none r = is_refusal bytes (faults.Nesting at) 4 refl none r
 nesting_refusal bytes at true none r = is_refusal bytes (faults.Depth at) 4 refl none r

@@ -4,7 +4,6 @@ pub mod Prefixes
 pub mod Layers
 pub mod OneAnswer
 pub mod SomeAnswer
-pub mod ByteLemmas
 pub mod AmpersandLemmas
 pub mod Placement
 pub mod EntityLaws

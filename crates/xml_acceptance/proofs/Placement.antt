@@ -10,14 +10,11 @@ use Rattle.xml_model.specs.Items.{Leaf, Item, leaf, start_tag, empty_tag, end_ta
 use Rattle.xml_chars.proofs.Readers.{begins_split}
 use Rattle.xml_items.specs.Shown.{item_shown}
 use Rattle.xml_items.specs.declared.Item.{Item as ItemShown}
+pub use Rattle.xml_items.proofs.SpanLemmas.{spelled}
 
 pub long : (cs : List ℕ) → length cs ≤ size cs
 unfolding size
 long cs = length-le-encodes cs
-
-pub spelled : (i : Item) → length (spelling i) ≡ size (written i)
-unfolding spelling size
-spelled i = refl
 
 not_nil : (cs : List ℕ) → not (is_nil cs) ≡ true → 0 < length cs
 not_nil [] h = absurd (false≢true h)

@@ -27,6 +27,14 @@ holds_prefix bs w v u e =
     let whole : bs ≡ encodes w ++ encodes v = sym (encodes-chars bs u) ∙ ap encodes e ∙ encodes-append w v in
     ap (begins (encodes w)) whole ∙ begins_append (encodes w) (encodes v)
 
+pub size_nil : size [] ≡ 0
+unfolding size
+size_nil = refl
+
+pub size_drop : (w text : List ℕ) → drop (length (encodes w)) text ≡ drop (size w) text
+unfolding size
+size_drop w text = refl
+
 pub size-append : (v w : List ℕ) → size (v ++ w) ≡ size v + size w
 unfolding size
 size-append v w = ap (λ (l : List ℕ). length l) (encodes-append v w) ∙ length-append (encodes v) (encodes w)

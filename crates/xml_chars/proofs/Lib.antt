@@ -11,3 +11,5 @@ pub mod NameLaws
 pub mod PlaceLemmas
 pub mod ColonLemmas
 pub mod SpanPlaces
+pub mod ByteLemmas
+pub mod PrefixLemmas

@@ -62,7 +62,7 @@ FitForm in_decimal (decimal digits) rest = is_number 10 digits ≡ true
 FitForm in_hexadecimal (hexadecimal digits) rest = is_number 16 digits ≡ true
 FitForm _ _ rest = ⊥
 
-stop_59 : is_name_char 59 ≡ false
+pub stop_59 : is_name_char 59 ≡ false
 unfolding is_name_char is_name_start in_ranges
 stop_59 = refl
 

@@ -5,7 +5,7 @@ use Rattle.std.specs.List.{prefix_len, list_all, flat_map}
 use Rattle.std.proofs.lemmas.List.{take-append-drop, take_at, drop_at, length-append}
 use Rattle.std.proofs.lemmas.Bool.{cases_Bool, false≢true, eq-eqb, eqb-true, and_parts, and_from}
 use Rattle.xml_model.specs.Chars.{begins}
-use Rattle.std.proofs.lemmas.Option.{same_Some, cond_some, some_pair_parts}
+use Rattle.std.proofs.lemmas.Option.{same_Some, cond_some}
 use Rattle.std.proofs.Math.Numerals.{one-add}
 use Rattle.xml_chars.specs.Readers.{Reader, both, mapped, kept, run, one_of, many_by, many, skip, word, look_at, choose_by}
 

@@ -30,8 +30,8 @@ not_x : (text : List ℕ) → begins (codes "x") text ≡ false → (get_or text
 not_x [] h = refl
 not_x (c ∷ text) h = ne_eqb c 120 (λ e. false≢true (sym h ∙ rw e refl))
 
-word_no : (w text : List ℕ) → word w text ≡ None → begins w text ≡ false
-word_no w text e = elim (cases_Bool (begins w text)) [
+pub word_none : (w text : List ℕ) → word w text ≡ None → begins w text ≡ false
+word_none w text e = elim (cases_Bool (begins w text)) [
   | inl t ↦ absurd (let n : ◌≡◌ {A = Option (Unit {0} × List ℕ)} (Some (tt, drop (length w) text)) None = rw t at e in cc)
   | inr f ↦ f
 ]
@@ -40,7 +40,7 @@ pub decimal_reference : (text rest : List ℕ) → word (codes "&#x") text ≡ N
 unfolding read_reference reference_form
 decimal_reference text rest none e =
     let is : text ≡ 38 ∷ 35 ∷ rest = ((word_reads (codes "&#")).takes text tt rest e).0 in
-    let f : begins (codes "x") rest ≡ false = rw is at (word_no (codes "&#x") text none) in
+    let f : begins (codes "x") rest ≡ false = rw is at (word_none (codes "&#x") text none) in
     rw (is, not_x rest f) (decimal_by (read_number 10 rest))
 
 -- what begins with no &# is read by its name
@@ -51,7 +51,7 @@ named_reference (c ∷ []) e = refl
 named_reference (c ∷ d ∷ text) e = elim (cases_Bool (d == 35)) [
   | inr f ↦ rw f refl
   | inl t ↦
-      let no : begins (codes "&#") (c ∷ d ∷ text) ≡ false = word_no (codes "&#") (c ∷ d ∷ text) e in
+      let no : begins (codes "&#") (c ∷ d ∷ text) ≡ false = word_none (codes "&#") (c ∷ d ∷ text) e in
       let is : d ≡ 35 = eqb-true d 35 t in
       let f : nat_eq 38 c ≡ false = elim (cases_Bool (nat_eq 38 c)) [ inl y ↦ absurd (false≢true (sym no ∙ rw (is, y) refl)) | inr n ↦ n ] in
       rw (t, f) (by_x (get_or text 0 0 == 120) f)

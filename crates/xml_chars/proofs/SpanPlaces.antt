@@ -11,10 +11,7 @@ use Rattle.xml_chars.specs.declared.Reference.{Reference}
 use Rattle.xml_chars.proofs.Points.{Cut, cut_of}
 use Rattle.xml_chars.proofs.HoldLemmas.{prefix_holds, size-append}
 use Rattle.xml_chars.proofs.PlaceLemmas.{one_byte}
-
-scalars_back : (w v : List ℕ) → scalars (w ++ v) ≡ true → scalars v ≡ true
-scalars_back [] v s = s
-scalars_back (c ∷ w) v s = scalars_back w v (and_parts (scalar c) (scalars (w ++ v)) s).1
+use Rattle.xml_chars.proofs.TextLemmas.{scalars_back}
 
 -- after a prefix of the characters from a place on
 pub prefix_ends : (bytes : List ℕ) (at : ℕ) (w v : List ℕ) → IsUtf8 bytes → IsCharBoundary bytes at → chars (drop at bytes) ≡ w ++ v → IsCharBoundary bytes (at + size w)

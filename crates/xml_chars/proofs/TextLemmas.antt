@@ -36,7 +36,7 @@ pub step_reads : (bs rest : List ℕ) (c : ℕ) → IsUtf8 bs → bs ≡ encode 
 unfolding read_char
 step_reads bs rest c u e = rw (chars_past_char bs rest c u e) refl
 
-scalars_back : (w v : List ℕ) → scalars (w ++ v) ≡ true → scalars v ≡ true
+pub scalars_back : (w v : List ℕ) → scalars (w ++ v) ≡ true → scalars v ≡ true
 scalars_back [] v s = s
 scalars_back (c ∷ w) v s = scalars_back w v (and_parts (scalar c) (scalars (w ++ v)) s).1
 

@@ -3,7 +3,6 @@ pub mod Places
 pub mod Readers
 pub mod Reading
 pub mod Shown
-
 -- What private functions promise.
 pub mod Numbers
 pub mod Wide

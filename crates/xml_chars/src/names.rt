@@ -5,8 +5,8 @@ ghost use Rattle.std.specs.Prelude.{◌≡◌, ◌≤◌, ◌<◌, ◌+◌, leng
 ghost use Rattle.std.specs.List.{prefix_len};
 ghost use Rattle.std.specs.Option.{option_copied};
 ghost use Rattle.std.specs.Str.{chars};
-ghost use Rattle.xml_model.specs.Chars.{is_name_char, has_colon, before_colon, after_colon, is_name, is_ncname};
-ghost use Rattle.xml_model.specs.Chars.{is_qname};
+ghost use Rattle.xml_model.specs.Chars.{is_name_char, has_colon, before_colon, after_colon, prefix_of};
+ghost use Rattle.xml_model.specs.Chars.{is_name, is_ncname, is_qname};
 ghost use Rattle.xml_chars.specs.Wide.{is_ascii_name};
 ghost use Rattle.xml_chars.specs.Readers.{Gives, one_of, skip, after_run};
 ghost use Rattle.xml_chars.specs.Reading.{begins_name, read_name};
@@ -110,6 +110,14 @@ pub fn name_of(text: &str) -> Option<(&str, &str)>
     }
     let rest = after_name_chars(text);
     Some(text.split_at(text.len() - rest.len()))
+}
+
+/// The length of the prefix of a name in bytes, 0 where there is no colon (Namespaces in XML 1.0, production 10).
+pub fn prefix_len(name: &[u8]) -> usize
+    ensures value { result ≡ length (prefix_of name.now) }
+    ensures within { result ≤ length name.now }
+{
+    memchr(b':', name).unwrap_or(0)
 }
 
 /// What is before the first colon and what after it; None where there is no colon.

@@ -28,6 +28,7 @@ use Rattle.xml_items.proofs.TagLaws.{attribute_reads, attribute_pos, FitAttribut
 use Rattle.xml_items.proofs.UnitLemmas.{many_first, many_none, many_end}
 use Rattle.xml_items.proofs.StepLemmas.{suffixes_some, suffixes_none}
 use Rattle.xml_items.proofs.SpanLemmas.{size_of, size_1, size_slash, size_xml}
+use Rattle.xml_chars.proofs.TextLemmas.{scalars_back}
 
 abbrev pub push : Attribute → Option (List Attribute × List ℕ) → Option (List Attribute × List ℕ)
 push a o = option_and_then {U = List Attribute × List ℕ} (λ (q : List Attribute × List ℕ). Some (a ∷ q.0, q.1)) o
@@ -115,20 +116,12 @@ pub record Listed (bytes : List ℕ) (p : ℕ) (xs : List Attribute) : Type 0 wh
   pub rest : List ℕ
   pub read : read_attributes (chars (drop p bytes)) ≡ Some (xs, rest)
 
-scalar_back : (v w : List ℕ) → scalars (v ++ w) ≡ true → scalars w ≡ true
-scalar_back [] w h = h
-scalar_back (c ∷ v) w h = scalar_back v w (and_parts (scalar c) (scalars (v ++ w)) h).1
-
-size_drop : (w text : List ℕ) → drop (length (encodes w)) text ≡ drop (size w) text
-unfolding size
-size_drop w text = refl
-
 listed_by : (bytes : List ℕ) (at : ℕ) (w after : List ℕ) (xs : List Attribute) → IsUtf8 bytes → IsCharBoundary bytes at → chars (drop at bytes) ≡ w ++ (written_attributes xs ++ after) → list_all meets_attribute xs ≡ true → begins_attribute after ≡ false → Listed bytes (at + size w) xs
 listed_by bytes at w after xs u b e all stop =
     let bs = drop at bytes in
     let ub : IsUtf8 bs = IsUtf8-drop bytes at u b in
     let v = written_attributes xs ++ after in
-    let s : scalars v ≡ true = scalar_back w v (ap scalars (sym e) ∙ scalars-chars bs ub) in
+    let s : scalars v ≡ true = scalars_back w v (ap scalars (sym e) ∙ scalars-chars bs ub) in
     let f = prefix_holds bs w ub (holds_prefix bs w v ub e) in
     let same : f.0 ≡ v = append_cancel_left w f.0 v (sym f.1 ∙ e) in
     let there : drop (at + size w) bytes ≡ encodes v = sym (drop-drop (size w) at bytes) ∙ sym f.2 ∙ ap encodes same in

@@ -11,6 +11,7 @@ use Rattle.xml_chars.proofs.Readers.{IsReader, reads_as, both_reads, mapped_read
 use Rattle.xml_chars.proofs.NameLaws.{name_reads, space_reads, FitSpace}
 use Rattle.xml_items.specs.Reading.{is_part, read_part, is_name_read, begins_part, read_option_by, read_option, declaration_of, read_declaration, read_attribute}
 use Rattle.xml_items.proofs.TagLaws.{attribute_reads, FitAttribute, attributed, attribute_tail, attribute_split, after_space, white_blank, name_stops_space, space_stops_name, by_assoc}
+use Rattle.xml_items.proofs.TagLaws.{name_61}
 
 -- ---- one part
 
@@ -35,11 +36,6 @@ pub part_reads : (name : List ℕ) (test : List ℕ → Bool) → IsReader (read
 unfolding read_part
 part_reads name test = reads_as (FitPart name test) (kept_reads (is_part name test) read_attribute written_attribute FitAttribute attribute_reads)
     (λ a rest h. part_to name test a h.0 h.1) (λ a rest h. let p = part_of name test a h in (p.meets, and_from _ _ p.named p.tested))
-
--- the name that an attribute begins with
-name_61 : is_name_char 61 ≡ false
-unfolding is_name_char is_name_start in_ranges
-name_61 = refl
 
 pub part_name : (name : List ℕ) (a : Attribute) (rest : List ℕ) → meets_attribute a ≡ true → begins_part name (written_attribute a ++ rest) ≡ bytes_eq a.name name
 unfolding begins_part

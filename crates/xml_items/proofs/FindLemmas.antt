@@ -17,15 +17,14 @@ use Rattle.xml_chars.proofs.TextLemmas.{Split, split_stop, run_from_first}
 use denote.Bor.{Bor}
 use Rattle.std.specs.Prelude.{IsTrue, ◌↔◌, is_none}
 use Rattle.xml_chars.specs.Readers.{Gives}
-use Rattle.xml_items.proofs.PlainLemmas.{word_some, word_none}
+use Rattle.xml_items.proofs.PlainLemmas.{word_some}
+use Rattle.xml_chars.proofs.ReferenceLemmas.{word_none}
 use Rattle.xml_items.specs.Reading.{push, until, read_until, is_xml}
 use Rattle.xml_items.proofs.MarkLaws.{until_takes}
+use Rattle.xml_chars.proofs.ByteLemmas.{other_low}
 
 abbrev pub other : ℕ → ℕ → Bool
 other byte c = not (c == byte)
-
-other_low : (byte : ℕ) → byte < 128 → (b : ℕ) → other byte b ≡ false → b < 128
-other_low byte lt b h = omega (arith, eqb-true b byte (not-false (b == byte) h))
 
 pub other_split : (byte : ℕ) → byte < 128 → (bs hay : List ℕ) (r : Option ℕ) (n : ℕ) → hay ≡ bs → IsUtf8 bs → IsFirstByte (is_byte byte) hay r → n ≡ unwrap_or r (length bs) → Split bs n (prefix_len (other byte) (chars bs))
 other_split byte lt bs hay r n e u h is =

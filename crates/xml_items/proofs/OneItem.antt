@@ -7,7 +7,8 @@ use Rattle.std.proofs.lemmas.List.{drop-drop, length-append}
 use Rattle.std.proofs.lemmas.Option.{same_Some}
 use Rattle.std.proofs.lemmas.Str.{char_from_byte, length-encode, len_utf8_bounds}
 use Rattle.xml_model.specs.Chars.{begins}
-use Rattle.xml_model.specs.Items.{Item, leaf, Leaf, start_tag, empty_tag, end_tag, written, spelling, meets, ends_well, may_begin_at, begins_at, first_place, end_of_items}
+use Rattle.xml_model.specs.Items.{Item, leaf, Leaf, start_tag, empty_tag, end_tag, written, spelling, meets, ends_well, may_begin_at, begins_at}
+use Rattle.xml_model.specs.Items.{first_place, end_of_items}
 use Rattle.xml_model.specs.Laws.{OneItem}
 use Rattle.xml_model.proofs.Unique.{same_head}
 use Rattle.xml_chars.proofs.Readers.{begins_split}

@@ -25,7 +25,7 @@ use Rattle.xml_items.specs.declared.tags.AttributeText.{AttributeText}
 use Rattle.std.proofs.lemmas.Option.{same_Some}
 use Rattle.std.specs.List.{prefix_len}
 use Rattle.xml_chars.proofs.Ranges.{in_range, in_none}
-use Rattle.xml_items.proofs.PlainLemmas.{word_none}
+use Rattle.xml_chars.proofs.ReferenceLemmas.{word_none}
 use Rattle.xml_items.specs.Parts.{read_named, value_text, is_encoding_char}
 use Rattle.xml_items.specs.declared.ItemKind.TheVariants as kinds
 use Rattle.xml_items.proofs.StepLemmas.{suffixes_some, suffixes_none}
@@ -35,6 +35,7 @@ use Rattle.xml_items.specs.Counting.{with_count}
 use Rattle.xml_items.proofs.CountLemmas.{counts, counted_some}
 use Rattle.xml_items.proofs.TagLaws.{attribute_pos}
 use Rattle.xml_items.proofs.SpanLemmas.{size_of, spelled, size_xml, item_by, same_item}
+use Rattle.xml_chars.proofs.HoldLemmas.{size_nil}
 
 -- ---- tests of ASCII by bytes
 
@@ -101,7 +102,7 @@ version_yes s r e = ap is_version ((word_reads (codes "1.")).takes s tt r e).0
 pub version_no : (s : List ℕ) → word (codes "1.") s ≡ None → is_version s ≡ false
 version_no s e = ap (λ (b : Bool). b && not (is_nil (drop 2 s)) && list_all is_ascii_digit (drop 2 s)) (word_none (codes "1.") s e)
 
-letter_low : (b : ℕ) → is_letter b ≡ true → b < 128
+pub letter_low : (b : ℕ) → is_letter b ≡ true → b < 128
 letter_low b h = elim (in_range 65 90 b _ h) [
   | inl q ↦ omega (arith, q.1)
   | inr k ↦ elim (in_range 97 122 b _ k) [ inl q ↦ omega (arith, q.1) | inr n ↦ absurd (in_none b n) ]
@@ -274,10 +275,6 @@ declaration_read : (s a b c d sp e f : List ℕ) (v : Attribute) (en st : Option
     → read_declaration s ≡ Some (leaf (Leaf.declaration record { version = v; encoding = en; standalone = st; space = sp }), f)
 unfolding read_declaration
 declaration_read s a b c d sp e f v en st e1 e2 e3 e4 e5 e6 = rw (e1, e2, e3, e4, e5, e6) refl
-
-size_nil : size [] ≡ 0
-unfolding size
-size_nil = refl
 
 declared_size : (v : Attribute) (en st : Option Attribute) (sp : List ℕ) → size (written_attributes (declaration_attributes record { version = v; encoding = en; standalone = st; space = sp })) ≡ size (written_attribute v) + size (written_option en) + size (written_option st)
 declared_size v None None sp = omega (arith, size-append (written_attribute v) [], size_nil)

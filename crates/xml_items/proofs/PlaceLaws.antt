@@ -18,6 +18,7 @@ use Rattle.xml_items.specs.declared.Item.{Item as ItemShown}
 use Rattle.xml_items.specs.declared.Counted.{Counted}
 use Rattle.xml_items.proofs.SpanLemmas.{spelled, size_1, size_slash, size_comment, size_cdata, size_question, size_xml, size_doctype}
 use Rattle.xml_items.proofs.AttributeLemmas.{parts_split}
+use Rattle.xml_chars.proofs.HoldLemmas.{size_nil}
 
 -- the characters of an item that begins at a place
 pub written_at : (bytes : List ℕ) (at : ℕ) (i : Item) → IsUtf8 bytes → IsCharBoundary bytes at → begins_at bytes at i ≡ true → (v : List ℕ) × (chars (drop at bytes) ≡ written i ++ v)
@@ -94,10 +95,6 @@ tag_parts bytes at t c u b s = (
   part_of bytes at (at + 1 + size t.name) _ (codes "<" ++ t.name) (written_attributes t.attributes ++ t.space) c u b s (tag_content_is t.name (written_attributes t.attributes) t.space c) (omega (arith, size_1, size-append (codes "<") t.name)),
 )
 
-size_0 : size [] ≡ 0
-unfolding size
-size_0 = refl
-
 parts_whole : (d : Declaration) → written (leaf (Leaf.declaration d)) ≡ codes "<?xml" ++ ((written_attributes (declaration_attributes d) ++ d.space) ++ codes "?>")
 parts_whole d =
     sym (append-nil (written (leaf (Leaf.declaration d)))) ∙ parts_split d.version d.encoding d.standalone d.space []
@@ -106,7 +103,7 @@ parts_whole d =
 parts : (bytes : List ℕ) (at : ℕ) (i : Item) → IsUtf8 bytes → IsCharBoundary bytes at → MayBegin bytes at (written i) → Parts bytes at i
 parts bytes at (leaf (Leaf.text ps)) u b s = record {
   name = none_there bytes at b;
-  content = part_of bytes at at _ [] (written_pieces ps) [] u b s (sym (append-nil (written_pieces ps))) (omega (arith, size_0));
+  content = part_of bytes at at _ [] (written_pieces ps) [] u b s (sym (append-nil (written_pieces ps))) (omega (arith, size_nil));
 }
 parts bytes at (leaf (Leaf.cdata cs)) u b s = record {
   name = none_there bytes at b;

@@ -188,8 +188,3 @@ word_some w text rest e = elim (cases_Bool (begins w text)) [
   | inr f ↦ absurd (let n : ◌≡◌ {A = Option (Unit {0} × List ℕ)} None (Some (tt, rest)) = rw f at e in cc)
 ]
 
-pub word_none : (w text : List ℕ) → word w text ≡ None → begins w text ≡ false
-word_none w text e = elim (cases_Bool (begins w text)) [
-  | inl t ↦ absurd (let n : ◌≡◌ {A = Option (Unit {0} × List ℕ)} (Some (tt, drop (length w) text)) None = rw t at e in cc)
-  | inr f ↦ f
-]

@@ -77,7 +77,7 @@ space_61 : is_space 61 ≡ false
 unfolding is_space in_ranges
 space_61 = refl
 
-name_61 : is_name_char 61 ≡ false
+pub name_61 : is_name_char 61 ≡ false
 unfolding is_name_char is_name_start in_ranges
 name_61 = refl
 

@@ -11,6 +11,7 @@ use Rattle.xml_chars.proofs.Readers.{IsReader, both_reads, mapped_reads, kept_re
 use Rattle.xml_chars.proofs.NameLaws.{name_chars}
 use Rattle.xml_items.specs.Reading.{read_piece, ends_text, in_text, read_pieces, read_text}
 use Rattle.xml_items.proofs.PieceLaws.{piece_reads, piece_pos, FitPiece}
+use Rattle.xml_chars.proofs.ByteLemmas.{all_append, all_by}
 
 abbrev pub none : ℕ → Bool
 none c = false
@@ -19,10 +20,6 @@ none c = false
 
 abbrev no_bracket : ℕ → Bool
 no_bracket c = not (c == 93)
-
-all_by : (p q : ℕ → Bool) → ((c : ℕ) → p c ≡ true → q c ≡ true) → (cs : List ℕ) → list_all p cs ≡ true → list_all q cs ≡ true
-all_by p q sub [] h = refl
-all_by p q sub (c ∷ cs) h = let k = and_parts (p c) (list_all p cs) h in and_from (q c) _ (sub c k.0) (all_by p q sub cs k.1)
 
 name_93 : is_name_char 93 ≡ false
 unfolding is_name_char is_name_start in_ranges
@@ -33,10 +30,6 @@ name_no_bracket c h = not_from_false _ (ne_eqb c 93 (λ e. false≢true (sym nam
 
 digit_no_bracket : (base : ℕ) → is_digit 93 base ≡ false → (c : ℕ) → is_digit c base ≡ true → no_bracket c ≡ true
 digit_no_bracket base none c h = not_from_false _ (ne_eqb c 93 (λ e. false≢true (sym none ∙ ap (λ (x : ℕ). is_digit x base) (sym e) ∙ h)))
-
-all_append : (p : ℕ → Bool) (v w : List ℕ) → list_all p v ≡ true → list_all p w ≡ true → list_all p (v ++ w) ≡ true
-all_append p [] w h k = k
-all_append p (c ∷ v) w h k = let q = and_parts (p c) (list_all p v) h in and_from (p c) _ q.0 (all_append p v w q.1 k)
 
 digits_all : (base : ℕ) (digits : List ℕ) → is_number base digits ≡ true → list_all (λ c. is_digit c base) digits ≡ true
 digits_all base [] h = refl

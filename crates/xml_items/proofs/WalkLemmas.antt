@@ -25,7 +25,9 @@ use Rattle.xml_items.specs.Counting.{counted_shown}
 use Rattle.xml_items.specs.declared.Counted.{Counted}
 use Rattle.xml_items.proofs.ItemLaws.{FitItem, item_reads}
 use Rattle.xml_items.proofs.CountLemmas.{counts}
-use Rattle.xml_items.proofs.PlainLemmas.{word_none}
+use Rattle.xml_chars.proofs.ReferenceLemmas.{word_none}
+use Rattle.xml_chars.proofs.TextLemmas.{scalars_back}
+use Rattle.xml_chars.proofs.HoldLemmas.{size_drop}
 
 -- ---- by the first characters
 
@@ -114,10 +116,6 @@ place_is bs b e = ap (λ (x : Bool). cond x 3 0) (sym (pointwise-begins byte_ord
 
 -- ---- soundness and completeness
 
-size_drop : (w text : List ℕ) → drop (length (encodes w)) text ≡ drop (size w) text
-unfolding size
-size_drop w text = refl
-
 pub ends_same : (i : Item) (bs : List ℕ) → IsUtf8 bs → ends_well i bs ≡ ends_well i (chars bs)
 ends_same (leaf (Leaf.text ps)) bs u = go bs u
   where
@@ -169,10 +167,6 @@ pub record ItemAt (bytes : List ℕ) (at : ℕ) (found : Counted) : Type 0 where
   pub is : IsCountedAt bytes at found
   pub boundary : IsCharBoundary bytes found.item.span.end
 
-scalar_back : (w v : List ℕ) → lib.Utf8.scalars (w ++ v) ≡ true → lib.Utf8.scalars v ≡ true
-scalar_back [] v h = h
-scalar_back (c ∷ w) v h = scalar_back w v (and_parts (lib.Utf8.scalar c) (lib.Utf8.scalars (w ++ v)) h).1
-
 item_sound_by : (bytes : List ℕ) (at : ℕ) (found : Counted) (i : Item) (rest : List ℕ) → IsUtf8 (encodes rest) → chars (encodes rest) ≡ rest → To bytes (encodes rest) at (written i) → FitItem (at == first_place bytes) i rest → counted_shown at i ≡ found → ItemAt bytes at found
 unfolding begins_at spelling size
 item_sound_by bytes at found i rest v back k fit shown =
@@ -194,7 +188,7 @@ item_sound bytes text at found within is u e =
     let i = m.0.0 in
     let rest = m.0.1 in
     let t = (item_reads (at == first_place bytes)).takes (chars text) i rest m.1 in
-    let s : lib.Utf8.scalars rest ≡ true = scalar_back (written i) rest (ap lib.Utf8.scalars (sym t.0) ∙ scalars-chars text u) in
+    let s : lib.Utf8.scalars rest ≡ true = scalars_back (written i) rest (ap lib.Utf8.scalars (sym t.0) ∙ scalars-chars text u) in
     let v : IsUtf8 (encodes rest) = (rest, (s, refl)) in
     let back : chars (encodes rest) ≡ rest = chars-encodes rest s in
     let k = read_to bytes text (encodes rest) at (written i) within is u v (t.0 ∙ ap (λ (l : List ℕ). written i ++ l) (sym back)) in
@@ -202,9 +196,6 @@ item_sound bytes text at found within is u e =
 
 pub item_sound_at : (bytes text : List ℕ) (at : ℕ) (first : Bool) (found : Counted) → at ≤ length bytes → text ≡ drop at bytes → IsUtf8 text → first ≡ (at == first_place bytes) → Some found ≡ counts at (read_item first (chars text)) → ItemAt bytes at found
 item_sound_at bytes text at first found within is u f e = item_sound bytes text at found within is u (e ∙ ap (λ (b : Bool). counts at (read_item b (chars text))) f)
-
-size_of_drop : (w text : List ℕ) → drop (length (encodes w)) text ≡ drop (size w) text
-size_of_drop w text = size_drop w text
 
 -- the item that begins at a place is read there
 pub item_read : (bytes text : List ℕ) (at : ℕ) (i : Item) → text ≡ drop at bytes → IsUtf8 text → begins_at bytes at i ≡ true → (rest : List ℕ) × (read_item (at == first_place bytes) (chars text) ≡ Some (i, rest))
@@ -214,9 +205,9 @@ item_read bytes text at i is u b =
     let x = and_parts _ (ends_well i (drop (at + length (encodes (written i))) bytes)) q.0 in
     let y = and_parts (meets i) (begins (encodes (written i)) (drop at bytes)) x.0 in
     let f = prefix_holds text (written i) u (ap (begins (encodes (written i))) is ∙ y.1) in
-    let s = scalar_back (written i) f.0 (ap lib.Utf8.scalars (sym f.1) ∙ scalars-chars text u) in
+    let s = scalars_back (written i) f.0 (ap lib.Utf8.scalars (sym f.1) ∙ scalars-chars text u) in
     let v : IsUtf8 (encodes f.0) = (f.0, (s, refl)) in
-    let same : drop (at + length (encodes (written i))) bytes ≡ encodes f.0 = sym (drop-drop (length (encodes (written i))) at bytes) ∙ ap (drop (length (encodes (written i)))) (sym is) ∙ size_of_drop (written i) text ∙ sym f.2 in
+    let same : drop (at + length (encodes (written i))) bytes ≡ encodes f.0 = sym (drop-drop (length (encodes (written i))) at bytes) ∙ ap (drop (length (encodes (written i)))) (sym is) ∙ size_drop (written i) text ∙ sym f.2 in
     let back : chars (encodes f.0) ≡ f.0 = chars-encodes f.0 s in
     let ends : ends_well i f.0 ≡ true = ap (ends_well i) (sym back) ∙ sym (ends_same i (encodes f.0) v) ∙ ap (ends_well i) (sym same) ∙ x.1 in
     let fit : FitItem (at == first_place bytes) i f.0 = (y.0, ends, hold_from (at == first_place bytes) i (first_place bytes) at refl q.1) in
