@@ -109,7 +109,7 @@ fn offer_attribute<R: RecordSink>(
 }
 
 /// What an item is by its first bytes.
-#[derive(Clone, Copy, Debug, PartialEq, Eq)]
+#[derive(Clone, Copy)]
 enum Beginning {
     Text,
     /// A start tag or an empty tag.
@@ -120,14 +120,14 @@ enum Beginning {
 }
 
 /// How many records there were, and a place.
-#[derive(Clone, Copy, Debug, PartialEq, Eq)]
+#[derive(Clone, Copy)]
 pub struct Reached {
     pub count: u32,
     pub at: u32,
 }
 
 /// What was passed: how many records there were then, the place after it, and how many elements are open there.
-#[derive(Clone, Copy, Debug, PartialEq, Eq)]
+#[derive(Clone, Copy)]
 pub struct Passed {
     pub count: u32,
     pub at: u32,

@@ -14,7 +14,7 @@ use xml_model::Span;
 const NEAR: usize = 16;
 
 /// The places of an attribute, and where it ends.
-#[derive(Clone, Copy, Debug, PartialEq, Eq)]
+#[derive(Clone, Copy)]
 pub struct AttributeCut {
     pub item: AttributeItem,
     /// The place after the closing quote.

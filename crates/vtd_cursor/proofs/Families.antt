@@ -18,8 +18,10 @@ pub record Meets (P : Entry → Bool) (want : Thing → Bool) (es : List Entry) 
   pub back : (y : Entry) → Contains es y → IsWanted want level y → from ≤ y.index → y.index < to → P y ≡ true
 
 -- the walk forward finds the first node of a test
-pub first_meets : (P : Entry → Bool) (want : Thing → Bool) (pass : Record → Bool) (rs : List Record) (es : List Entry) (z : Entry) (level from : ℕ) → RecordsShow rs es → Holds rs z level → from ≤ z.past → Meets P want es z level from z.past →
-    ((r : Record) → pass r ≡ true → level ≤ level_of r) → ((y : Entry) → Contains es y → P y ≡ true → Passes pass rs from y.index) → (o : Option Node) → FirstFrom pass want level rs es from o → o ≡ first_of (filter P es)
+pub first_meets : (P : Entry → Bool) (want : Thing → Bool) (pass : Record → Bool) (rs : List Record) (es : List Entry) (z : Entry) (level from : ℕ) →
+    RecordsShow rs es → Holds rs z level → from ≤ z.past → Meets P want es z level from z.past →
+    ((r : Record) → pass r ≡ true → level ≤ level_of r) → ((y : Entry) → Contains es y → P y ≡ true → Passes pass rs from y.index) →
+    (o : Option Node) → FirstFrom pass want level rs es from o → o ≡ first_of (filter P es)
 first_meets P want pass rs es z level from k h b m low passes None f =
     sym (ap first_of (none_of P es (λ y c p. let q = m.out y c p in f y c q.0 q.1 (passes y c p))))
 first_meets P want pass rs es z level from k h b m low passes (Some node) f =
@@ -35,11 +37,14 @@ first_meets P want pass rs es z level from k h b m low passes (Some node) f =
             omega (arith, a, h.after (omega (arith, e, k.within y f.there)))
       ])
     ] in
-    ap (λ n. Some n) f.shown ∙ sym (first_is P es k.rises y f.there (m.back y f.there f.is f.after before) (λ x c p. let q = m.out x c p in f.least x c q.0 q.1))
+    ap (λ n. Some n) f.shown ∙ sym (first_is P es k.rises y f.there (m.back y f.there f.is f.after before)
+    (λ x c p. let q = m.out x c p in f.least x c q.0 q.1))
 
 -- the walk backward finds the last node of a test
-pub last_meets : (P : Entry → Bool) (want : Thing → Bool) (pass : Record → Bool) (rs : List Record) (es : List Entry) (z : Entry) (level end : ℕ) → RecordsShow rs es → Holds rs z level → z.index < end → end ≤ z.past → Meets P want es z level (suc z.index) end →
-    ((y : Entry) → Contains es y → want y.what ≡ true → 0 < y.index) → ((r : Record) → pass r ≡ true → level ≤ level_of r) → ((y : Entry) → Contains es y → P y ≡ true → Passes pass rs (suc y.index) end) → (o : Option Node) →
+pub last_meets : (P : Entry → Bool) (want : Thing → Bool) (pass : Record → Bool) (rs : List Record) (es : List Entry) (z : Entry) (level end : ℕ) →
+    RecordsShow rs es → Holds rs z level → z.index < end → end ≤ z.past → Meets P want es z level (suc z.index) end →
+    ((y : Entry) → Contains es y → want y.what ≡ true → 0 < y.index) → ((r : Record) → pass r ≡ true → level ≤ level_of r) →
+    ((y : Entry) → Contains es y → P y ≡ true → Passes pass rs (suc y.index) end) → (o : Option Node) →
     LastBefore pass want level rs es end o → o ≡ last_of (filter P es)
 last_meets P want pass rs es z level end k h a b m some low passes None f =
     sym (ap last_of (none_of P es (λ y c p. let q = m.out y c p in f y c q.0 q.2 (passes y c p))))
@@ -57,4 +62,5 @@ last_meets P want pass rs es z level end k h a b m some low passes (Some node) f
             omega (arith, c, h.own (omega (arith, e, first)))
       ])
     ] in
-    ap (λ n. Some n) f.shown ∙ sym (last_is P es k.rises y f.there (m.back y f.there f.is after f.before) (λ x c p. let q = m.out x c p in f.greatest x c q.0 q.2))
+    ap (λ n. Some n) f.shown ∙ sym (last_is P es k.rises y f.there (m.back y f.there f.is after f.before)
+    (λ x c p. let q = m.out x c p in f.greatest x c q.0 q.2))

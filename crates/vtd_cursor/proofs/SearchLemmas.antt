@@ -1,5 +1,6 @@
 -- What a walk along the records knows on its way.
-use Rattle.std.proofs.Common.{◌≡◌, ℕ, ◌+◌, ◌-◌, ◌<◌, ◌≤◌, Bool, true, false, ◌||◌, ◌==◌, List, length, ap, sym, ◌∙◌, subst, arith, inl, inr, Option, Some, None}
+use Rattle.std.proofs.Common.{◌≡◌, ℕ, ◌+◌, ◌-◌, ◌<◌, ◌≤◌, Bool, true, false, ◌||◌, ◌==◌, List, length, ap, sym, ◌∙◌, subst, arith, inl, inr, Option}
+use Rattle.std.proofs.Common.{Some, None}
 use Rattle.std.specs.List.{Contains}
 use Rattle.std.proofs.lemmas.Bool.{cases_lt, false≢true, le-leb, lt-leb, eqb-true, and_parts}
 use Rattle.xml_model.specs.declared.Kind.{Kind}
@@ -49,7 +50,8 @@ NoneAt want level es at = (x : Entry) → Contains es x → IsWanted want level 
 abbrev pub WantedPass : (Record → Bool) → (Thing → Bool) → ℕ → List Record → List Entry → Type 0
 WantedPass pass want level rs es = (x : Entry) → Contains es x → IsWanted want level x → pass (record_at x.index rs) ≡ true
 
-pub on_from : (pass : Record → Bool) (want : Thing → Bool) (level : ℕ) (rs : List Record) (es : List Entry) (from at : ℕ) → PassedFrom pass want level rs es from at → pass (record_at at rs) ≡ true → NoneAt want level es at →
+pub on_from : (pass : Record → Bool) (want : Thing → Bool) (level : ℕ) (rs : List Record) (es : List Entry) (from at : ℕ) →
+    PassedFrom pass want level rs es from at → pass (record_at at rs) ≡ true → NoneAt want level es at →
     PassedFrom pass want level rs es from (at + 1)
 on_from pass want level rs es from at p r n = record {
   passes = λ k l h. elim (cases_lt k at) [
@@ -62,7 +64,8 @@ on_from pass want level rs es from at p r n = record {
   ];
 }
 
-pub on_before : (pass : Record → Bool) (want : Thing → Bool) (level : ℕ) (rs : List Record) (es : List Entry) (end at : ℕ) → PassedBefore pass want level rs es end (at + 1) → pass (record_at at rs) ≡ true → NoneAt want level es at →
+pub on_before : (pass : Record → Bool) (want : Thing → Bool) (level : ℕ) (rs : List Record) (es : List Entry) (end at : ℕ) →
+    PassedBefore pass want level rs es end (at + 1) → pass (record_at at rs) ≡ true → NoneAt want level es at →
     PassedBefore pass want level rs es end at
 on_before pass want level rs es end at p r n = record {
   passes = λ k l h. elim (cases_lt at k) [
@@ -76,7 +79,8 @@ on_before pass want level rs es end at p r n = record {
 }
 
 -- the walk stops at a record that does not pass
-pub stop_from : (pass : Record → Bool) (want : Thing → Bool) (level : ℕ) (rs : List Record) (es : List Entry) (from at : ℕ) → from ≤ at → PassedFrom pass want level rs es from at → WantedPass pass want level rs es → pass (record_at at rs) ≡ false →
+pub stop_from : (pass : Record → Bool) (want : Thing → Bool) (level : ℕ) (rs : List Record) (es : List Entry) (from at : ℕ) → from ≤ at →
+    PassedFrom pass want level rs es from at → WantedPass pass want level rs es → pass (record_at at rs) ≡ false →
     FirstFrom pass want level rs es from None
 stop_from pass want level rs es from at f p q r = λ x c w l h. elim (cases_lt x.index at) [
   | inl low ↦ p.none x c w l low
@@ -86,7 +90,8 @@ stop_from pass want level rs es from at f p q r = λ x c w l h. elim (cases_lt x
   ]
 ]
 
-pub stop_before : (pass : Record → Bool) (want : Thing → Bool) (level : ℕ) (rs : List Record) (es : List Entry) (end at : ℕ) → at < end → PassedBefore pass want level rs es end (at + 1) → WantedPass pass want level rs es → pass (record_at at rs) ≡ false →
+pub stop_before : (pass : Record → Bool) (want : Thing → Bool) (level : ℕ) (rs : List Record) (es : List Entry) (end at : ℕ) → at < end →
+    PassedBefore pass want level rs es end (at + 1) → WantedPass pass want level rs es → pass (record_at at rs) ≡ false →
     LastBefore pass want level rs es end None
 stop_before pass want level rs es end at f p q r = λ x c w l h. elim (cases_lt at x.index) [
   | inl later ↦ p.none x c w (omega (arith, later)) l
@@ -97,12 +102,15 @@ stop_before pass want level rs es end at f p q r = λ x c w l h. elim (cases_lt 
 ]
 
 -- the walk comes to its end
-pub end_from_there : (pass : Record → Bool) (want : Thing → Bool) (level : ℕ) (rs : List Record) (es : List Entry) (from at : ℕ) → PassedFrom pass want level rs es from at → ((x : Entry) → Contains es x → x.index < at) → FirstFrom pass want level rs es from None
+pub end_from_there : (pass : Record → Bool) (want : Thing → Bool) (level : ℕ) (rs : List Record) (es : List Entry) (from at : ℕ) →
+    PassedFrom pass want level rs es from at → ((x : Entry) → Contains es x → x.index < at) → FirstFrom pass want level rs es from None
 end_from_there pass want level rs es from at p b = λ x c w l h. p.none x c w l (b x c)
 
 -- the walk finds a node
-pub found_from : (pass : Record → Bool) (want : Thing → Bool) (level : ℕ) (rs : List Record) (es : List Entry) (from at : ℕ) (node : Node) → from ≤ at → PassedFrom pass want level rs es from at →
-    ((x : Entry) → Contains es x → level_of (record_at x.index rs) ≡ length x.holders) → level_of (record_at at rs) ≡ level → NodeAt want es at (Some node) → FirstFrom pass want level rs es from (Some node)
+pub found_from : (pass : Record → Bool) (want : Thing → Bool) (level : ℕ) (rs : List Record) (es : List Entry) (from at : ℕ) (node : Node) →
+    from ≤ at → PassedFrom pass want level rs es from at →
+    ((x : Entry) → Contains es x → level_of (record_at x.index rs) ≡ length x.holders) → level_of (record_at at rs) ≡ level →
+    NodeAt want es at (Some node) → FirstFrom pass want level rs es from (Some node)
 found_from pass want level rs es from at node f p s l n = record {
   entry = n.entry;
   there = n.there;
@@ -116,8 +124,10 @@ found_from pass want level rs es from at node f p s l n = record {
   ];
 }
 
-pub found_before : (pass : Record → Bool) (want : Thing → Bool) (level : ℕ) (rs : List Record) (es : List Entry) (end at : ℕ) (node : Node) → at < end → PassedBefore pass want level rs es end (at + 1) →
-    ((x : Entry) → Contains es x → level_of (record_at x.index rs) ≡ length x.holders) → level_of (record_at at rs) ≡ level → NodeAt want es at (Some node) → LastBefore pass want level rs es end (Some node)
+pub found_before : (pass : Record → Bool) (want : Thing → Bool) (level : ℕ) (rs : List Record) (es : List Entry) (end at : ℕ) (node : Node) →
+    at < end → PassedBefore pass want level rs es end (at + 1) →
+    ((x : Entry) → Contains es x → level_of (record_at x.index rs) ≡ length x.holders) → level_of (record_at at rs) ≡ level →
+    NodeAt want es at (Some node) → LastBefore pass want level rs es end (Some node)
 found_before pass want level rs es end at node f p s l n = record {
   entry = n.entry;
   there = n.there;
@@ -133,27 +143,35 @@ found_before pass want level rs es end at node f p s l n = record {
 
 -- The walks over a table.
 
-pub lower_stops : (bytes : List ℕ) (nest : Forest) (level found at : ℕ) → found ≡ level_of (record_at at (records nest (first_place bytes))) → found < level → is_within level (record_at at (records nest (first_place bytes))) ≡ false
+pub lower_stops : (bytes : List ℕ) (nest : Forest) (level found at : ℕ) → found ≡ level_of (record_at at (records nest (first_place bytes))) →
+    found < level → is_within level (record_at at (records nest (first_place bytes))) ≡ false
 lower_stops bytes nest level found at e h = lt-leb level (level_of (record_at at (records nest (first_place bytes)))) (omega (arith, e, h))
 
-pub higher_passes : (bytes : List ℕ) (nest : Forest) (level found at : ℕ) → found ≡ level_of (record_at at (records nest (first_place bytes))) → level ≤ found → is_within level (record_at at (records nest (first_place bytes))) ≡ true
+pub higher_passes : (bytes : List ℕ) (nest : Forest) (level found at : ℕ) → found ≡ level_of (record_at at (records nest (first_place bytes))) →
+    level ≤ found → is_within level (record_at at (records nest (first_place bytes))) ≡ true
 higher_passes bytes nest level found at e h = le-leb level (level_of (record_at at (records nest (first_place bytes)))) (omega (arith, e, h))
 
-pub child_pass : (bytes : List ℕ) (lists : Lists) (nest : Forest) → IsNestOf bytes lists nest → (level : ℕ) → WantedPass (is_within level) is_child_thing level (records nest (first_place bytes)) (nodes_of bytes nest)
+pub child_pass : (bytes : List ℕ) (lists : Lists) (nest : Forest) → IsNestOf bytes lists nest → (level : ℕ) →
+    WantedPass (is_within level) is_child_thing level (records nest (first_place bytes)) (nodes_of bytes nest)
 child_pass bytes lists nest s level x c w =
-    higher_passes bytes nest level (length x.holders) x.index (sym (levels_shown nest (first_place bytes) s.accepted.document.nests x c)) (omega (arith, w.held))
+    higher_passes bytes nest level (length x.holders) x.index (sym (levels_shown nest (first_place bytes) s.accepted.document.nests x c))
+    (omega (arith, w.held))
 
-pub attribute_pass : (bytes : List ℕ) (lists : Lists) (nest : Forest) → IsNestOf bytes lists nest → (level : ℕ) → WantedPass (is_attribute_part level) is_attribute_thing level (records nest (first_place bytes)) (nodes_of bytes nest)
+pub attribute_pass : (bytes : List ℕ) (lists : Lists) (nest : Forest) → IsNestOf bytes lists nest → (level : ℕ) →
+    WantedPass (is_attribute_part level) is_attribute_thing level (records nest (first_place bytes)) (nodes_of bytes nest)
 attribute_pass bytes lists nest s level x c w =
     ap (λ l. is_attribute_part l (record_at x.index (records nest (first_place bytes)))) (sym w.held)
     ∙ attribute_part nest (first_place bytes) s.accepted.document.nests x c w.wanted
 
-pub other_level : (bytes : List ℕ) (lists : Lists) (nest : Forest) → IsNestOf bytes lists nest → (want : Thing → Bool) (level found at : ℕ) → found ≡ level_of (record_at at (records nest (first_place bytes))) → (found ≡ level → ⊥) →
+pub other_level : (bytes : List ℕ) (lists : Lists) (nest : Forest) → IsNestOf bytes lists nest → (want : Thing → Bool) (level found at : ℕ) →
+    found ≡ level_of (record_at at (records nest (first_place bytes))) → (found ≡ level → ⊥) →
     NodeOfLevel want level found (nodes_of bytes nest) at None
 other_level bytes lists nest s want level found at f n = λ x c w p.
-    n (f ∙ ap (λ k. level_of (record_at k (records nest (first_place bytes)))) (sym p) ∙ levels_shown nest (first_place bytes) s.accepted.document.nests x c ∙ w.held)
+    n (f ∙ ap (λ k. level_of (record_at k (records nest (first_place bytes)))) (sym p)
+    ∙ levels_shown nest (first_place bytes) s.accepted.document.nests x c ∙ w.held)
 
-pub this_level : (want : Thing → Bool) (level found : ℕ) (es : List Entry) (at : ℕ) (o : Option Node) → found ≡ level → NodeAt want es at o → NodeOfLevel want level found es at o
+pub this_level : (want : Thing → Bool) (level found : ℕ) (es : List Entry) (at : ℕ) (o : Option Node) → found ≡ level → NodeAt want es at o →
+    NodeOfLevel want level found es at o
 this_level want level found es at None e n = λ x c w p. n x c w.wanted p
 this_level want level found es at (Some node) e n = (e, n)
 
@@ -164,14 +182,20 @@ attribute_level : (level : ℕ) (r : Record) → is_attribute_part level r ≡ t
 attribute_level level r h = eqb-true (level_of r) level (and_parts (r.token == 2 || r.token == 3 || r.token == 4) (level_of r == level) h).1
 
 pub attribute_found : (bytes : List ℕ) (lists : Lists) (nest : Forest) → IsNestOf bytes lists nest → (level from at : ℕ) (node : Node) → from ≤ at →
-    PassedFrom (is_attribute_part level) is_attribute_thing level (records nest (first_place bytes)) (nodes_of bytes nest) from at → is_attribute_part level (record_at at (records nest (first_place bytes))) ≡ true →
-    NodeAt is_attribute_thing (nodes_of bytes nest) at (Some node) → FirstFrom (is_attribute_part level) is_attribute_thing level (records nest (first_place bytes)) (nodes_of bytes nest) from (Some node)
+    PassedFrom (is_attribute_part level) is_attribute_thing level (records nest (first_place bytes)) (nodes_of bytes nest) from at →
+    is_attribute_part level (record_at at (records nest (first_place bytes))) ≡ true →
+    NodeAt is_attribute_thing (nodes_of bytes nest) at (Some node) →
+    FirstFrom (is_attribute_part level) is_attribute_thing level (records nest (first_place bytes)) (nodes_of bytes nest) from (Some node)
 attribute_found bytes lists nest s level from at node f p h n =
-    found_from (is_attribute_part level) is_attribute_thing level (records nest (first_place bytes)) (nodes_of bytes nest) from at node f p (levels_shown nest (first_place bytes) s.accepted.document.nests) (attribute_level level (record_at at (records nest (first_place bytes))) h) n
+    found_from (is_attribute_part level) is_attribute_thing level (records nest (first_place bytes)) (nodes_of bytes nest) from at node f p
+    (levels_shown nest (first_place bytes) s.accepted.document.nests) (attribute_level level (record_at at (records nest (first_place bytes))) h) n
 
-pub end_before_there : (bytes : List ℕ) (lists : Lists) (nest : Forest) → IsNestOf bytes lists nest → (pass : Record → Bool) (level end at : ℕ) → PassedBefore pass is_child_thing level (records nest (first_place bytes)) (nodes_of bytes nest) end at → at ≤ 1 →
+pub end_before_there : (bytes : List ℕ) (lists : Lists) (nest : Forest) → IsNestOf bytes lists nest → (pass : Record → Bool) (level end at : ℕ) →
+    PassedBefore pass is_child_thing level (records nest (first_place bytes)) (nodes_of bytes nest) end at → at ≤ 1 →
     LastBefore pass is_child_thing level (records nest (first_place bytes)) (nodes_of bytes nest) end None
-end_before_there bytes lists nest s pass level end at p h = λ x c w l k. p.none x c w (omega (arith, h, child_after nest (first_place bytes) s.accepted.document.nests x c w.wanted)) l
+end_before_there bytes lists nest s pass level end at p h =
+    λ x c w l k. p.none x c w (omega (arith, h, child_after nest (first_place bytes) s.accepted.document.nests x c w.wanted)) l
 
-pub before_again : (pass : Record → Bool) (want : Thing → Bool) (level : ℕ) (rs : List Record) (es : List Entry) (end at : ℕ) → 1 ≤ at → PassedBefore pass want level rs es end at → PassedBefore pass want level rs es end (at - 1 + 1)
+pub before_again : (pass : Record → Bool) (want : Thing → Bool) (level : ℕ) (rs : List Record) (es : List Entry) (end at : ℕ) → 1 ≤ at →
+    PassedBefore pass want level rs es end at → PassedBefore pass want level rs es end (at - 1 + 1)
 before_again pass want level rs es end at h p = let one : at ≡ at - 1 + 1 = omega (arith, h) in subst (λ n. PassedBefore pass want level rs es end n) one p

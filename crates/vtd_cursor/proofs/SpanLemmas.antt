@@ -18,9 +18,11 @@ use Rattle.vtd_words.proofs.Shown.{shown_length}
 
 -- the first record past a node's, in each nest
 abbrev pub PastOf : List ℕ → Lists → Node → ℕ → Type 0
-PastOf bytes lists node past = (nest : Forest) → IsNestOf bytes lists nest → (e : Entry) → Identifies node.kind node.at e (nodes_of bytes nest) → past ≡ e.past
+PastOf bytes lists node past = (nest : Forest) → IsNestOf bytes lists nest → (e : Entry) → Identifies node.kind node.at e (nodes_of bytes nest) →
+    past ≡ e.past
 
-begins_of : (bytes : List ℕ) (lists : Lists) → length bytes < 2 ^ 30 → (node : Node) → (node.kind ≡ kinds.Root → ⊥) → (parts : Parts) → ArePartsAt lists.records node.at parts → (nest : Forest) → IsNestOf bytes lists nest →
+begins_of : (bytes : List ℕ) (lists : Lists) → length bytes < 2 ^ 30 → (node : Node) → (node.kind ≡ kinds.Root → ⊥) → (parts : Parts) →
+    ArePartsAt lists.records node.at parts → (nest : Forest) → IsNestOf bytes lists nest →
     (e : Entry) → Identifies node.kind node.at e (nodes_of bytes nest) → parts.offset ≡ e.start + opening parts.token
 begins_of bytes lists few node k parts p nest s e w =
     let rs = records nest (first_place bytes) in
@@ -29,10 +31,12 @@ begins_of bytes lists few node k parts p nest s e w =
     let begins : Begins rs e.start node.at = shown.span.begins k in
     ap (λ r. r.offset) same ∙ begins ∙ ap (λ r. e.start + opening r.token) (sym same)
 
-pub start_opens : (bytes : List ℕ) (lists : Lists) → length bytes < 2 ^ 30 → (node : Node) → IsNodeOf bytes lists node → (node.kind ≡ kinds.Root → ⊥) → (parts : Parts) → ArePartsAt lists.records node.at parts → opening parts.token ≤ parts.offset
+pub start_opens : (bytes : List ℕ) (lists : Lists) → length bytes < 2 ^ 30 → (node : Node) → IsNodeOf bytes lists node → (node.kind ≡ kinds.Root → ⊥) →
+    (parts : Parts) → ArePartsAt lists.records node.at parts → opening parts.token ≤ parts.offset
 start_opens bytes lists few node n k parts p = omega (arith, begins_of bytes lists few node k parts p n.nest n.shown n.entry n.holds)
 
-pub start_found : (bytes : List ℕ) (lists : Lists) → length bytes < 2 ^ 30 → (node : Node) → (node.kind ≡ kinds.Root → ⊥) → (parts : Parts) → ArePartsAt lists.records node.at parts → (result : ℕ) → result ≡ parts.offset - opening parts.token →
+pub start_found : (bytes : List ℕ) (lists : Lists) → length bytes < 2 ^ 30 → (node : Node) → (node.kind ≡ kinds.Root → ⊥) → (parts : Parts) →
+    ArePartsAt lists.records node.at parts → (result : ℕ) → result ≡ parts.offset - opening parts.token →
     (nest : Forest) → IsNestOf bytes lists nest → (e : Entry) → Identifies node.kind node.at e (nodes_of bytes nest) → result ≡ e.start
 start_found bytes lists few node k parts p result r nest s e w = omega (arith, r, begins_of bytes lists few node k parts p nest s e w)
 
@@ -41,7 +45,8 @@ pub record LastRoom (words : List ℕ) (past : ℕ) : Type 0 where
   pub some : 1 ≤ past
   pub within : past - 1 < length words
 
-pub last_room : (bytes : List ℕ) (lists : Lists) → length bytes < 2 ^ 30 → (node : Node) → IsNodeOf bytes lists node → (past : ℕ) → PastOf bytes lists node past → LastRoom lists.records past
+pub last_room : (bytes : List ℕ) (lists : Lists) → length bytes < 2 ^ 30 → (node : Node) → IsNodeOf bytes lists node → (past : ℕ) →
+    PastOf bytes lists node past → LastRoom lists.records past
 last_room bytes lists few node n past p =
     let rs = records n.nest (first_place bytes) in
     let shown : NodeShown bytes rs node.kind node.at n.entry = node_shown bytes lists n.nest n.shown node.kind node.at n.entry n.holds in
@@ -50,8 +55,10 @@ last_room bytes lists few node n past p =
     record { some = omega (arith, same, shown.some); within = omega (arith, same, shown.some, shown.within, many) }
 
 -- an element of a table ends where the end tags after its last piece do
-ending_of : (bytes : List ℕ) (lists : Lists) → length bytes < 2 ^ 30 → (node : Node) → node.kind ≡ kinds.Element → (parts : Parts) → ArePartsAt lists.records node.at parts → (past : ℕ) → PastOf bytes lists node past →
-    (nest : Forest) → IsNestOf bytes lists nest → (e : Entry) → Identifies node.kind node.at e (nodes_of bytes nest) → IsEnding bytes (records nest (first_place bytes)) parts.depth e.stop (suc (past - 1))
+ending_of : (bytes : List ℕ) (lists : Lists) → length bytes < 2 ^ 30 → (node : Node) → node.kind ≡ kinds.Element → (parts : Parts) →
+    ArePartsAt lists.records node.at parts → (past : ℕ) → PastOf bytes lists node past →
+    (nest : Forest) → IsNestOf bytes lists nest → (e : Entry) → Identifies node.kind node.at e (nodes_of bytes nest) →
+    IsEnding bytes (records nest (first_place bytes)) parts.depth e.stop (suc (past - 1))
 ending_of bytes lists few node k parts p past q nest s e w =
     let rs = records nest (first_place bytes) in
     let shown : NodeShown bytes rs node.kind node.at e = node_shown bytes lists nest s node.kind node.at e w in
@@ -59,19 +66,28 @@ ending_of bytes lists few node k parts p past q nest s e w =
     let count : e.past ≡ suc (past - 1) = omega (arith, q nest s e w, shown.some) in
     subst (λ n. IsEnding bytes rs parts.depth e.stop n) count (subst (λ l. IsEnding bytes rs l e.stop e.past) level (shown.span.element k))
 
-pub element_has : (bytes : List ℕ) (lists : Lists) → length bytes < 2 ^ 30 → (node : Node) → IsNodeOf bytes lists node → node.kind ≡ kinds.Element → (parts : Parts) → ArePartsAt lists.records node.at parts → (past : ℕ) → PastOf bytes lists node past →
+pub element_has : (bytes : List ℕ) (lists : Lists) → length bytes < 2 ^ 30 → (node : Node) → IsNodeOf bytes lists node → node.kind ≡ kinds.Element →
+    (parts : Parts) → ArePartsAt lists.records node.at parts → (past : ℕ) → PastOf bytes lists node past →
     HasEnding bytes lists.records parts.depth (past - 1)
 element_has bytes lists few node n k parts p past q =
-    record { rs = records n.nest (first_place bytes); shows = nest_shown bytes lists n.nest few n.shown; stop = n.entry.stop; is = ending_of bytes lists few node k parts p past q n.nest n.shown n.entry n.holds }
+    record {
+      rs = records n.nest (first_place bytes);
+      shows = nest_shown bytes lists n.nest few n.shown;
+      stop = n.entry.stop;
+      is =
+          ending_of bytes lists few node k parts p past q n.nest n.shown n.entry n.holds;
+    }
 
-pub element_found : (bytes : List ℕ) (lists : Lists) → length bytes < 2 ^ 30 → (node : Node) → node.kind ≡ kinds.Element → (parts : Parts) → ArePartsAt lists.records node.at parts → (past : ℕ) → PastOf bytes lists node past → (result : ℕ) →
+pub element_found : (bytes : List ℕ) (lists : Lists) → length bytes < 2 ^ 30 → (node : Node) → node.kind ≡ kinds.Element → (parts : Parts) →
+    ArePartsAt lists.records node.at parts → (past : ℕ) → PastOf bytes lists node past → (result : ℕ) →
     ((rs : List Record) → Shows lists.records rs → (stop : ℕ) → IsEnding bytes rs parts.depth stop (suc (past - 1)) → result ≡ stop) →
     (nest : Forest) → IsNestOf bytes lists nest → (e : Entry) → Identifies node.kind node.at e (nodes_of bytes nest) → result ≡ e.stop
 element_found bytes lists few node k parts p past q result r nest s e w =
     r (records nest (first_place bytes)) (nest_shown bytes lists nest few s) e.stop (ending_of bytes lists few node k parts p past q nest s e w)
 
 -- any other node ends where its last record says
-pub last_found : (bytes : List ℕ) (lists : Lists) → length bytes < 2 ^ 30 → (node : Node) → (node.kind ≡ kinds.Root → ⊥) → (node.kind ≡ kinds.Element → ⊥) → (past : ℕ) → PastOf bytes lists node past →
+pub last_found : (bytes : List ℕ) (lists : Lists) → length bytes < 2 ^ 30 → (node : Node) → (node.kind ≡ kinds.Root → ⊥) →
+    (node.kind ≡ kinds.Element → ⊥) → (past : ℕ) → PastOf bytes lists node past →
     (parts : Parts) → ArePartsAt lists.records (past - 1) parts → (result : ℕ) → result ≡ record_end (record_of parts) →
     (nest : Forest) → IsNestOf bytes lists nest → (e : Entry) → Identifies node.kind node.at e (nodes_of bytes nest) → result ≡ e.stop
 last_found bytes lists few node k m past q parts p result r nest s e w =
@@ -79,5 +95,6 @@ last_found bytes lists few node k m past q parts p result r nest s e w =
     let shown : NodeShown bytes rs node.kind node.at e = node_shown bytes lists nest s node.kind node.at e w in
     r ∙ ap record_end (p rs (nest_shown bytes lists nest few s)) ∙ ap (λ n. record_end (record_at (n - 1) rs)) (q nest s e w) ∙ shown.span.other k m
 
-pub root_span : (bytes : List ℕ) (lists : Lists) (node : Node) → node.kind ≡ kinds.Root → (nest : Forest) → IsNestOf bytes lists nest → (e : Entry) → Identifies node.kind node.at e (nodes_of bytes nest) → (e.start ≡ 0) × (e.stop ≡ length bytes)
+pub root_span : (bytes : List ℕ) (lists : Lists) (node : Node) → node.kind ≡ kinds.Root → (nest : Forest) → IsNestOf bytes lists nest → (e : Entry) →
+    Identifies node.kind node.at e (nodes_of bytes nest) → (e.start ≡ 0) × (e.stop ≡ length bytes)
 root_span bytes lists node k nest s e w = (node_shown bytes lists nest s node.kind node.at e w).span.root k

@@ -48,11 +48,23 @@ pub record TagsShown (bytes : List ℕ) (rs : List Record) (t : Tag) (inside : F
   pub itself : closed ≡ true → stop ≡ past_empty start t
   pub inner : closed ≡ false → IsEnding bytes rs (suc l) (past_forest (past_start start t) inside) past
 
-own_tag : (bytes : List ℕ) (rs prefix rest : List Record) (t : Tag) (inside : Forest) (l start place : ℕ) (closed : Bool) → rs ≡ prefix ++ (tag_records l start t ++ forest_records (suc l) (past_start start t) inside) ++ rest → length prefix ≡ place →
+own_tag : (bytes : List ℕ) (rs prefix rest : List Record) (t : Tag) (inside : Forest) (l start place : ℕ) (closed : Bool) →
+    rs ≡ prefix ++ (tag_records l start t ++ forest_records (suc l) (past_start start t) inside) ++ rest → length prefix ≡ place →
     begins_at bytes start (tag_item closed t) ≡ true → IsTagOf bytes rs place start closed t
 own_tag bytes rs prefix rest t inside l start place closed e n b =
-    let head : record_at place rs ≡ named 0 l t.name (start + 1) = first_in rs prefix (tag_records l start t ++ forest_records (suc l) (past_start start t) inside) rest place e n (omega arith) in
-    record { first = place; nearest = record { within = omega arith; tag = ap (λ r. r.token) head; none = λ k low high z. omega (arith, low, high) }; offset = ap (λ r. r.offset) head; begins = b }
+    let head : record_at place rs ≡ named 0 l t.name (start + 1) =
+    first_in rs prefix (tag_records l start t ++ forest_records (suc l) (past_start start t) inside) rest place e n (omega arith) in
+    record {
+      first = place;
+      nearest = record {
+        within = omega arith;
+        tag = ap (λ r. r.token) head;
+        none = λ k low high z. omega
+            (arith, low, high);
+      };
+      offset = ap (λ r. r.offset) head;
+      begins = b;
+    }
 
 -- a start tag and an empty tag do not begin at one place
 one_tag : (bytes : List ℕ) (at : ℕ) (t : Tag) → IsUtf8 bytes → begins_at bytes at (start_tag t) ≡ true → begins_at bytes at (empty_tag t) ≡ false
@@ -60,10 +72,19 @@ one_tag bytes at t u b = false_from_ne_true _ (λ c.
     let same : start_tag t ≡ empty_tag t = one_item bytes at (start_tag t) (empty_tag t) b c in
     cc)
 
-tags_shown : (bytes : List ℕ) (rs prefix rest : List Record) (t : Tag) (inside : Forest) (l start stop place past : ℕ) → IsUtf8 bytes → rs ≡ prefix ++ (tag_records l start t ++ forest_records (suc l) (past_start start t) inside) ++ rest → length prefix ≡ place →
-    place + length (tag_records l start t ++ forest_records (suc l) (past_start start t) inside) ≡ past → ElementCloses bytes t inside start stop → TagsShown bytes rs t inside l start stop place past
+tags_shown : (bytes : List ℕ) (rs prefix rest : List Record) (t : Tag) (inside : Forest) (l start stop place past : ℕ) → IsUtf8 bytes →
+    rs ≡ prefix ++ (tag_records l start t ++ forest_records (suc l) (past_start start t) inside) ++ rest → length prefix ≡ place →
+    place + length (tag_records l start t ++ forest_records (suc l) (past_start start t) inside) ≡ past → ElementCloses bytes t inside start stop →
+    TagsShown bytes rs t inside l start stop place past
 tags_shown bytes rs prefix rest t inside l start stop place past u e n p (by_itself i b s) =
-    record { closed = true; is_closed = b; tag = own_tag bytes rs prefix rest t inside l start place true e n b; itself = λ h. s; inner = λ h. absurd (false≢true (sym h)) }
+    record {
+      closed = true;
+      is_closed = b;
+      tag = own_tag bytes rs prefix rest t inside l start place true e n b;
+      itself = λ h. s;
+      inner =
+          λ h. absurd (false≢true (sym h));
+    }
 tags_shown bytes rs prefix rest t inside l start stop place past u e n p (by_end_tag space b k m s) =
     let tag = tag_records l start t in
     let within = forest_records (suc l) (past_start start t) inside in
@@ -73,10 +94,12 @@ tags_shown bytes rs prefix rest t inside l start stop place past u e n p (by_end
       is_closed = one_tag bytes start t u b;
       tag = own_tag bytes rs prefix rest t inside l start place false e n b;
       itself = λ h. absurd (false≢true h);
-      inner = λ h. subst (λ c. IsEnding bytes rs (suc l) (past_forest (past_start start t) inside) c) count (inside_ending t inside bytes rs prefix rest l start e b k);
+      inner = λ h. subst (λ c. IsEnding bytes rs (suc l) (past_forest (past_start start t) inside) c) count
+          (inside_ending t inside bytes rs prefix rest l start e b k);
     }
 
-pub element_tags : (bytes : List ℕ) (lists : Lists) (nest : Forest) → IsNestOf bytes lists nest → (kind : Kind) (at : ℕ) (e : Entry) → Identifies kind at e (nodes_of bytes nest) → (t : Tag) (inside : Forest) → e.what ≡ Thing.element t inside →
+pub element_tags : (bytes : List ℕ) (lists : Lists) (nest : Forest) → IsNestOf bytes lists nest → (kind : Kind) (at : ℕ) (e : Entry) →
+    Identifies kind at e (nodes_of bytes nest) → (t : Tag) (inside : Forest) → e.what ≡ Thing.element t inside →
     TagsShown bytes (records nest (first_place bytes)) t inside (length e.holders) e.start e.stop at e.past
 element_tags bytes lists nest s kind at e w t inside is =
     let first = first_place bytes in
@@ -85,10 +108,12 @@ element_tags bytes lists nest s kind at e w t inside is =
     let d = s.accepted.document in
     let r : HasRecords rs e = records_of_node nest first d.nests e w.0 in
     let c : ClosesIn bytes e = each_at (ClosesIn bytes) (all nest first) e (all_close bytes nest d) w.0 in
-    let mine : records_of e.what l e.start ≡ tag_records l e.start t ++ forest_records (suc l) (past_start e.start t) inside = ap (λ x. records_of x l e.start) is in
+    let mine : records_of e.what l e.start ≡ tag_records l e.start t ++ forest_records (suc l) (past_start e.start t) inside =
+    ap (λ x. records_of x l e.start) is in
     let closes : ElementCloses bytes t inside e.start e.stop = subst (λ x. Closes bytes x l e.start e.stop) is c in
     subst (λ n. TagsShown bytes rs t inside l e.start e.stop n e.past) w.2
-    (tags_shown bytes rs r.prefix r.rest t inside l e.start e.stop e.index e.past s.accepted.utf8 (r.split ∙ ap (λ ts. r.prefix ++ ts ++ r.rest) mine) r.begins (ap (λ ts. e.index + length ts) (sym mine) ∙ r.stops) closes)
+    (tags_shown bytes rs r.prefix r.rest t inside l e.start e.stop e.index e.past s.accepted.utf8
+    (r.split ∙ ap (λ ts. r.prefix ++ ts ++ r.rest) mine) r.begins (ap (λ ts. e.index + length ts) (sym mine) ∙ r.stops) closes)
 
 -- the second record of an attribute is that of its value
 pub record ValueShown (rs : List Record) (a : Attribute) (start stop place past : ℕ) : Type 0 where
@@ -97,7 +122,8 @@ pub record ValueShown (rs : List Record) (a : Attribute) (start stop place past 
   pub len : (record_at (place + 1) rs).len ≡ size (written_pieces a.value)
   pub stops : stop ≡ start + size (before_value a) + size (written_pieces a.value) + 1
 
-pub attribute_value : (bytes : List ℕ) (lists : Lists) (nest : Forest) → IsNestOf bytes lists nest → (kind : Kind) (at : ℕ) (e : Entry) → Identifies kind at e (nodes_of bytes nest) → (a : Attribute) → e.what ≡ Thing.attribute a →
+pub attribute_value : (bytes : List ℕ) (lists : Lists) (nest : Forest) → IsNestOf bytes lists nest → (kind : Kind) (at : ℕ) (e : Entry) →
+    Identifies kind at e (nodes_of bytes nest) → (a : Attribute) → e.what ≡ Thing.attribute a →
     ValueShown (records nest (first_place bytes)) a e.start e.stop at e.past
 attribute_value bytes lists nest s kind at e w a is =
     let first = first_place bytes in
@@ -109,7 +135,8 @@ attribute_value bytes lists nest s kind at e w a is =
     let mine = records_of (Thing.attribute a) l e.start in
     let split : rs ≡ r.prefix ++ mine ++ r.rest = r.split ∙ ap (λ x. r.prefix ++ records_of x l e.start ++ r.rest) is in
     let place : length r.prefix + 1 ≡ at + 1 = omega (arith, r.begins, w.2) in
-    let second : record_at (at + 1) rs ≡ record_at 1 mine = ap (λ n. record_at n rs) (sym place) ∙ in_place rs r.prefix mine r.rest 1 split (omega arith) in
+    let second : record_at (at + 1) rs ≡ record_at 1 mine = ap (λ n. record_at n rs) (sym place)
+    ∙ in_place rs r.prefix mine r.rest 1 split (omega arith) in
     record {
       two = omega (arith, w.2, r.stops, ap (λ x. length (records_of x l e.start)) is);
       offset = ap (λ r. r.offset) second;
@@ -119,34 +146,50 @@ attribute_value bytes lists nest s kind at e w a is =
 
 -- What the calls answer.
 
-inside_ends : (bytes : List ℕ) (lists : Lists) → length bytes < 2 ^ 30 → (node : Node) → (parts : Parts) → ArePartsAt lists.records node.at parts → (past : ℕ) → PastOf bytes lists node past → (nest : Forest) → IsNestOf bytes lists nest →
-    (e : Entry) → Identifies node.kind node.at e (nodes_of bytes nest) → (t : Tag) (inside : Forest) → e.what ≡ Thing.element t inside → begins_at bytes e.start (empty_tag t) ≡ false →
+inside_ends : (bytes : List ℕ) (lists : Lists) → length bytes < 2 ^ 30 → (node : Node) → (parts : Parts) → ArePartsAt lists.records node.at parts →
+    (past : ℕ) → PastOf bytes lists node past → (nest : Forest) → IsNestOf bytes lists nest →
+    (e : Entry) → Identifies node.kind node.at e (nodes_of bytes nest) → (t : Tag) (inside : Forest) → e.what ≡ Thing.element t inside →
+    begins_at bytes e.start (empty_tag t) ≡ false →
     IsEnding bytes (records nest (first_place bytes)) (parts.depth + 1) (past_forest (past_start e.start t) inside) (suc (past - 1))
 inside_ends bytes lists few node parts p past q nest s e w t inside is o =
     let rs = records nest (first_place bytes) in
     let shown : NodeShown bytes rs node.kind node.at e = node_shown bytes lists nest s node.kind node.at e w in
-    let tags : TagsShown bytes rs t inside (length e.holders) e.start e.stop node.at e.past = element_tags bytes lists nest s node.kind node.at e w t inside is in
+    let tags : TagsShown bytes rs t inside (length e.holders) e.start e.stop node.at e.past =
+    element_tags bytes lists nest s node.kind node.at e w t inside is in
     let depth : (record_at node.at rs).depth ≡ length e.holders = shown.span.depth (sym w.1 ∙ ap kind_of is) in
     let level : suc (length e.holders) ≡ parts.depth + 1 = omega (arith, depth, ap (λ r. r.depth) (p rs (nest_shown bytes lists nest few s))) in
     let count : e.past ≡ suc (past - 1) = omega (arith, q nest s e w, shown.some) in
     let stop = past_forest (past_start e.start t) inside in
-    subst (λ n. IsEnding bytes rs (parts.depth + 1) stop n) count (subst (λ l. IsEnding bytes rs l stop e.past) level (tags.inner (sym tags.is_closed ∙ o)))
+    subst (λ n. IsEnding bytes rs (parts.depth + 1) stop n) count
+    (subst (λ l. IsEnding bytes rs l stop e.past) level (tags.inner (sym tags.is_closed ∙ o)))
 
-pub inside_has : (bytes : List ℕ) (lists : Lists) → length bytes < 2 ^ 30 → (node : Node) → HasEndTag bytes lists node → (parts : Parts) → ArePartsAt lists.records node.at parts → (past : ℕ) → PastOf bytes lists node past → HasEnding bytes lists.records (parts.depth + 1) (past - 1)
+pub inside_has : (bytes : List ℕ) (lists : Lists) → length bytes < 2 ^ 30 → (node : Node) → HasEndTag bytes lists node → (parts : Parts) →
+    ArePartsAt lists.records node.at parts → (past : ℕ) → PastOf bytes lists node past → HasEnding bytes lists.records (parts.depth + 1) (past - 1)
 inside_has bytes lists few node h parts p past q =
-    record { rs = records h.nest (first_place bytes); shows = nest_shown bytes lists h.nest few h.shown; stop = _; is = inside_ends bytes lists few node parts p past q h.nest h.shown h.entry h.holds h.tag h.inside h.is h.open_tag }
+    record {
+      rs = records h.nest (first_place bytes);
+      shows = nest_shown bytes lists h.nest few h.shown;
+      stop = _;
+      is =
+          inside_ends bytes lists few node parts p past q h.nest h.shown h.entry h.holds h.tag h.inside h.is h.open_tag;
+    }
 
-pub inside_found : (bytes : List ℕ) (lists : Lists) → length bytes < 2 ^ 30 → (node : Node) → (parts : Parts) → ArePartsAt lists.records node.at parts → (past : ℕ) → PastOf bytes lists node past → (result : ℕ) →
-    ((rs : List Record) → Shows lists.records rs → (stop : ℕ) → IsEnding bytes rs (parts.depth + 1) stop (suc (past - 1)) → result ≡ stop) → (nest : Forest) → IsNestOf bytes lists nest →
-    (e : Entry) → Identifies node.kind node.at e (nodes_of bytes nest) → (t : Tag) (inside : Forest) → e.what ≡ Thing.element t inside → begins_at bytes e.start (empty_tag t) ≡ false → result ≡ past_forest (past_start e.start t) inside
+pub inside_found : (bytes : List ℕ) (lists : Lists) → length bytes < 2 ^ 30 → (node : Node) → (parts : Parts) →
+    ArePartsAt lists.records node.at parts → (past : ℕ) → PastOf bytes lists node past → (result : ℕ) →
+    ((rs : List Record) → Shows lists.records rs → (stop : ℕ) → IsEnding bytes rs (parts.depth + 1) stop (suc (past - 1)) → result ≡ stop) →
+    (nest : Forest) → IsNestOf bytes lists nest →
+    (e : Entry) → Identifies node.kind node.at e (nodes_of bytes nest) → (t : Tag) (inside : Forest) → e.what ≡ Thing.element t inside →
+    begins_at bytes e.start (empty_tag t) ≡ false → result ≡ past_forest (past_start e.start t) inside
 inside_found bytes lists few node parts p past q result r nest s e w t inside is o =
     r (records nest (first_place bytes)) (nest_shown bytes lists nest few s) _ (inside_ends bytes lists few node parts p past q nest s e w t inside is o)
 
-pub tag_has : (bytes : List ℕ) (lists : Lists) → length bytes < 2 ^ 30 → (node : Node) → IsNodeOf bytes lists node → node.kind ≡ kinds.Element → HasTagOf bytes lists.records node.at
+pub tag_has : (bytes : List ℕ) (lists : Lists) → length bytes < 2 ^ 30 → (node : Node) → IsNodeOf bytes lists node → node.kind ≡ kinds.Element →
+    HasTagOf bytes lists.records node.at
 tag_has bytes lists few node n k =
     let rs = records n.nest (first_place bytes) in
     let x = element_of n.entry.what (n.holds.1 ∙ k) in
-    let tags : TagsShown bytes rs x.0 x.1 (length n.entry.holders) n.entry.start n.entry.stop node.at n.entry.past = element_tags bytes lists n.nest n.shown node.kind node.at n.entry n.holds x.0 x.1 x.2 in
+    let tags : TagsShown bytes rs x.0 x.1 (length n.entry.holders) n.entry.start n.entry.stop node.at n.entry.past =
+    element_tags bytes lists n.nest n.shown node.kind node.at n.entry n.holds x.0 x.1 x.2 in
     record { rs = rs; shows = nest_shown bytes lists n.nest few n.shown; at = n.entry.start; closed = tags.closed; tag = x.0; is = tags.tag }
 
 abbrev pub Finds : List ℕ → Lists → ℕ → ItemShown → Type 0
@@ -160,38 +203,53 @@ tag_name : (closed : Bool) (at : ℕ) (t : Tag) → (item_shown at (tag_item clo
 tag_name true at t = refl
 tag_name false at t = refl
 
-pub empty_tags : (bytes : List ℕ) (lists : Lists) → length bytes < 2 ^ 30 → (node : Node) → (found : ItemShown) → Finds bytes lists node.at found → found.kind ≡ item_kinds.EmptyTag → (nest : Forest) → IsNestOf bytes lists nest →
+pub empty_tags : (bytes : List ℕ) (lists : Lists) → length bytes < 2 ^ 30 → (node : Node) → (found : ItemShown) → Finds bytes lists node.at found →
+    found.kind ≡ item_kinds.EmptyTag → (nest : Forest) → IsNestOf bytes lists nest →
     (e : Entry) → Identifies node.kind node.at e (nodes_of bytes nest) → (t : Tag) (inside : Forest) → e.what ≡ Thing.element t inside →
-    ◌≡◌ {A = Tags} (record { name = found.name; head_end = found.span.end; tail_start = found.span.end; empty = true }) (tags_by (begins_at bytes e.start (empty_tag t)) t inside e.start e.stop)
+    ◌≡◌ {A = Tags} (record { name = found.name; head_end = found.span.end; tail_start = found.span.end; empty = true })
+    (tags_by (begins_at bytes e.start (empty_tag t)) t inside e.start e.stop)
 empty_tags bytes lists few node found f k nest s e w t inside is =
     let rs = records nest (first_place bytes) in
-    let tags : TagsShown bytes rs t inside (length e.holders) e.start e.stop node.at e.past = element_tags bytes lists nest s node.kind node.at e w t inside is in
+    let tags : TagsShown bytes rs t inside (length e.holders) e.start e.stop node.at e.past =
+    element_tags bytes lists nest s node.kind node.at e w t inside is in
     let shown : found ≡ item_shown e.start (tag_item tags.closed t) = f rs (nest_shown bytes lists nest few s) e.start tags.closed t tags.tag in
     let closed : tags.closed ≡ true = empty_kind found.kind tags.closed k (ap (λ x. x.kind) shown ∙ tag_kind_of tags.closed e.start t) in
-    let end : found.span.end ≡ e.stop = ap (λ x. x.span.end) shown ∙ ap (λ c. (item_shown e.start (tag_item c t)).span.end) closed ∙ empty_spelled t e.start ∙ sym (tags.itself closed) in
-    same_tags _ _ _ _ _ _ _ _ (ap (λ x. x.name) shown ∙ tag_name tags.closed e.start t) end end refl ∙ ap (λ c. tags_by c t inside e.start e.stop) (sym (tags.is_closed ∙ closed))
+    let end : found.span.end ≡ e.stop = ap (λ x. x.span.end) shown ∙ ap (λ c. (item_shown e.start (tag_item c t)).span.end) closed
+    ∙ empty_spelled t e.start ∙ sym (tags.itself closed) in
+    same_tags _ _ _ _ _ _ _ _ (ap (λ x. x.name) shown ∙ tag_name tags.closed e.start t) end end refl
+    ∙ ap (λ c. tags_by c t inside e.start e.stop) (sym (tags.is_closed ∙ closed))
 
-pub two_tags : (bytes : List ℕ) (lists : Lists) → length bytes < 2 ^ 30 → (node : Node) → (found : ItemShown) → Finds bytes lists node.at found → (found.kind ≡ item_kinds.EmptyTag → ⊥) → (tail : ℕ) →
-    ((nest : Forest) → IsNestOf bytes lists nest → (e : Entry) → Identifies node.kind node.at e (nodes_of bytes nest) → (t : Tag) (inside : Forest) → e.what ≡ Thing.element t inside → begins_at bytes e.start (empty_tag t) ≡ false → tail ≡ past_forest (past_start e.start t) inside) →
-    (nest : Forest) → IsNestOf bytes lists nest → (e : Entry) → Identifies node.kind node.at e (nodes_of bytes nest) → (t : Tag) (inside : Forest) → e.what ≡ Thing.element t inside →
-    ◌≡◌ {A = Tags} (record { name = found.name; head_end = found.span.end; tail_start = tail; empty = false }) (tags_by (begins_at bytes e.start (empty_tag t)) t inside e.start e.stop)
+pub two_tags : (bytes : List ℕ) (lists : Lists) → length bytes < 2 ^ 30 → (node : Node) → (found : ItemShown) → Finds bytes lists node.at found →
+    (found.kind ≡ item_kinds.EmptyTag → ⊥) → (tail : ℕ) →
+    ((nest : Forest) → IsNestOf bytes lists nest → (e : Entry) → Identifies node.kind node.at e (nodes_of bytes nest) → (t : Tag) (inside : Forest) →
+    e.what ≡ Thing.element t inside → begins_at bytes e.start (empty_tag t) ≡ false → tail ≡ past_forest (past_start e.start t) inside) →
+    (nest : Forest) → IsNestOf bytes lists nest → (e : Entry) → Identifies node.kind node.at e (nodes_of bytes nest) → (t : Tag) (inside : Forest) →
+    e.what ≡ Thing.element t inside →
+    ◌≡◌ {A = Tags} (record { name = found.name; head_end = found.span.end; tail_start = tail; empty = false })
+    (tags_by (begins_at bytes e.start (empty_tag t)) t inside e.start e.stop)
 two_tags bytes lists few node found f k tail r nest s e w t inside is =
     let rs = records nest (first_place bytes) in
-    let tags : TagsShown bytes rs t inside (length e.holders) e.start e.stop node.at e.past = element_tags bytes lists nest s node.kind node.at e w t inside is in
+    let tags : TagsShown bytes rs t inside (length e.holders) e.start e.stop node.at e.past =
+    element_tags bytes lists nest s node.kind node.at e w t inside is in
     let shown : found ≡ item_shown e.start (tag_item tags.closed t) = f rs (nest_shown bytes lists nest few s) e.start tags.closed t tags.tag in
     let closed : tags.closed ≡ false = start_kind found.kind tags.closed k (ap (λ x. x.kind) shown ∙ tag_kind_of tags.closed e.start t) in
-    let end : found.span.end ≡ past_start e.start t = ap (λ x. x.span.end) shown ∙ ap (λ c. (item_shown e.start (tag_item c t)).span.end) closed ∙ start_spelled t e.start in
-    same_tags _ _ _ _ _ _ _ _ (ap (λ x. x.name) shown ∙ tag_name tags.closed e.start t) end (r nest s e w t inside is (tags.is_closed ∙ closed)) refl ∙ ap (λ c. tags_by c t inside e.start e.stop) (sym (tags.is_closed ∙ closed))
+    let end : found.span.end ≡ past_start e.start t = ap (λ x. x.span.end) shown ∙ ap (λ c. (item_shown e.start (tag_item c t)).span.end) closed
+    ∙ start_spelled t e.start in
+    same_tags _ _ _ _ _ _ _ _ (ap (λ x. x.name) shown ∙ tag_name tags.closed e.start t) end (r nest s e w t inside is (tags.is_closed ∙ closed)) refl
+    ∙ ap (λ c. tags_by c t inside e.start e.stop) (sym (tags.is_closed ∙ closed))
 
 -- an element whose first tag is no empty tag has an end tag
-pub has_end_tag : (bytes : List ℕ) (lists : Lists) → length bytes < 2 ^ 30 → (node : Node) → IsNodeOf bytes lists node → node.kind ≡ kinds.Element → (found : ItemShown) → Finds bytes lists node.at found → (found.kind ≡ item_kinds.EmptyTag → ⊥) →
+pub has_end_tag : (bytes : List ℕ) (lists : Lists) → length bytes < 2 ^ 30 → (node : Node) → IsNodeOf bytes lists node → node.kind ≡ kinds.Element →
+    (found : ItemShown) → Finds bytes lists node.at found → (found.kind ≡ item_kinds.EmptyTag → ⊥) →
     HasEndTag bytes lists node
 has_end_tag bytes lists few node n k found f o =
     let rs = records n.nest (first_place bytes) in
     let e = n.entry in
     let x = element_of e.what (n.holds.1 ∙ k) in
-    let tags : TagsShown bytes rs x.0 x.1 (length e.holders) e.start e.stop node.at e.past = element_tags bytes lists n.nest n.shown node.kind node.at e n.holds x.0 x.1 x.2 in
-    let shown : found ≡ item_shown e.start (tag_item tags.closed x.0) = f rs (nest_shown bytes lists n.nest few n.shown) e.start tags.closed x.0 tags.tag in
+    let tags : TagsShown bytes rs x.0 x.1 (length e.holders) e.start e.stop node.at e.past =
+    element_tags bytes lists n.nest n.shown node.kind node.at e n.holds x.0 x.1 x.2 in
+    let shown : found ≡ item_shown e.start (tag_item tags.closed x.0) =
+    f rs (nest_shown bytes lists n.nest few n.shown) e.start tags.closed x.0 tags.tag in
     let closed : tags.closed ≡ false = start_kind found.kind tags.closed o (ap (λ y. y.kind) shown ∙ tag_kind_of tags.closed e.start x.0) in
     record { nest = n.nest; shown = n.shown; entry = e; holds = n.holds; tag = x.0; inside = x.1; is = x.2; open_tag = tags.is_closed ∙ closed }
 
@@ -200,7 +258,8 @@ pub record ValueFound (a : Attribute) (start stop : ℕ) (parts : Parts) : Type 
   pub len : parts.length ≡ size (written_pieces a.value)
   pub stops : stop ≡ start + size (before_value a) + size (written_pieces a.value) + 1
 
-value_of : (bytes : List ℕ) (lists : Lists) → length bytes < 2 ^ 30 → (node : Node) → (past : ℕ) → PastOf bytes lists node past → (parts : Parts) → ArePartsAt lists.records (past - 1) parts → (nest : Forest) → IsNestOf bytes lists nest →
+value_of : (bytes : List ℕ) (lists : Lists) → length bytes < 2 ^ 30 → (node : Node) → (past : ℕ) → PastOf bytes lists node past → (parts : Parts) →
+    ArePartsAt lists.records (past - 1) parts → (nest : Forest) → IsNestOf bytes lists nest →
     (e : Entry) → Identifies node.kind node.at e (nodes_of bytes nest) → (a : Attribute) → e.what ≡ Thing.attribute a → ValueFound a e.start e.stop parts
 value_of bytes lists few node past q parts p nest s e w a is =
     let rs = records nest (first_place bytes) in
@@ -231,14 +290,19 @@ name_found bytes lists few node parts p nest s e w t inside is =
     record_shown bytes lists few node.at parts p nest s ∙ ap (λ n. record_at n rs) (sym w.2) ∙ head in
     same_span _ _ _ _ (ap (λ x. x.offset) same) (ap (λ x. x.offset + x.len) same)
 
-pub value_found : (bytes : List ℕ) (lists : Lists) → length bytes < 2 ^ 30 → (node : Node) → (past : ℕ) → PastOf bytes lists node past → (parts : Parts) → ArePartsAt lists.records (past - 1) parts → (nest : Forest) → IsNestOf bytes lists nest →
+pub value_found : (bytes : List ℕ) (lists : Lists) → length bytes < 2 ^ 30 → (node : Node) → (past : ℕ) → PastOf bytes lists node past →
+    (parts : Parts) → ArePartsAt lists.records (past - 1) parts → (nest : Forest) → IsNestOf bytes lists nest →
     (e : Entry) → Identifies node.kind node.at e (nodes_of bytes nest) → (a : Attribute) → e.what ≡ Thing.attribute a →
-    ◌≡◌ {A = Span} (record { start = parts.offset; end = parts.offset + parts.length }) (span_from (e.start + size (before_value a)) (written_pieces a.value))
+    ◌≡◌ {A = Span} (record { start = parts.offset; end = parts.offset + parts.length })
+    (span_from (e.start + size (before_value a)) (written_pieces a.value))
 value_found bytes lists few node past q parts p nest s e w a is =
-    let v : ValueFound a e.start e.stop parts = value_of bytes lists few node past q parts p nest s e w a is in same_span _ _ _ _ v.offset (omega (arith, v.offset, v.len))
+    let v : ValueFound a e.start e.stop parts = value_of bytes lists few node past q parts p nest s e w a is in
+    same_span _ _ _ _ v.offset (omega (arith, v.offset, v.len))
 
-pub quote_found : (bytes : List ℕ) (lists : Lists) → length bytes < 2 ^ 30 → (node : Node) → node.kind ≡ kinds.Attribute → (past : ℕ) → PastOf bytes lists node past → (parts : Parts) → ArePartsAt lists.records (past - 1) parts → (nest : Forest) → IsNestOf bytes lists nest →
+pub quote_found : (bytes : List ℕ) (lists : Lists) → length bytes < 2 ^ 30 → (node : Node) → node.kind ≡ kinds.Attribute → (past : ℕ) →
+    PastOf bytes lists node past → (parts : Parts) → ArePartsAt lists.records (past - 1) parts → (nest : Forest) → IsNestOf bytes lists nest →
     (e : Entry) → Identifies node.kind node.at e (nodes_of bytes nest) → parts.offset + parts.length + 1 ≡ e.stop
 quote_found bytes lists few node k past q parts p nest s e w =
     let x = attribute_of e.what (w.1 ∙ k) in
-    let v : ValueFound x.0 e.start e.stop parts = value_of bytes lists few node past q parts p nest s e w x.0 x.1 in omega (arith, v.offset, v.len, v.stops)
+    let v : ValueFound x.0 e.start e.stop parts = value_of bytes lists few node past q parts p nest s e w x.0 x.1 in
+    omega (arith, v.offset, v.len, v.stops)

@@ -29,12 +29,14 @@ some_there es at node None e h = absurd (none-some _ (sym h))
 some_there es at node (Some x) e h = let f = index_found at es x e in record { entry = x; contains = f.0; shown = cc; index = f.1 }
 
 -- a node that was found is wanted, or it is not
-pub wanted_at : (want : Thing → Bool) (es : List Entry) (at : ℕ) (node : Node) → Some node ≡ option_map node_of (at_index at es) → ((what : Thing) → kind_of what ≡ node.kind → want what ≡ true) → NodeAt want es at (Some node)
+pub wanted_at : (want : Thing → Bool) (es : List Entry) (at : ℕ) (node : Node) → Some node ≡ option_map node_of (at_index at es) →
+    ((what : Thing) → kind_of what ≡ node.kind → want what ≡ true) → NodeAt want es at (Some node)
 wanted_at want es at node h w =
     let n = some_there es at node (at_index at es) refl h in
     record { entry = n.entry; there = n.contains; shown = n.shown; index = n.index; wanted = w n.entry.what (sym (ap (λ k. k.kind) n.shown)) }
 
-pub unwanted_at : (bytes : List ℕ) (nest : Forest) (want : Thing → Bool) (at : ℕ) (node : Node) → Some node ≡ option_map node_of (at_index at (nodes_of bytes nest)) →
+pub unwanted_at : (bytes : List ℕ) (nest : Forest) (want : Thing → Bool) (at : ℕ) (node : Node) →
+    Some node ≡ option_map node_of (at_index at (nodes_of bytes nest)) →
     ((what : Thing) → kind_of what ≡ node.kind → want what ≡ true → ⊥) → NodeAt want (nodes_of bytes nest) at None
 unwanted_at bytes nest want at node h w = λ x c t p.
     let es = nodes_of bytes nest in

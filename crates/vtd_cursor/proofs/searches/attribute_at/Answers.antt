@@ -9,10 +9,12 @@ returns-in_default-clause-at g c = λ nest s. none_at is_attribute_thing _ c.arg
 
 pub returns-in-Attribute-clause-at : goal.returns-in-Attribute-clause-at
 returns-in-Attribute-clause-at g c = λ nest s.
-    wanted_at is_attribute_thing _ c.args.at c.in-Some.node (sym c.in-Some.is ∙ c.node_from.ensures.node nest s) (attribute_wanted c.in-Some.node.kind c.in-Attribute.is)
+    wanted_at is_attribute_thing _ c.args.at c.in-Some.node (sym c.in-Some.is ∙ c.node_from.ensures.node nest s)
+    (attribute_wanted c.in-Some.node.kind c.in-Attribute.is)
 
 pub returns-in_default-kind : goal.returns-in_default-kind
 returns-in_default-kind g c = record {
-  at = λ nest s. unwanted_at _ nest is_attribute_thing c.args.at c.in-Some.node (sym c.in-Some.is ∙ c.node_from.ensures.node nest s) (attribute_unwanted c.in-Some.node.kind c.in_default-kind.not-Attribute);
+  at = λ nest s. unwanted_at _ nest is_attribute_thing c.args.at c.in-Some.node (sym c.in-Some.is ∙ c.node_from.ensures.node nest s)
+      (attribute_unwanted c.in-Some.node.kind c.in_default-kind.not-Attribute);
   node = tt;
 }

@@ -9,8 +9,10 @@ returns-in_default-clause-at g c = λ nest s. none_at is_child_thing _ c.args.at
 
 pub returns-then-is_child-clause-at : goal.returns-then-is_child-clause-at
 returns-then-is_child-clause-at g c = λ nest s.
-    wanted_at is_child_thing _ c.args.at c.in-Some.node (sym c.in-Some.is ∙ c.node_from.ensures.node nest s) (child_wanted c.in-Some.node.kind (sym c.is_child.ensures ∙ c.if-is_child.true))
+    wanted_at is_child_thing _ c.args.at c.in-Some.node (sym c.in-Some.is ∙ c.node_from.ensures.node nest s)
+    (child_wanted c.in-Some.node.kind (sym c.is_child.ensures ∙ c.if-is_child.true))
 
 pub returns-else-is_child-clause-at : goal.returns-else-is_child-clause-at
 returns-else-is_child-clause-at g c = λ nest s.
-    unwanted_at _ nest is_child_thing c.args.at c.in-Some.node (sym c.in-Some.is ∙ c.node_from.ensures.node nest s) (child_unwanted c.in-Some.node.kind (sym c.is_child.ensures ∙ c.if-is_child.false))
+    unwanted_at _ nest is_child_thing c.args.at c.in-Some.node (sym c.in-Some.is ∙ c.node_from.ensures.node nest s)
+    (child_unwanted c.in-Some.node.kind (sym c.is_child.ensures ∙ c.if-is_child.false))
