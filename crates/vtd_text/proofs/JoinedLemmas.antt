@@ -52,16 +52,6 @@ record_step bytes words rs r rule text at past content l m s e f h =
     let left : IsLeft bytes rs rule text (suc at) past content = record { head = j.head; tail = j.tail; whole = j.whole; first = f j.head j.first; rest = j.rest } in
     subst (λ (k : ℕ). IsLeft bytes rs rule text k past content) next left
 
--- what has a rule is a text or a CDATA section
-pub text_by_rule : (n : ℕ) (rule : Rule) → rule_of n ≡ Some rule → is_text_token n ≡ true
-text_by_rule n rule e = elim (cases_Bool (n == 5)) [
-  | inl t ↦ rw t refl
-  | inr f ↦ elim (cases_Bool (n == 11)) [
-    | inl t ↦ rw (f, t) refl
-    | inr g ↦ absurd (let no : ◌≡◌ {A = Option Rule} None (Some rule) = rw (f, g) at e in cc)
-  ]
-]
-
 text_prop : (b : Bool) (bytes : List ℕ) (r : Record) → IsProp (b ≡ true → IsText bytes r)
 text_prop b bytes r = Prim.hlevel props
 
