@@ -9,8 +9,8 @@ use Rattle.vtd_words.specs.Table.{Shows}
 use Rattle.vtd_text.specs.declared.token.Rule.{Rule}
 use Rattle.vtd_text.specs.declared.token.Rule.TheVariants.{Text}
 use Rattle.vtd_text.specs.Tokens.{HasContent}
-use Rattle.vtd_text.specs.Joined.{Joined, IsText, IsLeft, LeavesTail, LeavesAfter, IsAtEnd, slice_of, left_of}
-use Rattle.vtd_text.specs.Resolved.{IsResolved, IsRecord, IsRow, HasLeft}
+use Rattle.vtd_text.specs.Joined.{Joined, IsLeft, LeavesTail, LeavesAfter, IsAtEnd, slice_of, left_of}
+use Rattle.vtd_text.specs.Resolved.{IsResolved, IsRow, HasLeft}
 use Rattle.vtd_text.proofs.PieceLemmas.{nothing_left}
 use Rattle.vtd_text.proofs.Function.{left_is}
 

@@ -1,5 +1,5 @@
 -- What is left of a row of records, step by step.
-use Rattle.std.proofs.Common.{◌≡◌, ℕ, Bool, true, inl, inr, ◌==◌, zero, suc, ◌+◌, ◌-◌, ◌<◌, ◌≤◌, List, [], ◌∷◌, ◌++◌, length, take, drop, Option, Some, None, refl, sym, ap, subst, ◌∙◌, arith, append_assoc}
+use Rattle.std.proofs.Common.{◌≡◌, ℕ, Bool, true, zero, suc, ◌+◌, ◌-◌, ◌<◌, ◌≤◌, List, [], ◌∷◌, ◌++◌, length, take, drop, Option, Some, None, refl, sym, ap, subst, ◌∙◌, arith, append_assoc}
 use Rattle.std.specs.Prelude.{MatchOption}
 use Rattle.std.specs.Str.{chars}
 use Rattle.std.proofs.Math.Logic.{∥∥₁_elim, ∥∥₁_map}
@@ -7,7 +7,6 @@ use Rattle.std.proofs.Props.{props}
 use Rattle.vtd_words.specs.Table.{Shows}
 use Rattle.vtd_words.proofs.Shown.{shown_length}
 use Rattle.xml_model.specs.Records.{Record}
-use Rattle.std.proofs.lemmas.Bool.{cases_Bool}
 use Rattle.xml_model.specs.Scan.{record_at, is_text_token}
 use Rattle.vtd_text.specs.declared.token.Rule.{Rule}
 use Rattle.vtd_text.specs.Tokens.{HasContent, BeginsWith, EndsHere, LeavesRest}
