@@ -23,6 +23,7 @@ use Rattle.vtd_namespaces.specs.NameRecords.{IsAttributeRecord}
 use Rattle.vtd_namespaces.specs.Scope.{HolderIn}
 use Rattle.vtd_namespaces.specs.Reach.{IsScope, same_uri}
 use Rattle.vtd_namespaces.specs.Offences.{is_twin, seen_after, IsFine}
+use Rattle.vtd_namespaces.proofs.DeclarationLemmas.{token_three, token_two}
 use Rattle.vtd_namespaces.proofs.QNameLemmas.{unprefixed}
 use Rattle.vtd_namespaces.proofs.ScopeLemmas.{uri_by}
 use Rattle.vtd_namespaces.proofs.OffenceLemmas.{OtherName, other_name, scope_attribute, same_expanded_is}
@@ -72,14 +73,6 @@ attribute_by : (tags : List Tag) (seen : List Expanded) (a : Attribute) (q d b :
 attribute_by tags seen a q d b e f g =
     ap₂ (λ x y. not x || cond y (declaration_offends a.name (value_content a.value)) (not (is_bound (prefix_of a.name) tags) || list_any (same_expanded (expanded_of tags a)) seen)) e f
     ∙ ap (λ z. not q || cond d (declaration_offends a.name (value_content a.value)) (not z || list_any (same_expanded (expanded_of tags a)) seen)) g
-
-token_three : (b : Bool) → ◌≡◌ {A = ℕ} (cond b 3 2) 3 → b ≡ true
-token_three true h = refl
-token_three false h = absurd (omega (arith, h))
-
-token_not_three : (b : Bool) → (◌≡◌ {A = ℕ} (cond b 3 2) 3 → ⊥) → b ≡ false
-token_not_three true h = absurd (h refl)
-token_not_three false h = refl
 
 -- no earlier attribute has the expanded name of one without a prefix
 
@@ -179,17 +172,17 @@ pub by_no_prefix : (bytes : List ℕ) (p : Parts) (tags : List Tag) (done : List
     false ≡ attribute_offends tags (seen_after tags [] done) a
 by_no_prefix bytes p tags done a o q t z f n =
     let u = unprefixed a.name (sym o.prefix ∙ z) in
-    let d : declares a.name ≡ false = token_not_three (declares a.name) (λ k. t (o.token ∙ k)) in
+    let d : declares a.name ≡ false = token_two (declares a.name) (λ k. t (o.token ∙ k)) in
     let b : is_bound (prefix_of a.name) tags ≡ true = ap (λ y. is_bound y tags) u.none in
     sym (attribute_by tags (seen_after tags [] done) a true false true q d b ∙ twins_seen tags a done ∙ no_twins tags a done u.none (u.local q) f n)
 
 pub by_unbound : (bytes : List ℕ) (p : Parts) (tags : List Tag) (seen : List Expanded) (a : Attribute) → OtherName bytes p a → is_qname a.name ≡ true → (p.token ≡ 3 → ⊥) → is_bound (prefix_of a.name) tags ≡ false → true ≡ attribute_offends tags seen a
-by_unbound bytes p tags seen a o q t b = sym (attribute_by tags seen a true false false q (token_not_three (declares a.name) (λ k. t (o.token ∙ k))) b)
+by_unbound bytes p tags seen a o q t b = sym (attribute_by tags seen a true false false q (token_two (declares a.name) (λ k. t (o.token ∙ k))) b)
 
 pub by_twins : (bytes : List ℕ) (p : Parts) (tags : List Tag) (done : List Attribute) (a : Attribute) (r : Bool) → OtherName bytes p a → is_qname a.name ≡ true → (p.token ≡ 3 → ⊥) → is_bound (prefix_of a.name) tags ≡ true → r ≡ list_any (is_twin tags a) done →
     r ≡ attribute_offends tags (seen_after tags [] done) a
 by_twins bytes p tags done a r o q t b e =
-    e ∙ sym (twins_seen tags a done) ∙ sym (attribute_by tags (seen_after tags [] done) a true false true q (token_not_three (declares a.name) (λ k. t (o.token ∙ k))) b)
+    e ∙ sym (twins_seen tags a done) ∙ sym (attribute_by tags (seen_after tags [] done) a true false true q (token_two (declares a.name) (λ k. t (o.token ∙ k))) b)
 
 pub declaration_at : (bytes : List ℕ) (lists : Lists) → IsTable bytes lists → (p : Parts) (n : ℕ) → ((rs : List Record) → Shows lists.records rs → record_of p ≡ record_at n rs) → p.token ≡ 3 → IsDeclaration bytes lists n
 declaration_at bytes lists t p n here e =

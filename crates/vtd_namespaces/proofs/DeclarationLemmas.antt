@@ -34,7 +34,7 @@ pub empty_encoded : (p : List ℕ) → length (encode_utf8_all p) ≡ 0 → p �
 empty_encoded [] h = refl
 empty_encoded (c ∷ p) h = absurd (omega (arith, length-append (encode c) (encode_utf8_all p), length-encode c, (len_utf8_bounds c).0))
 
-default_encoded : encode_utf8_all (codes "xmlns") ≡ codes "xmlns"
+pub default_encoded : encode_utf8_all (codes "xmlns") ≡ codes "xmlns"
 unfolding encode
 default_encoded = refl
 
@@ -96,7 +96,7 @@ declares_own (c ∷ p) = refl
 pub no_declaration : (cs p : List ℕ) → declares cs ≡ false → bytes_eq cs (declaring p) ≡ false
 no_declaration cs p h = false_from_ne_true _ (λ t. false≢true (sym h ∙ ap declares ((bytes_eq-Decides cs (declaring p)).0 t) ∙ declares_own p))
 
-token_three : (b : Bool) → ◌≡◌ {A = ℕ} (cond b 3 2) 3 → b ≡ true
+pub token_three : (b : Bool) → ◌≡◌ {A = ℕ} (cond b 3 2) 3 → b ≡ true
 token_three true h = refl
 token_three false h = absurd (omega (arith, h))
 

@@ -75,7 +75,7 @@ none_more w n es h k = each_both (λ e. e.index < n → node_faults w e ≡ []) 
 
 -- names that repeat an earlier one
 
-element_token : (n : ℕ) → kind_of_token n ≡ Some kinds.Element → n ≡ 0
+pub element_token : (n : ℕ) → kind_of_token n ≡ Some kinds.Element → n ≡ 0
 element_token n h = grind arith
 
 untagged : (at : ℕ) (tags : List Tag) (what : Thing) (token : ℕ) → (token ≡ 0 → ⊥) → kind_of_token token ≡ Some (kind_of what) → thing_faults repeats at tags what ≡ []
@@ -110,7 +110,7 @@ tag_known bytes rs words n index r s known at tags (Thing.text xs) h k w = absur
 tag_known bytes rs words n index r s known at tags (Thing.comment cs) h k w = absurd (cc)
 tag_known bytes rs words n index r s known at tags (Thing.instruction i) h k w = absurd (cc)
 
-same_kind : (j k : Kind) → Some j ≡ Some k → j ≡ k
+pub same_kind : (j k : Kind) → Some j ≡ Some k → j ≡ k
 same_kind j k h = cc
 
 -- a tag none of whose names repeats an earlier one

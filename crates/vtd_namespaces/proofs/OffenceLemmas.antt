@@ -23,7 +23,7 @@ use Rattle.vtd_text.specs.Joined.{slice_of}
 use Rattle.vtd_namespaces.specs.NameRecords.{IsAttributeRecord, AreAttributeRecords}
 use Rattle.vtd_namespaces.specs.Reach.{IsScope, same_uri}
 use Rattle.vtd_namespaces.proofs.NameRecordLemmas.{document_holds}
-use Rattle.vtd_namespaces.proofs.DeclarationLemmas.{chain_attributes}
+use Rattle.vtd_namespaces.proofs.DeclarationLemmas.{default_encoded, chain_attributes}
 use Rattle.vtd_namespaces.specs.Offences.{is_twin, IsWritten}
 use Rattle.vtd_namespaces.proofs.RepeatLemmas.{eq_encoded}
 use Rattle.vtd_namespaces.proofs.QNameLemmas.{Prefixed, prefixed}
@@ -43,10 +43,6 @@ reserved_first r v u e k t = t ∙ sym (ap (λ b. b || bytes_eq u xmlns_uri) (sy
 
 pub reserved_second : (r s : Bool) (v w u : List ℕ) → r ≡ bytes_eq v (chars (codes "http://www.w3.org/XML/1998/namespace")) → v ≡ u → r ≡ false → s ≡ bytes_eq w (chars (codes "http://www.w3.org/2000/xmlns/")) → w ≡ u → s ≡ is_reserved u
 reserved_second r s v w u e k f d l = d ∙ ap₂ bytes_eq l xmlns_chars ∙ sym (ap (λ b. b || bytes_eq u xmlns_uri) (sym (e ∙ ap₂ bytes_eq k xml_chars) ∙ f))
-
-default_encoded : encode_utf8_all (codes "xmlns") ≡ codes "xmlns"
-unfolding encode
-default_encoded = refl
 
 declares_xml_encoded : encode_utf8_all (codes "xmlns:xml") ≡ codes "xmlns:xml"
 unfolding encode
@@ -122,10 +118,6 @@ same_expanded_is x y = by x.uri y.uri x.name y.name
     by (Some u) None n m = refl
     by (Some u) (Some v) n m = refl
 
-token_of_name : (b : Bool) → (◌≡◌ {A = ℕ} (cond b 3 2) 2 → ⊥) → b ≡ true
-token_of_name true h = refl
-token_of_name false h = absurd (h refl)
-
 name_of_token : (b : Bool) → ◌≡◌ {A = ℕ} (cond b 3 2) 2 → b ≡ false
 name_of_token true h = absurd (omega (arith, h))
 name_of_token false h = refl
@@ -152,9 +144,6 @@ other_name bytes rs at place p b e r = record {
   prefix = ap (λ x. x.prefix) e ∙ r.name.prefix;
   named = r.name.named;
 }
-
-pub twin_declares : (bytes : List ℕ) (p : Parts) (tags : List Tag) (a b : Attribute) → OtherName bytes p b → (p.token ≡ 2 → ⊥) → false ≡ is_twin tags a b
-twin_declares bytes p tags a b o h = sym (ap (λ x. not x && same_expanded (expanded_of tags a) (expanded_of tags b)) (token_of_name (declares b.name) (λ k. h (o.token ∙ k))))
 
 twin_is : (bytes : List ℕ) (p : Parts) (tags : List Tag) (a b : Attribute) → OtherName bytes p b → p.token ≡ 2 → is_twin tags a b ≡ (same_uri (attribute_uri (prefix_of a.name) tags) (attribute_uri (prefix_of b.name) tags) && bytes_eq (local_of a.name) (local_of b.name))
 twin_is bytes p tags a b o t =

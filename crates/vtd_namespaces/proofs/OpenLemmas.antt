@@ -29,9 +29,7 @@ use Rattle.vtd_words.proofs.Shown.{shown_length}
 use Rattle.vtd_text.proofs.FingerprintLemmas.{zeros}
 use Rattle.vtd_namespaces.specs.OpenTags.{no_tags, open_before}
 use Rattle.vtd_namespaces.specs.Scope.{Chain, Opened}
-
-element_token : (n : ℕ) → kind_of_token n ≡ Some kinds.Element → n ≡ 0
-element_token n h = grind arith
+use Rattle.vtd_namespaces.proofs.NodeLemmas.{element_token}
 
 -- of a holder: its tag's record, and what holds it
 pub record HolderHolds (whole : List Record) (x : Holder) (xs : List Holder) : Type 0 where
@@ -52,7 +50,7 @@ last_low (r ∷ rs) l n d high h k = last_low rs l (suc n) (tag_or l n d r) high
     by true = omega arith
     by false = h
 
-shown_depth : (r : Record) → r.token ≡ 0 → level_of r ≡ r.depth
+pub shown_depth : (r : Record) → r.token ≡ 0 → level_of r ≡ r.depth
 shown_depth r t = ap (λ b. cond b r.depth (cond (r.depth == 255) 0 (suc r.depth))) (eq-eqb r.token 0 t)
 
 first_token : (nest : Forest) (first n : ℕ) → (record_at n (records nest first)).token ≡ 0 → 0 < n

@@ -121,14 +121,6 @@ any_here bytes rs first x y m n l e h =
     let k : suc m + (n - suc m) ≡ n = omega arith in
     sym (ap (λ j. list_any (bytes_eq x) (names_before bytes rs first j)) (sym k) ∙ any_more bytes rs first x (suc m) (n - suc m) (or_first _ _ same))
 
-pub any_not_here : (bytes : List ℕ) (rs : List Record) (first : ℕ) (x y : List ℕ) (m : ℕ) → y ≡ slice_of bytes (record_at (first + 2 * m) rs) → bytes_eq y x ≡ false → list_any (bytes_eq x) (names_before bytes rs first m) ≡ false →
-    list_any (bytes_eq x) (names_before bytes rs first (m + 1)) ≡ false
-any_not_here bytes rs first x y m e h k =
-    let s : m + 1 ≡ suc m = omega arith in
-    let other : bytes_eq x (slice_of bytes (record_at (first + 2 * m) rs)) ≡ false =
-    false_from_ne_true _ (λ t. false≢true (sym h ∙ (bytes_eq-Decides y x).1 (e ∙ sym ((bytes_eq-Decides x (slice_of bytes (record_at (first + 2 * m) rs))).0 t)))) in
-    ap (λ j. list_any (bytes_eq x) (names_before bytes rs first j)) s ∙ ap₂ (λ a b. a || b) other k
-
 -- the filter: each name before has its slot taken
 pub not_taken : (slots : List ℕ) (x : List ℕ) (names : List (List ℕ)) → ((y : List ℕ) → list_any (bytes_eq y) names ≡ true → is_taken slots y ≡ true) → is_taken slots x ≡ false → list_any (bytes_eq x) names ≡ false
 not_taken slots x names h k = false_from_ne_true _ (λ t. false≢true (sym k ∙ h x t))

@@ -32,16 +32,13 @@ use Rattle.vtd_namespaces.specs.Faults.{first_of, node_faults, thing_faults, Off
 use Rattle.vtd_words.proofs.Shown.{shown_length}
 use Rattle.vtd_namespaces.proofs.NameRecordLemmas.{document_holds}
 use Rattle.vtd_namespaces.proofs.ChainLemmas.{document_chain}
-use Rattle.vtd_namespaces.proofs.OpenLemmas.{opened_at}
+use Rattle.vtd_namespaces.proofs.DeclarationLemmas.{default_encoded}
+use Rattle.vtd_namespaces.proofs.OpenLemmas.{opened_at, shown_depth}
 use Rattle.vtd_namespaces.proofs.FaultLemmas.{NoneBefore, faults_same, first_found, none_listed}
-use Rattle.vtd_namespaces.proofs.NodeLemmas.{node_there, none_more}
+use Rattle.vtd_namespaces.proofs.NodeLemmas.{element_token, node_there, none_more, same_kind}
 use Rattle.vtd_namespaces.proofs.RepeatLemmas.{eq_encoded}
 
 -- the tag's own name
-
-xmlns_encoded : encode_utf8_all (codes "xmlns") ≡ codes "xmlns"
-unfolding encode
-xmlns_encoded = refl
 
 -- what is known of a name that is read from a record
 pub record TagName (bytes : List ℕ) (p : Parts) (name : List ℕ) : Type 0 where
@@ -57,7 +54,7 @@ tag_not_qualified tags name q = sym (ap (λ x. not x || bytes_eq (prefix_of name
 
 pub tag_xmlns : (tags : List Tag) (prefix name : List ℕ) → prefix ≡ encode_utf8_all (prefix_of name) → bytes_eq prefix (codes "xmlns") ≡ true → true ≡ tag_offends tags name
 tag_xmlns tags prefix name e t =
-    let same : bytes_eq (prefix_of name) (codes "xmlns") ≡ true = sym (ap₂ bytes_eq e (sym xmlns_encoded) ∙ eq_encoded (prefix_of name) (codes "xmlns")) ∙ t in
+    let same : bytes_eq (prefix_of name) (codes "xmlns") ≡ true = sym (ap₂ bytes_eq e (sym default_encoded) ∙ eq_encoded (prefix_of name) (codes "xmlns")) ∙ t in
     sym (ap (λ x. not (is_qname name) || x || not (is_bound (prefix_of name) tags)) same ∙ by (not (is_qname name)))
   where
     by : (a : Bool) → (a || true || not (is_bound (prefix_of name) tags)) ≡ true
@@ -66,16 +63,13 @@ tag_xmlns tags prefix name e t =
 
 pub tag_bound : (tags : List Tag) (prefix name : List ℕ) (r : Bool) → prefix ≡ encode_utf8_all (prefix_of name) → is_qname name ≡ true → bytes_eq prefix (codes "xmlns") ≡ false → r ≡ is_bound (prefix_of name) tags → not r ≡ tag_offends tags name
 tag_bound tags prefix name r e q t b =
-    let other : bytes_eq (prefix_of name) (codes "xmlns") ≡ false = sym (ap₂ bytes_eq e (sym xmlns_encoded) ∙ eq_encoded (prefix_of name) (codes "xmlns")) ∙ t in
+    let other : bytes_eq (prefix_of name) (codes "xmlns") ≡ false = sym (ap₂ bytes_eq e (sym default_encoded) ∙ eq_encoded (prefix_of name) (codes "xmlns")) ∙ t in
     ap not b ∙ sym (ap₂ (λ x y. not x || y || not (is_bound (prefix_of name) tags)) q other)
 
 -- and its attributes
 
 pub tag_first : (tags : List Tag) (t : Tag) (at place : ℕ) → tag_offends (t ∷ tags) t.name ≡ true → place ≡ at + 1 → Some place ≡ first_of (offending_tag at tags t)
 tag_first tags t at place h e = ap (λ x. Some x) e ∙ sym (ap (λ b. first_of (cond b ((at + 1) ∷ []) [] ++ offending_attributes (t ∷ tags) (attributes_place at t) [] t.attributes)) h)
-
-pub tag_then : (tags : List Tag) (t : Tag) (at : ℕ) (r : Option ℕ) → tag_offends (t ∷ tags) t.name ≡ false → r ≡ first_of (offending_attributes (t ∷ tags) (attributes_place at t) [] t.attributes) → r ≡ first_of (offending_tag at tags t)
-tag_then tags t at r h e = e ∙ sym (ap (λ b. first_of (cond b ((at + 1) ∷ []) [] ++ offending_attributes (t ∷ tags) (attributes_place at t) [] t.attributes)) h)
 
 -- nodes without repeated names
 
@@ -126,12 +120,6 @@ pub record TagKnown (bytes : List ℕ) (lists : Lists) (nest : Forest) (open_tag
   pub scope : IsScope bytes lists open_tags depth nest (record { tag = tag; index = at } ∷ e.holders)
   pub holds : IsTagRecord bytes (records nest (first_place bytes)) at e.start tag
   pub unrepeated : repeated (attributes_place e.start tag) [] tag.attributes ≡ []
-
-shown_depth : (r : Record) → r.token ≡ 0 → level_of r ≡ r.depth
-shown_depth r t = ap (λ b. cond b r.depth (cond (r.depth == 255) 0 (suc r.depth))) (Rattle.std.proofs.lemmas.Bool.eq-eqb r.token 0 t)
-
-same_kind : (j k : Kind) → Some j ≡ Some k → j ≡ k
-same_kind j k h = cc
 
 pub tag_known : (bytes : List ℕ) (lists : Lists) (nest : Forest) → length bytes < 2 ^ 30 → IsNestOf bytes lists nest → (open_tags : List ℕ) (at depth : ℕ) → open_tags ≡ open_before (at + 1) (records nest (first_place bytes)) → (record_at at (records nest (first_place bytes))).token ≡ 0 →
     (record_at at (records nest (first_place bytes))).depth ≡ depth → depth < 256 → (e : Entry) → e.index ≡ at → Known bytes nest e → TagKnown bytes lists nest open_tags depth at e
@@ -216,9 +204,6 @@ instruction_offence bytes lists nest few s at p r here t known =
 
 neither : (at : ℕ) (tags : List Tag) (what : Thing) (token : ℕ) → (token ≡ 0 → ⊥) → (token ≡ 7 → ⊥) → kind_of_token token ≡ Some (kind_of what) → None ≡ first_of (thing_faults offences at tags what)
 neither at tags (Thing.element u inside) token t i k = absurd (t (element_token token k))
-  where
-    element_token : (n : ℕ) → kind_of_token n ≡ Some kinds.Element → n ≡ 0
-    element_token n h = grind arith
 neither at tags (Thing.instruction j) token t i k = absurd (i (instruction_token token k))
   where
     instruction_token : (n : ℕ) → kind_of_token n ≡ Some kinds.Instruction → n ≡ 7

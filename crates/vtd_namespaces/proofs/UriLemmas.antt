@@ -168,14 +168,6 @@ element_expanded k e = subst HasExpandedName (sym e) tt
 pub attribute_expanded : (k : Kind) → k ≡ kinds.Attribute → HasExpandedName k
 attribute_expanded k e = subst HasExpandedName (sym e) tt
 
-pub expanded_named : (k : Kind) → HasExpandedName k → HasName k
-expanded_named kinds.Element h = tt
-expanded_named kinds.Attribute h = tt
-expanded_named kinds.Root h = absurd h
-expanded_named kinds.Text h = absurd h
-expanded_named kinds.Comment h = absurd h
-expanded_named kinds.Instruction h = absurd h
-
 -- name tests
 
 expanded_by : (what : Thing) (tags : List Tag) → HasExpandedName (kind_of what) → expanded_name what tags ≡ Some (record { uri = uri_in (expanded_name what tags); name = node_local what })

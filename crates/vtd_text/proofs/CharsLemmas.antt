@@ -9,8 +9,8 @@ use Rattle.vtd_words.specs.Table.{Shows}
 use Rattle.vtd_text.specs.declared.token.Rule.{Rule}
 use Rattle.vtd_text.specs.declared.token.Rule.TheVariants.{Text}
 use Rattle.vtd_text.specs.Tokens.{HasContent}
-use Rattle.vtd_text.specs.Joined.{Joined, IsText, IsLeft, LeavesTail, LeavesAfter, IsAtEnd, slice_of, left_of}
-use Rattle.vtd_text.specs.Resolved.{IsResolved, IsRecord, IsRow, HasLeft}
+use Rattle.vtd_text.specs.Joined.{Joined, IsLeft, LeavesTail, LeavesAfter, IsAtEnd, slice_of, left_of}
+use Rattle.vtd_text.specs.Resolved.{IsResolved, IsRow, HasLeft}
 use Rattle.vtd_text.proofs.PieceLemmas.{nothing_left}
 use Rattle.vtd_text.proofs.Function.{left_is}
 
@@ -32,21 +32,10 @@ whole_record bytes rs rule r text content e k = record {
   rest = refl;
 }
 
-pub record_left : (bytes words : List ℕ) (rule : Rule) (at : ℕ) (r : Record) (text : List ℕ) → text ≡ slice_of bytes r → ((rs : List Record) → Shows words rs → r ≡ record_at at rs) → IsRecord bytes words rule at → HasLeft bytes words rule text 0 0
-record_left bytes words rule at r text e f k = record {
-  rs = k.rs;
-  shown = k.shown;
-  content = k.content;
-  left = whole_record bytes k.rs rule r text k.content e (subst (λ (x : Record). IsResolved bytes rule x k.content) (sym (f k.rs k.shown)) k.resolved);
-}
-
 pub record_view : (bytes words : List ℕ) (rs : List Record) (rule : Rule) (at : ℕ) (r : Record) (text content : List ℕ) → Shows words rs → text ≡ slice_of bytes r → r ≡ record_at at rs → IsResolved bytes rule (record_at at rs) content →
     left_of bytes words rule text 0 0 ≡ content
 record_view bytes words rs rule at r text content s e f k =
     left_is bytes words rs rule text 0 0 content s (whole_record bytes rs rule r text content e (subst (λ (x : Record). IsResolved bytes rule x content) (sym f) k))
-
-pub record_text : (bytes words : List ℕ) (rule : Rule) (at : ℕ) (r : Record) → ((rs : List Record) → Shows words rs → r ≡ record_at at rs) → IsRecord bytes words rule at → IsText bytes r
-record_text bytes words rule at r f k = subst (IsText bytes) (sym (f k.rs k.shown)) k.resolved.text
 
 -- ---- a call of next
 

@@ -104,10 +104,6 @@ content_is rule cs content h = ap (λ (l : List ℕ). content_by rule (pieces_of
 
 -- ---- a row of records
 
-given_is : (o : Option Rule) (slice content : List ℕ) → Gives o slice content → resolved_by o slice ≡ content
-given_is None slice content h = sym h
-given_is (Some rule) slice content h = content_is rule (chars slice) content h
-
 -- the fields of a word that the content takes
 record Fields (r : Record) (w : ℕ) : Type 0 where
   pub token : w / 2 ^ 60 ≡ r.token

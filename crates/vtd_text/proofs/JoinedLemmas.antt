@@ -1,5 +1,5 @@
 -- What is left of a row of records, step by step.
-use Rattle.std.proofs.Common.{◌≡◌, ℕ, Bool, true, inl, inr, ◌==◌, zero, suc, ◌+◌, ◌-◌, ◌<◌, ◌≤◌, List, [], ◌∷◌, ◌++◌, length, take, drop, Option, Some, None, refl, sym, ap, subst, ◌∙◌, arith, append_assoc}
+use Rattle.std.proofs.Common.{◌≡◌, ℕ, Bool, true, zero, suc, ◌+◌, ◌-◌, ◌<◌, ◌≤◌, List, [], ◌∷◌, ◌++◌, length, take, drop, Option, Some, None, refl, sym, ap, subst, ◌∙◌, arith, append_assoc}
 use Rattle.std.specs.Prelude.{MatchOption}
 use Rattle.std.specs.Str.{chars}
 use Rattle.std.proofs.Math.Logic.{∥∥₁_elim, ∥∥₁_map}
@@ -7,7 +7,6 @@ use Rattle.std.proofs.Props.{props}
 use Rattle.vtd_words.specs.Table.{Shows}
 use Rattle.vtd_words.proofs.Shown.{shown_length}
 use Rattle.xml_model.specs.Records.{Record}
-use Rattle.std.proofs.lemmas.Bool.{cases_Bool}
 use Rattle.xml_model.specs.Scan.{record_at, is_text_token}
 use Rattle.vtd_text.specs.declared.token.Rule.{Rule}
 use Rattle.vtd_text.specs.Tokens.{HasContent, BeginsWith, EndsHere, LeavesRest}
@@ -51,16 +50,6 @@ record_step bytes words rs r rule text at past content l m s e f h =
     let next : suc at ≡ at + 1 = omega arith in
     let left : IsLeft bytes rs rule text (suc at) past content = record { head = j.head; tail = j.tail; whole = j.whole; first = f j.head j.first; rest = j.rest } in
     subst (λ (k : ℕ). IsLeft bytes rs rule text k past content) next left
-
--- what has a rule is a text or a CDATA section
-pub text_by_rule : (n : ℕ) (rule : Rule) → rule_of n ≡ Some rule → is_text_token n ≡ true
-text_by_rule n rule e = elim (cases_Bool (n == 5)) [
-  | inl t ↦ rw t refl
-  | inr f ↦ elim (cases_Bool (n == 11)) [
-    | inl t ↦ rw (f, t) refl
-    | inr g ↦ absurd (let no : ◌≡◌ {A = Option Rule} None (Some rule) = rw (f, g) at e in cc)
-  ]
-]
 
 text_prop : (b : Bool) (bytes : List ℕ) (r : Record) → IsProp (b ≡ true → IsText bytes r)
 text_prop b bytes r = Prim.hlevel props

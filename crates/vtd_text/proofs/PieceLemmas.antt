@@ -81,10 +81,10 @@ record FirstLiteral (rule : Rule) (ps : List Piece) (c : ℕ) (rest : List ℕ) 
   pub fit : list_all (may_begin_at rule) others ≡ true
   pub written : written_pieces others ≡ rest
 
-head_same : (c d : ℕ) (xs ys : List ℕ) → c ∷ xs ≡ d ∷ ys → c ≡ d
+pub head_same : (c d : ℕ) (xs ys : List ℕ) → c ∷ xs ≡ d ∷ ys → c ≡ d
 head_same c d xs ys e = cc
 
-tail_same : (c d : ℕ) (xs ys : List ℕ) → c ∷ xs ≡ d ∷ ys → xs ≡ ys
+pub tail_same : (c d : ℕ) (xs ys : List ℕ) → c ∷ xs ≡ d ∷ ys → xs ≡ ys
 tail_same c d xs ys e = cc
 
 no_reference : (rule : Rule) (p : Piece) (qs : List Piece) (c : ℕ) (rest : List ℕ) → is_reference p ≡ true → list_all (may_begin_at rule) (p ∷ qs) ≡ true → written_pieces (p ∷ qs) ≡ c ∷ rest → begins_reference rule c ≡ false → FirstLiteral rule (p ∷ qs) c rest

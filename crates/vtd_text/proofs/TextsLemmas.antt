@@ -14,6 +14,7 @@ use Rattle.xml_chars.proofs.HoldLemmas.{encodes_prefix, holds_prefix}
 use Rattle.xml_chars.proofs.Points.{first_of}
 use Rattle.xml_chars.proofs.TextLemmas.{pointwise-begins}
 use Rattle.vtd_text.proofs.Holding.{scalars_back}
+use Rattle.vtd_text.proofs.PieceLemmas.{head_same, tail_same}
 
 pub same_prefix : (a x y : List ℕ) → bytes_eq (a ++ x) (a ++ y) ≡ bytes_eq x y
 same_prefix [] x y = refl
@@ -44,20 +45,14 @@ no_prefix bs w u v f rest e =
     let b : begins (encodes (chars w)) bs ≡ true = holds_prefix bs (chars w) rest u e in
     false≢true (sym f ∙ pointwise-begins w bs ∙ ap (λ (l : List ℕ). begins l bs) (sym (encodes-chars w v)) ∙ b)
 
-cons_tail : (c d : ℕ) (xs ys : List ℕ) → c ∷ xs ≡ d ∷ ys → xs ≡ ys
-cons_tail c d xs ys e = cc
-
-cons_head : (c d : ℕ) (xs ys : List ℕ) → c ∷ xs ≡ d ∷ ys → c ≡ d
-cons_head c d xs ys e = cc
-
 -- a character, and then a prefix
 pub char_prefix : (text rest prefix : List ℕ) (c : ℕ) (o : Option (Bor (List ℕ))) → text ≡ c ∷ rest → MatchOption o ((r : List ℕ) → rest ≡ prefix ++ r → ⊥) (λ r. rest ≡ prefix ++ chars r.now) →
     MatchOption o ((r : List ℕ) → text ≡ c ∷ (prefix ++ r) → ⊥) (λ r. text ≡ c ∷ (prefix ++ chars r.now))
-char_prefix text rest prefix c None e h = λ r k. h r (cons_tail c c rest (prefix ++ r) (sym e ∙ k))
+char_prefix text rest prefix c None e h = λ r k. h r (tail_same c c rest (prefix ++ r) (sym e ∙ k))
 char_prefix text rest prefix c (Some x) e h = e ∙ ap (λ (l : List ℕ). c ∷ l) h
 
 pub other_char : (text rest prefix : List ℕ) (first c : ℕ) → text ≡ first ∷ rest → (first ≡ c → ⊥) → (r : List ℕ) → text ≡ c ∷ (prefix ++ r) → ⊥
-other_char text rest prefix first c e n r k = n (cons_head first c rest (prefix ++ r) (sym e ∙ k))
+other_char text rest prefix first c e n r k = n (head_same first c rest (prefix ++ r) (sym e ∙ k))
 
 pub no_char : (text prefix : List ℕ) (c : ℕ) → text ≡ [] → (r : List ℕ) → text ≡ c ∷ (prefix ++ r) → ⊥
 no_char text prefix c e r k = absurd (let n : [] ≡ c ∷ (prefix ++ r) = sym e ∙ k in cc)

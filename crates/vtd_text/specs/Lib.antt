@@ -2,7 +2,6 @@
 pub mod NameRecords
 pub mod Raw
 pub mod Fingerprints
-
 -- What private functions promise.
 pub mod Tokens
 pub mod Joined

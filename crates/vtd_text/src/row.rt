@@ -80,9 +80,9 @@ impl<'a, W: Words> Row<'a, W> {
         ensures content { (rs : List Record) (content : List ℕ) →
             IsLeft self.old.bytes.now rs self.old.token.rule self.old.token.text.now self.old.at self.old.past content →
             MatchOption result (BetweenTokens self.old.bytes.now rs self.new.token.rule self.new.token.text.now
-              self.old.at self.old.past content)
+            self.old.at self.old.past content)
             (λ c. LeavesTail (IsLeft self.old.bytes.now rs self.new.token.rule self.new.token.text.now self.old.at
-              self.old.past) content c) }
+            self.old.past) content c) }
         ensures bytes { self.new.bytes ≡ self.old.bytes }
         ensures words { self.new.words ≡ self.old.words }
         ensures at { self.new.at ≡ self.old.at }
@@ -113,9 +113,9 @@ impl<'a, W: Words> Row<'a, W> {
             (content : List ℕ) →
             IsLeft self.old.bytes.now rs self.old.token.rule self.old.token.text.now self.old.at self.old.past content →
             MatchOption result (IsAtEnd (IsLeft self.old.bytes.now rs self.new.token.rule self.new.token.text.now
-              self.new.at self.old.past) content)
+            self.new.at self.old.past) content)
             (λ c. LeavesTail (IsLeft self.old.bytes.now rs self.new.token.rule self.new.token.text.now self.new.at
-              self.old.past) content c) }
+            self.old.past) content c) }
         ensures bytes { self.new.bytes ≡ self.old.bytes }
         ensures words { self.new.words ≡ self.old.words }
         ensures past { self.new.past ≡ self.old.past }
@@ -137,7 +137,7 @@ impl<'a, W: Words> Row<'a, W> {
         ensures content { (rs : List Record) (content : List ℕ) →
             IsLeft self.old.bytes.now rs self.old.token.rule self.old.token.text.now self.old.at self.old.past content →
             LeavesAfter (IsLeft self.old.bytes.now rs self.new.token.rule self.new.token.text.now self.old.at
-              self.old.past) content (chars result.now) }
+            self.old.past) content (chars result.now) }
         ensures bytes { self.new.bytes ≡ self.old.bytes }
         ensures words { self.new.words ≡ self.old.words }
         ensures at { self.new.at ≡ self.old.at }

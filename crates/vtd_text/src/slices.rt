@@ -25,8 +25,8 @@ fn content_record<W: Words>(table: &Table<'_, W>, node: Node) -> Option<u32>
     ensures record { (nest : Forest) → IsNestOf table.now.bytes (W.lists table.now.words) nest → (e : Entry) →
         Identifies node.kind node.at e (nodes_of table.now.bytes nest) →
         MatchOption result (written_content e.what ≡ None)
-          (λ at. IsWritten table.now.bytes (record_at at (records nest (first_place table.now.bytes)))
-          (written_content e.what)) }
+        (λ at. IsWritten table.now.bytes (record_at at (records nest (first_place table.now.bytes)))
+        (written_content e.what)) }
     ensures within { IfSome result (λ at. at < length (list_of Part.Records (W.lists table.now.words))) }
 {
     let words = table.words();

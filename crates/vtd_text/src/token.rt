@@ -124,7 +124,7 @@ impl<'a> TokenChars<'a> {
     pub(crate) fn next(&mut self) -> Option<char>
         ensures content { (content : List ℕ) → HasContent self.old.rule (chars self.old.text.now) content →
             MatchOption result (EndsHere self.old.rule content (chars self.new.text.now))
-              (λ c. BeginsWith self.old.rule content c (chars self.new.text.now)) }
+            (λ c. BeginsWith self.old.rule content c (chars self.new.text.now)) }
         ensures rule { self.new.rule ≡ self.old.rule }
     {
         let (c, rest) = next_char(self.text, self.rule)?;
