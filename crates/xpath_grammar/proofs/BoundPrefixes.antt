@@ -30,12 +30,12 @@ shown_insert [] k u = refl
 shown_insert (e ∷ es) k u =
     this (shown_insert es k u) (string_cmp k e.0)
     ∙ ap (λ o. match_ordering o ((chars (string_bytes k), u) ∷ shown (e ∷ es)) ((chars (string_bytes e.0), u) ∷ shown es)
-        ((chars (string_bytes e.0), e.1) ∷ bound_in (shown es) (chars (string_bytes k)) u)) (sym (order_same k e.0))
+    ((chars (string_bytes e.0), e.1) ∷ bound_in (shown es) (chars (string_bytes k)) u)) (sym (order_same k e.0))
   where
     this : shown (insert_entry string_cmp es k u) ≡ bound_in (shown es) (chars (string_bytes k)) u → (o : Ordering)
         → shown (match_ordering o ((k, u) ∷ e ∷ es) ((e.0, u) ∷ es) (e ∷ insert_entry string_cmp es k u))
-            ≡ match_ordering o ((chars (string_bytes k), u) ∷ shown (e ∷ es)) ((chars (string_bytes e.0), u) ∷ shown es)
-            ((chars (string_bytes e.0), e.1) ∷ bound_in (shown es) (chars (string_bytes k)) u)
+        ≡ match_ordering o ((chars (string_bytes k), u) ∷ shown (e ∷ es)) ((chars (string_bytes e.0), u) ∷ shown es)
+        ((chars (string_bytes e.0), e.1) ∷ bound_in (shown es) (chars (string_bytes k)) u)
     this i Less = refl
     this i Equal = refl
     this i Greater = ap (λ x. (chars (string_bytes e.0), e.1) ∷ x) i
@@ -59,7 +59,7 @@ order_equal p q h =
 order_after : (p q : List ℕ) → prefix_order p q ≡ Greater → p ≡ q → ⊥
 order_after p q h e =
     let s : bytes_eq (encode_utf8_all p) (encode_utf8_all q) ≡ true =
-        subst (λ z. bytes_eq (encode_utf8_all p) (encode_utf8_all z) ≡ true) e (bytes_same (encode_utf8_all p)) in
+    subst (λ z. bytes_eq (encode_utf8_all p) (encode_utf8_all z) ≡ true) e (bytes_same (encode_utf8_all p)) in
     let f : bytes_eq (encode_utf8_all p) (encode_utf8_all q) ≡ false = sym (is_eq-slice_cmp (encode_utf8_all p) (encode_utf8_all q)) ∙ ap is_eq h in
     cc
 
@@ -80,7 +80,7 @@ lookup_bound (b ∷ bs) p u q = this (lookup_bound bs p u q) (prefix_order p b.0
 
     this : lookup (bound_in bs p u) q ≡ cond (bytes_eq q p) (Some u) (lookup bs q) → (o : Ordering) → prefix_order p b.0 ≡ o
         → lookup (match_ordering o ((p, u) ∷ b ∷ bs) ((b.0, u) ∷ bs) (b ∷ bound_in bs p u)) q
-            ≡ cond (bytes_eq q p) (Some u) (cond (bytes_eq q b.0) (Some b.1) (lookup bs q))
+        ≡ cond (bytes_eq q p) (Some u) (cond (bytes_eq q b.0) (Some b.1) (lookup bs q))
     this i Less h = refl
     this i Equal h =
         let e = order_equal p b.0 h in
