@@ -120,3 +120,33 @@ bound_still (b ∷ bs) p u h k =
     this one i others Less e = rw k h
     this one i others Equal e = let g : can_bind b.0 u ≡ true = subst (λ z. can_bind z u ≡ true) (order_equal p b.0 e) k in rw g others
     this one i others Greater e = rw one i
+
+-- no URI is empty
+xml_there : xml_uri ≡ [] → ⊥
+unfolding chars
+xml_there h = cc
+
+some_there : (x n a : Bool) (u : List ℕ) → (n && not x && not a && not (length u == 0)) ≡ true → u ≡ [] → ⊥
+some_there x n a u h e =
+    let z : (length u == 0) ≡ true = rw e refl in
+    let k : not (length u == 0) ≡ true = (and_parts (n && not x && not a) (not (length u == 0)) h).1 in
+    cc
+
+lookup_there : (bs : List (List ℕ × List ℕ)) (p u : List ℕ) → AreBound bs → lookup bs p ≡ Some u → u ≡ [] → ⊥
+lookup_there [] p u h k e = cc
+lookup_there (b ∷ bs) p u h k e =
+    let s = and_parts (can_bind b.0 b.1) (list_all (λ c. can_bind c.0 c.1) bs) h in
+    this (λ j. lookup_there bs p u s.1 j e) s.0 (bytes_eq p b.0) k
+  where
+    this : (lookup bs p ≡ Some u → ⊥) → can_bind b.0 b.1 ≡ true → (x : Bool) → cond x (Some b.1) (lookup bs p) ≡ Some u → ⊥
+    this i can true j =
+        let same : b.1 ≡ u = cc in
+        some_there (bytes_eq xml b.0) (is_ncname b.0) (bytes_eq xmlns b.0) b.1 can (same ∙ e)
+    this i can false j = i j
+
+pub uri_there : (bs : List (List ℕ × List ℕ)) (p u : List ℕ) → AreBound bs → uri_in bs p ≡ Some u → u ≡ [] → ⊥
+uri_there bs p u h k e = this (bytes_eq xml p) k
+  where
+    this : (x : Bool) → cond x (Some xml_uri) (lookup bs p) ≡ Some u → ⊥
+    this true j = let same : xml_uri ≡ u = cc in xml_there (same ∙ e)
+    this false j = lookup_there bs p u h j e
