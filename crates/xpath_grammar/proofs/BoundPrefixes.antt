@@ -30,12 +30,12 @@ shown_insert [] k u = refl
 shown_insert (e ∷ es) k u =
     this (shown_insert es k u) (string_cmp k e.0)
     ∙ ap (λ o. match_ordering o ((chars (string_bytes k), u) ∷ shown (e ∷ es)) ((chars (string_bytes e.0), u) ∷ shown es)
-        ((chars (string_bytes e.0), e.1) ∷ bound_in (shown es) (chars (string_bytes k)) u)) (sym (order_same k e.0))
+    ((chars (string_bytes e.0), e.1) ∷ bound_in (shown es) (chars (string_bytes k)) u)) (sym (order_same k e.0))
   where
     this : shown (insert_entry string_cmp es k u) ≡ bound_in (shown es) (chars (string_bytes k)) u → (o : Ordering)
         → shown (match_ordering o ((k, u) ∷ e ∷ es) ((e.0, u) ∷ es) (e ∷ insert_entry string_cmp es k u))
-            ≡ match_ordering o ((chars (string_bytes k), u) ∷ shown (e ∷ es)) ((chars (string_bytes e.0), u) ∷ shown es)
-            ((chars (string_bytes e.0), e.1) ∷ bound_in (shown es) (chars (string_bytes k)) u)
+        ≡ match_ordering o ((chars (string_bytes k), u) ∷ shown (e ∷ es)) ((chars (string_bytes e.0), u) ∷ shown es)
+        ((chars (string_bytes e.0), e.1) ∷ bound_in (shown es) (chars (string_bytes k)) u)
     this i Less = refl
     this i Equal = refl
     this i Greater = ap (λ x. (chars (string_bytes e.0), e.1) ∷ x) i
@@ -59,7 +59,7 @@ order_equal p q h =
 order_after : (p q : List ℕ) → prefix_order p q ≡ Greater → p ≡ q → ⊥
 order_after p q h e =
     let s : bytes_eq (encode_utf8_all p) (encode_utf8_all q) ≡ true =
-        subst (λ z. bytes_eq (encode_utf8_all p) (encode_utf8_all z) ≡ true) e (bytes_same (encode_utf8_all p)) in
+    subst (λ z. bytes_eq (encode_utf8_all p) (encode_utf8_all z) ≡ true) e (bytes_same (encode_utf8_all p)) in
     let f : bytes_eq (encode_utf8_all p) (encode_utf8_all q) ≡ false = sym (is_eq-slice_cmp (encode_utf8_all p) (encode_utf8_all q)) ∙ ap is_eq h in
     cc
 
@@ -80,7 +80,7 @@ lookup_bound (b ∷ bs) p u q = this (lookup_bound bs p u q) (prefix_order p b.0
 
     this : lookup (bound_in bs p u) q ≡ cond (bytes_eq q p) (Some u) (lookup bs q) → (o : Ordering) → prefix_order p b.0 ≡ o
         → lookup (match_ordering o ((p, u) ∷ b ∷ bs) ((b.0, u) ∷ bs) (b ∷ bound_in bs p u)) q
-            ≡ cond (bytes_eq q p) (Some u) (cond (bytes_eq q b.0) (Some b.1) (lookup bs q))
+        ≡ cond (bytes_eq q p) (Some u) (cond (bytes_eq q b.0) (Some b.1) (lookup bs q))
     this i Less h = refl
     this i Equal h =
         let e = order_equal p b.0 h in
@@ -120,3 +120,33 @@ bound_still (b ∷ bs) p u h k =
     this one i others Less e = rw k h
     this one i others Equal e = let g : can_bind b.0 u ≡ true = subst (λ z. can_bind z u ≡ true) (order_equal p b.0 e) k in rw g others
     this one i others Greater e = rw one i
+
+-- no URI is empty
+xml_there : xml_uri ≡ [] → ⊥
+unfolding chars
+xml_there h = cc
+
+some_there : (x n a : Bool) (u : List ℕ) → (n && not x && not a && not (length u == 0)) ≡ true → u ≡ [] → ⊥
+some_there x n a u h e =
+    let z : (length u == 0) ≡ true = rw e refl in
+    let k : not (length u == 0) ≡ true = (and_parts (n && not x && not a) (not (length u == 0)) h).1 in
+    cc
+
+lookup_there : (bs : List (List ℕ × List ℕ)) (p u : List ℕ) → AreBound bs → lookup bs p ≡ Some u → u ≡ [] → ⊥
+lookup_there [] p u h k e = cc
+lookup_there (b ∷ bs) p u h k e =
+    let s = and_parts (can_bind b.0 b.1) (list_all (λ c. can_bind c.0 c.1) bs) h in
+    this (λ j. lookup_there bs p u s.1 j e) s.0 (bytes_eq p b.0) k
+  where
+    this : (lookup bs p ≡ Some u → ⊥) → can_bind b.0 b.1 ≡ true → (x : Bool) → cond x (Some b.1) (lookup bs p) ≡ Some u → ⊥
+    this i can true j =
+        let same : b.1 ≡ u = cc in
+        some_there (bytes_eq xml b.0) (is_ncname b.0) (bytes_eq xmlns b.0) b.1 can (same ∙ e)
+    this i can false j = i j
+
+pub uri_there : (bs : List (List ℕ × List ℕ)) (p u : List ℕ) → AreBound bs → uri_in bs p ≡ Some u → u ≡ [] → ⊥
+uri_there bs p u h k e = this (bytes_eq xml p) k
+  where
+    this : (x : Bool) → cond x (Some xml_uri) (lookup bs p) ≡ Some u → ⊥
+    this true j = let same : xml_uri ≡ u = cc in xml_there (same ∙ e)
+    this false j = lookup_there bs p u h j e

@@ -72,7 +72,7 @@ mutual
   passes bs (variable n) h = absurd cc
   passes bs (call f es) h =
       let p = none_parts (call_fault f es) (first_in bs (list_marks (wants_nodes (signature_of f)) es))
-          (sym (first_in-plain bs (function_word f es) (list_marks (wants_nodes (signature_of f)) es)) ∙ h) in
+      (sym (first_in-plain bs (function_word f es) (list_marks (wants_nodes (signature_of f)) es)) ∙ h) in
       (p.0, list_passes bs (wants_nodes (signature_of f)) es p.1)
 
   list_passes : (bs : List (List ℕ × List ℕ)) (nodes : Bool) (es : Trees) → IsClear bs (list_marks nodes es) → ListPasses bs nodes es
@@ -86,7 +86,7 @@ mutual
   steps_pass bs stop h = tt
   steps_pass bs (go a t ps w) h =
       let p = none_parts (or_else (or_else (axis_fault a) (test_fault bs t)) (first_in bs (list_marks false ps))) (first_in bs (step_marks w))
-          (sym (steps_first bs a t ps w) ∙ h) in
+      (sym (steps_first bs a t ps w) ∙ h) in
       let q = none_parts (or_else (axis_fault a) (test_fault bs t)) (first_in bs (list_marks false ps)) p.0 in
       (none_parts (axis_fault a) (test_fault bs t) q.0, (list_passes bs false ps q.1, steps_pass bs w p.1))
 
@@ -125,7 +125,7 @@ mutual
       let own = none_both (axis_fault a) (test_fault bs t) h.0.0 h.0.1 in
       let list = none_both (or_else (axis_fault a) (test_fault bs t)) (first_in bs (list_marks false ps)) own (list_clear bs false ps h.1.0) in
       steps_first bs a t ps w ∙ none_both (or_else (or_else (axis_fault a) (test_fault bs t)) (first_in bs (list_marks false ps)))
-          (first_in bs (step_marks w)) list (steps_clear bs w h.1.1)
+      (first_in bs (step_marks w)) list (steps_clear bs w h.1.1)
 
 pub first_passes : (bs : List (List ℕ × List ℕ)) (e : Tree) → first_in bs (marks e) ≡ None → Passes bs e
 first_passes bs e h = passes bs e h

@@ -183,8 +183,8 @@ fn earlier(first: Option<Signature>, second: Option<Signature>) -> Option<Signat
     }
 }
 
-/// What a core function takes and answers (XPath 1.0, section 4); None where it is not known, as `id` and each name with
-/// a prefix.
+/// What a core function takes and answers (XPath 1.0, section 4); None where it is not known, as `id` and each name
+/// with a prefix.
 #[tactic(auto, using(crate::proofs::Tables::signature_parts))]
 pub fn signature_of(name: &Text) -> Option<Signature>
     ensures { result ≡ signature_of name.now }

@@ -1,11 +1,11 @@
 //! Laws of the grammar, over its definitions alone. Each function is empty: its contract is the law.
 
-ghost use Rattle.std.specs.Prelude.{◌≡◌, ◌↔◌, ℕ, List, [], true, false, cond, Some};
+ghost use Rattle.std.specs.Prelude.{◌≡◌, ◌≢◌, ◌↔◌, ℕ, List, [], true, false, cond, Some};
 ghost use Rattle.std.specs.Str.{bytes_eq};
 ghost use Rattle.xpath_tokens.specs.declared.Token.{Token};
 ghost use Rattle.xpath_grammar.specs.Grammar.{Derives, Symbol, Phrase, MayFollow, FilterExpr, RelativeLocationPath};
 ghost use Rattle.xpath_grammar.specs.Tree.{Tree};
-ghost use Rattle.xpath_grammar.specs.Bindings.{uri_in, can_bind, bound_in};
+ghost use Rattle.xpath_grammar.specs.Bindings.{uri_in, can_bind, bound_in, AreBound};
 ghost use Rattle.xpath_grammar.specs.Static.{refusals};
 ghost use Rattle.xpath_grammar.specs.Passes.{Passes};
 ghost use Rattle.xpath_grammar.specs.Laws.{minuses, flags, IsForm, IsLastOperator, IsSlash, IsFirstSlash};
@@ -45,4 +45,9 @@ pub fn passes_by_parts()
 pub fn uri_after_binding()
     ensures { (bs : List (List ℕ × List ℕ)) (p u q : List ℕ) → can_bind p u ≡ true
         → uri_in (bound_in bs p u) q ≡ cond (bytes_eq q p) (Some u) (uri_in bs q) }
+{}
+
+/// A prefix is bound to no empty URI.
+pub fn some_uri()
+    ensures { (bs : List (List ℕ × List ℕ)) (p u : List ℕ) → AreBound bs → uri_in bs p ≡ Some u → u ≢ [] }
 {}

@@ -9,4 +9,4 @@ pub invariant_of-self-2 : goal.invariant_of-self-2
 invariant_of-self-2 c =
     let can : can_bind (chars c.args.prefix.now) (chars c.args.uri.now) ≡ true = let h = c.can_bind.ensures in let k = c.if-not-can_bind.false in cc in
     subst AreBound (sym c.in_ok-put.ensures.bound) (bound_still (shown c.self.inside.held.entries) (chars c.args.prefix.now)
-        (chars c.args.uri.now) c.self.invariant can)
+    (chars c.args.uri.now) c.self.invariant can)
