@@ -1,14 +1,3 @@
-pub mod ExampleParts
-pub mod ExamplesRecords
-pub mod ExamplesTree
-pub mod ExamplesText
-pub mod ExamplesLevels
-pub mod ExamplesItems
-pub mod ExamplesRefusals
-pub mod ExamplesSyntax
-pub mod ExamplesStops
-pub mod ExamplesOrder
-pub mod ExamplesLarge
 pub mod Each
 pub mod Levels
 pub mod Rise
@@ -29,8 +18,6 @@ pub mod NodeAt
 pub mod NodeLaws
 pub mod Bridge
 pub mod OneRefusal
-pub mod ExamplesOne
-pub mod ExamplesFirst
 pub mod Starts
 pub mod Siblings
 pub mod Slots

@@ -4,7 +4,7 @@ use Rattle.xml_model.specs.declared.Kind.TheVariants as kinds
 use Rattle.xml_model.specs.Items.{Piece, literal, entity, decimal, hexadecimal, Quote, Attribute, SubsetUnit, DoctypeUnit, Leaf, Item, leaf, start_tag, empty_tag, end_tag, meets, begins_at, walk_to_end}
 use Rattle.xml_model.specs.Nest.{Forest, done, single, element, flat, is_nest}
 use Rattle.xml_model.specs.Tree.{all}
-use Rattle.xml_model.proofs.ExampleParts.{opened, hollow, words, text_of, tag, tag_with, attr, line, line_of}
+use Rattle.xml_examples.proofs.Parts.{opened, hollow, words, text_of, tag, tag_with, attr, line, line_of}
 
 -- Every kind of piece: a literal, a reference by name, in base 10 and in base 16. A text runs to the next < or to the end.
 

@@ -15,8 +15,8 @@ use Rattle.xml_model.specs.Names.{xml_uri, xmlns_uri}
 use Rattle.xml_model.proofs.Bounds.{nest_shallow}
 use Rattle.xml_model.proofs.Levels.{Shallow}
 use Rattle.xml_model.proofs.Unique.{Closing, same_head}
-use Rattle.xml_model.proofs.ExampleParts.{opened, elem, hollow, text_of, tag, tag_with, attr}
-use Rattle.xml_model.proofs.ExamplesRecords.{two, lone}
+use Rattle.xml_examples.proofs.Parts.{opened, elem, hollow, text_of, tag, tag_with, attr}
+use Rattle.xml_examples.proofs.Records.{two, lone}
 
 -- 1. <a and the byte FF: two bytes are UTF-8
 

@@ -11,10 +11,10 @@ use Rattle.xml_model.specs.Nest.{Forest, done, single, empty, element, flat}
 use Rattle.xml_model.specs.Accepted.{layer, Refuses, IsRefusal, BeginsNest, Accepted}
 use Rattle.xml_model.specs.Laws.{OneItem}
 use Rattle.xml_model.proofs.Bridge.{no_utf8, no_syntax, no_refusal_from_accepted}
-use Rattle.xml_model.proofs.ExampleParts.{opened, tag, attr, elem}
-use Rattle.xml_model.proofs.ExamplesRefusals.{a_opened, unknown_in_text, with_attributes}
-use Rattle.xml_model.proofs.ExamplesStops.{reference_not_ended}
-use Rattle.xml_model.proofs.ExamplesOne.{one_at_each}
+use Rattle.xml_examples.proofs.Parts.{opened, tag, attr, elem}
+use Rattle.xml_examples.proofs.Refusals.{a_opened, unknown_in_text, with_attributes}
+use Rattle.xml_examples.proofs.Stops.{reference_not_ended}
+use Rattle.xml_examples.proofs.One.{one_at_each}
 use Rattle.xml_model.proofs.Unique.{same_head}
 
 -- what is UTF-8 is not refused before layer 2

@@ -9,7 +9,7 @@ use Rattle.xml_model.specs.declared.DocFault.TheVariants as faults
 use Rattle.xml_model.specs.Chars.{begins, lacks, is_char, is_space, is_blank, is_name, is_name_start, is_name_char}
 use Rattle.xml_model.specs.Items.{Piece, literal, entity, decimal, hexadecimal, Tag, Instruction, Leaf, Item, leaf, start_tag, empty_tag, end_tag, written, written_pieces, written_attributes, meets, meets_piece, meets_tag, meets_instruction, is_nil, ends_well, may_begin_at, first_place, begins_at, spelling}
 use Rattle.xml_model.specs.Accepted.{Refuses}
-use Rattle.xml_model.proofs.ExampleParts.{opened, tag}
+use Rattle.xml_examples.proofs.Parts.{opened, tag}
 
 -- A text whose bytes are the start of ASCII bytes is the start of their characters.
 

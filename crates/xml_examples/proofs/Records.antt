@@ -5,7 +5,7 @@ use Rattle.xml_model.specs.Items.{Leaf, walk_to_end}
 use Rattle.xml_model.specs.Nest.{Forest, done, single, empty, flat, is_nest}
 use Rattle.xml_model.specs.Records.{Record, records, word}
 use Rattle.xml_model.specs.Accepted.{first_wide, too_wide}
-use Rattle.xml_model.proofs.ExampleParts.{opened, elem, hollow, words, tag_with, attr}
+use Rattle.xml_examples.proofs.Parts.{opened, elem, hollow, words, tag_with, attr}
 
 -- <a><b>1</b><b>2</b></a>
 abbrev pub two : Forest

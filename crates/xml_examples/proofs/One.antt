@@ -6,8 +6,8 @@ use Rattle.xml_model.specs.Chars.{begins, is_char, is_space, is_blank, is_white,
 use Rattle.xml_model.specs.Items.{Piece, literal, entity, decimal, hexadecimal, Attribute, Tag, Leaf, Item, leaf, start_tag, empty_tag, end_tag, written, before_value, quote_char, written_pieces, written_attributes, meets, meets_piece, meets_attribute, meets_tag, ends_well, may_begin_at, first_place, begins_at, spelling}
 use Rattle.xml_model.specs.Laws.{OneItem}
 use Rattle.xml_model.proofs.Bridge.{OneFrom, spelling_some}
-use Rattle.xml_model.proofs.ExampleParts.{opened, tag}
-use Rattle.xml_model.proofs.ExamplesStops.{is_ascii, ascii_prefix, no_prefix, row_of, literal_row, both, Row}
+use Rattle.xml_examples.proofs.Parts.{opened, tag}
+use Rattle.xml_examples.proofs.Stops.{is_ascii, ascii_prefix, no_prefix, row_of, literal_row, both, Row}
 
 abbrev pub doc : List ℕ
 doc = codes "<a>&x;</b>"

@@ -8,7 +8,7 @@ use Rattle.xml_model.specs.Tree.{Entry, all}
 use Rattle.xml_model.specs.Content.{content}
 use Rattle.xml_model.specs.Names.{Test, NameTest, passes}
 use Rattle.xml_model.specs.Accepted.{Accepted}
-use Rattle.xml_model.proofs.ExampleParts.{opened, attr, tag_with, text_of, line, line_of}
+use Rattle.xml_examples.proofs.Parts.{opened, attr, tag_with, text_of, line, line_of}
 
 abbrev line_feed : Leaf
 line_feed = text_of (10 ∷ [])

@@ -4,8 +4,8 @@ use Rattle.xml_model.specs.Nest.{Forest, done}
 use Rattle.xml_model.specs.Records.{records}
 use Rattle.xml_model.specs.Tree.{all}
 use Rattle.xml_model.specs.Levels.{level, last_level, record_level, record_last_level, level_word, no_child}
-use Rattle.xml_model.proofs.ExampleParts.{opened, elem, hollow}
-use Rattle.xml_model.proofs.ExamplesRecords.{two}
+use Rattle.xml_examples.proofs.Parts.{opened, elem, hollow}
+use Rattle.xml_examples.proofs.Records.{two}
 
 -- <a><b>1</b><b>2</b></a>
 two_first : map level_word (level 1 (all two 0)) ≡ 0x0000_0002_FFFF_FFFF ∷ 0x0000_0004_FFFF_FFFF ∷ []

@@ -9,7 +9,7 @@ use Rattle.xml_model.specs.Chars.{begins, lacks, is_char}
 use Rattle.xml_model.specs.Items.{Piece, literal, entity, decimal, hexadecimal, Leaf, Item, leaf, start_tag, empty_tag, end_tag, written, written_pieces, written_tag, meets, meets_piece, ends_well, may_begin_at, spelling}
 use Rattle.xml_model.specs.Accepted.{Refuses}
 use Rattle.xml_model.proofs.Siblings.{and_no}
-use Rattle.xml_model.proofs.ExampleParts.{opened, tag}
+use Rattle.xml_examples.proofs.Parts.{opened, tag}
 
 too_long : (prefix text : List ℕ) → length text < length prefix → begins prefix text ≡ false
 too_long [] text h = absurd (omega arith)

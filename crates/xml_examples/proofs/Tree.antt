@@ -8,8 +8,8 @@ use Rattle.xml_model.specs.Items.{Leaf, walk_to_end}
 use Rattle.xml_model.specs.Nest.{Forest, done, single, element, flat, is_nest}
 use Rattle.xml_model.specs.Tree.{Path, Entry, kind_of, all, axis_list, at_index, at_path, before}
 use Rattle.xml_model.specs.Names.{Test, NameTest, passes}
-use Rattle.xml_model.proofs.ExampleParts.{opened, elem, hollow, words, tag_with, attr, c, a, Line, line, line_of}
-use Rattle.xml_model.proofs.ExamplesRecords.{two, no_byte, lone}
+use Rattle.xml_examples.proofs.Parts.{opened, elem, hollow, words, tag_with, attr, c, a, Line, line, line_of}
+use Rattle.xml_examples.proofs.Records.{two, no_byte, lone}
 
 -- a node by its path, its kind, its records and its span
 record Row : Type 0 where

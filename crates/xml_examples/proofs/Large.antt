@@ -6,7 +6,7 @@ use Rattle.xml_model.specs.Nest.{Forest, done, flat, is_nest}
 use Rattle.xml_model.specs.Records.{records, word}
 use Rattle.xml_model.specs.Tree.{all, axis_list}
 use Rattle.xml_model.specs.Levels.{level, level_word}
-use Rattle.xml_model.proofs.ExampleParts.{opened, elem, words, printed, c}
+use Rattle.xml_examples.proofs.Parts.{opened, elem, words, printed, c}
 
 abbrev bs : ℕ → Forest
 bs zero = done

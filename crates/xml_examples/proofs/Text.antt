@@ -5,8 +5,8 @@ use Rattle.xml_model.specs.Nest.{Forest, done, single, empty, element, flat}
 use Rattle.xml_model.specs.Tree.{Thing, all}
 use Rattle.xml_model.specs.Content.{content, text_content, value_content}
 use Rattle.xml_model.specs.Names.{Test, NameTest, Expanded, binding, expanded, scope, passes, xml_uri}
-use Rattle.xml_model.proofs.ExampleParts.{opened, elem, hollow, words, tag_with, attr}
-use Rattle.xml_model.proofs.ExamplesTree.{merged, mixed}
+use Rattle.xml_examples.proofs.Parts.{opened, elem, hollow, words, tag_with, attr}
+use Rattle.xml_examples.proofs.Tree.{merged, mixed}
 
 abbrev contents : Forest → List (List ℕ)
 contents f = map (λ e. content e.what) (all f 0)

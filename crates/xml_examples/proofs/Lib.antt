@@ -1,0 +1,13 @@
+pub mod Parts
+pub mod Records
+pub mod Tree
+pub mod Text
+pub mod Levels
+pub mod Items
+pub mod Refusals
+pub mod Syntax
+pub mod Stops
+pub mod Order
+pub mod Large
+pub mod One
+pub mod First
