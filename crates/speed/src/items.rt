@@ -1,14 +1,13 @@
-//! How fast items are read, and documents checked: times one pass over a document each beside a plain sum of its bytes and a
-//! count of its `<`.
-//! The times go to standard error, and what was counted to standard output.
-#![tactic(auto)]
+//! Reading items and checking documents: one pass over a document each, beside a plain sum of its bytes, a count of its `<` and a
+//! check of UTF-8.
 
 ghost use Rattle.std.specs.Prelude.{◌<◌, ◌^◌, length};
 ghost use Rattle.std.specs.Str.{IsUtf8};
 
 use memchr::memchr_iter;
+use std::io;
+use std::rt::Clock;
 use std::time::Instant;
-use std::{env, fs, io};
 use xml_acceptance::check;
 use xml_items::next_item;
 
@@ -49,37 +48,30 @@ fn sum_of(bytes: &[u8]) -> u64 {
     sum
 }
 
-fn main(rt: HostRuntime) -> io::Result<()> {
-    let mut words = env::args(&rt)?;
-    let _program = words.next();
-    let Some(name) = words.next() else {
-        return Ok(());
-    };
-    let document = fs::read(&rt, &name)?;
-    let bytes = document.as_slice();
+/// Times the passes over a document of fewer than 2 to the power 30 bytes.
+pub fn time<R: Clock + Print + Eprint>(rt: &R, bytes: &[u8]) -> io::Result<()> {
     if bytes.len() >= 1 << 30 {
         return Ok(());
     }
-    let start = Instant::now(&rt)?;
+    let start = Instant::now(rt)?;
     let sum = sum_of(bytes);
-    let summed = start.elapsed(&rt)?;
-    let start = Instant::now(&rt)?;
+    let summed = start.elapsed(rt)?;
+    let start = Instant::now(rt)?;
     let angles = memchr_iter(b'<', bytes).count();
-    let counted = start.elapsed(&rt)?;
-    let start = Instant::now(&rt)?;
+    let counted = start.elapsed(rt)?;
+    let start = Instant::now(rt)?;
     let Ok(text) = simdutf8::compat::from_utf8(bytes) else {
         return Ok(());
     };
-    let checked = start.elapsed(&rt)?;
-    let start = Instant::now(&rt)?;
+    let checked = start.elapsed(rt)?;
+    let start = Instant::now(rt)?;
     let items = count_items(text.as_bytes());
-    let walked = start.elapsed(&rt)?;
-    let start = Instant::now(&rt)?;
+    let walked = start.elapsed(rt)?;
+    let start = Instant::now(rt)?;
     let records = count_records(bytes);
-    let accepted = start.elapsed(&rt)?;
+    let accepted = start.elapsed(rt)?;
     println!(rt; "sum {sum}, angles {angles}, items {items}, records {records}")?;
     eprintln!(rt;
         "sum {summed:?}, memchr {counted:?}, utf8 {checked:?}, items {walked:?}, check {accepted:?}"
-    )?;
-    Ok(())
+    )
 }

@@ -1,5 +1,5 @@
 use Rattle.std.proofs.lemmas.Str.{IsCharBoundary-start}
-use Rattle.items_speed.proofs.count_items.Goals as goal
+use Rattle.speed.proofs.items.count_items.Goals as goal
 
 pub loop-init : goal.loop-init
 loop-init c = IsCharBoundary-start c.args.bytes.now c.requires.utf8

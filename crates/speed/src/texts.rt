@@ -1,14 +1,12 @@
-//! How fast resolved texts are appended: times `append_to` of all texts of a document beside a plain copy of as many bytes, first
-//! into new memory and then into memory that was written before. The times go to standard error, and the numbers of bytes to
-//! standard output.
-#![tactic(auto)]
+//! Appending resolved texts: `append_to` of all texts of a document beside a plain copy of as many bytes, first into new memory and
+//! then into memory that was written before.
 
 ghost use Rattle.vtd_words.specs.Table.{IsNodeOf};
 
 use std::alloc::{AllocError, Global};
+use std::io;
 use std::rt::Clock;
 use std::time::{Duration, Instant};
-use std::{env, fs, io};
 use vtd_builder::build;
 use vtd_text::{Chars, append_to};
 use vtd_words::{Table, Words};
@@ -38,13 +36,8 @@ fn time_copy(clock: &impl Clock, from: &str, into: &mut String) -> io::Result<Du
     start.elapsed(clock)
 }
 
-fn main(rt: HostRuntime) -> io::Result<()> {
-    let mut words = env::args(&rt)?;
-    let _program = words.next();
-    let Some(name) = words.next() else {
-        return Ok(());
-    };
-    let bytes = fs::read(&rt, &name)?;
+/// Times the texts of a document of fewer than 2 to the power 30 bytes.
+pub fn time<R: Clock + Print + Eprint + AllocGlobal>(rt: &R, bytes: Vec<u8>) -> io::Result<()> {
     if bytes.len() >= 1 << 30 {
         return Ok(());
     }
@@ -63,8 +56,8 @@ fn main(rt: HostRuntime) -> io::Result<()> {
     for memory in ["new", "written"] {
         text.held.clear();
         copy.clear();
-        let appended = time_append(&rt, rt.alloc(), table, root, &mut text)?;
-        let copied = time_copy(&rt, text.held.as_str(), &mut copy)?;
+        let appended = time_append(rt, rt.alloc(), table, root, &mut text)?;
+        let copied = time_copy(rt, text.held.as_str(), &mut copy)?;
         let same = text.held.as_str() == copy.as_str();
         println!(rt; "{memory} memory: bytes {}, same {same}", copy.len())?;
         eprintln!(rt; "{memory} memory: append {appended:?}, copy {copied:?}")?;
