@@ -6,10 +6,10 @@ top=$(cd "$(dirname "$0")/.." && pwd)
 megabytes=${1:-100}
 folder=$(mktemp -d)
 trap 'rm -rf "$folder"' EXIT
-(cd "$top/crates/items_speed" && rt run -- data/doc.xml > /dev/null)
+(cd "$top/crates/speed" && rt run -- items data/doc.xml > /dev/null)
 for kind in text orders accented; do
     "$top/bench/document.sh" "$kind" "$megabytes" > "$folder/document.xml"
-    python3 - "$top/crates/items_speed/out/items_speed" "$folder/document.xml" "$kind" <<'PY'
+    python3 - "$top/crates/speed/out/speed" "$folder/document.xml" "$kind" <<'PY'
 import os, re, subprocess, sys
 
 program, document, kind = sys.argv[1:]
@@ -21,7 +21,7 @@ def seconds(line):
     return [float(number) * units[unit] for number, unit in re.findall(r"([0-9.]+)(ns|µs|ms|s)", line)]
 
 
-runs = [seconds(subprocess.run([program, document], capture_output=True, text=True, check=True).stderr) for _ in range(3)]
+runs = [seconds(subprocess.run([program, "items", document], capture_output=True, text=True, check=True).stderr) for _ in range(3)]
 total, count, utf8, items, check = (min(times) for times in zip(*runs))
 rate = os.path.getsize(document) / 1e6
 print(f"{kind}: sum {rate / total:.0f} MB/s, count {rate / count:.0f} MB/s, UTF-8 {rate / utf8:.0f} MB/s, "

@@ -6,10 +6,10 @@ top=$(cd "$(dirname "$0")/.." && pwd)
 megabytes=${1:-50}
 folder=$(mktemp -d)
 trap 'rm -rf "$folder"' EXIT
-(cd "$top/crates/texts_speed" && rt run -- data/doc.xml > /dev/null)
+(cd "$top/crates/speed" && rt run -- texts data/doc.xml > /dev/null)
 for kind in text references returns; do
     "$top/bench/document.sh" "$kind" "$megabytes" > "$folder/document.xml"
-    python3 - "$top/crates/texts_speed/out/texts_speed" "$folder/document.xml" "$kind" <<'PY'
+    python3 - "$top/crates/speed/out/speed" "$folder/document.xml" "$kind" <<'PY'
 import re, subprocess, sys
 
 program, document, kind = sys.argv[1:]
@@ -18,7 +18,7 @@ UNITS = {"ns": 1e-9, "µs": 1e-6, "ms": 1e-3, "s": 1}
 
 def measured():
     """The bytes and the seconds of one run, a pair of append and copy for each kind of memory."""
-    run = subprocess.run([program, document], capture_output=True, text=True, check=True)
+    run = subprocess.run([program, "texts", document], capture_output=True, text=True, check=True)
     lengths = re.findall(r"(\w+) memory: bytes (\d+), same true", run.stdout)
     times = re.findall(r"(\w+) memory: append ([0-9.]+)(ns|µs|ms|s), copy ([0-9.]+)(ns|µs|ms|s)", run.stderr)
     seconds = {memory: (float(append) * UNITS[one], float(copy) * UNITS[other]) for memory, append, one, copy, other in times}
