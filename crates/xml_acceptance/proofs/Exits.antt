@@ -1,5 +1,5 @@
 -- What a pass over the items has found gives the answer, by the order of the layers.
-use Rattle.std.proofs.Common.{◌≡◌, ℕ, suc, ◌+◌, ◌*◌, ◌<◌, ◌≤◌, Bool, true, false, List, [], ◌∷◌, ◌++◌, length, Option, Some, None, refl, sym, ap, subst, ◌∙◌, arith, append-nil, append_assoc}
+use Rattle.std.proofs.Common.{◌≡◌, ℕ, ◌+◌, ◌*◌, ◌<◌, ◌≤◌, true, false, List, [], ◌∷◌, ◌++◌, length, Option, Some, None, refl, sym, ap, subst, ◌∙◌, arith, append-nil}
 use Rattle.std.specs.Prelude.{IsUtf8, ◌&&◌, ◌==◌}
 use Rattle.std.specs.Str.{IsValidUpTo}
 use Rattle.std.proofs.lemmas.Bool.{and_from, eq-eqb, false≢true}
@@ -8,9 +8,9 @@ use Rattle.xml_model.specs.declared.Field.{Field}
 use Rattle.xml_model.specs.declared.DocFault.{DocFault}
 use Rattle.xml_model.specs.declared.DocFault.TheVariants as faults
 use Rattle.xml_model.specs.Items.{Item, spelling, begins_at, walk, walk_to_end, first_place}
-use Rattle.xml_model.specs.Nest.{Forest, is_nest, flat}
+use Rattle.xml_model.specs.Nest.{Forest, flat}
 use Rattle.xml_model.specs.Records.{Record, document, records}
-use Rattle.xml_model.specs.Accepted.{RefusesItem, RefusesNesting, DoesNotBegin, is_opening, IsDocument, over_items, unknown_item, encoding_item, first_wide, Refuses, IsRefusal, Accepted, AcceptedTo, layer}
+use Rattle.xml_model.specs.Accepted.{RefusesItem, RefusesNesting, is_opening, IsDocument, over_items, unknown_item, encoding_item, first_wide, IsRefusal, Accepted, AcceptedTo, layer}
 use Rattle.xml_items.specs.declared.Item.{Item as ItemShown}
 use Rattle.xml_items.specs.declared.Counted.{Counted}
 use Rattle.xml_items.specs.Counted.{IsCountedAt}
@@ -20,7 +20,7 @@ use Rattle.xml_acceptance.specs.declared.nest_so_far.NestSoFar.{NestSoFar}
 use Rattle.xml_acceptance.specs.Ampersands.{first}
 use Rattle.xml_acceptance.specs.Machine.{Phase, whole, head, body, tail, State, state, run, items_records}
 use Rattle.xml_acceptance.specs.Open.{is_end, is_deep}
-use Rattle.xml_acceptance.specs.Passes.{past_items, Finds, Goes, Stops, NestsBy, Nests, Passes, nesting_fault}
+use Rattle.xml_acceptance.specs.Passes.{past_items, Finds, Goes, Stops, NestsBy, Nests, Passes}
 use Rattle.xml_acceptance.proofs.Placement.{hold}
 use Rattle.xml_acceptance.proofs.Tokens.{tokens_whole}
 use Rattle.xml_acceptance.proofs.Prefixes.{taken_begins, stops_begins, open_no_nest, open_taken, ends_nest}

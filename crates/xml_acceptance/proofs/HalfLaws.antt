@@ -1,14 +1,14 @@
 -- A document has at most half as many records as bytes: each item but a text has more bytes than twice its records, no text follows a
 -- text, and the root element makes up for the document's own record.
-use Rattle.std.proofs.Common.{◌≡◌, ℕ, zero, suc, ◌+◌, ◌*◌, ◌<◌, ◌≤◌, Bool, true, false, inl, inr, cond, not, List, [], ◌∷◌, ◌++◌, length, Option}
+use Rattle.std.proofs.Common.{◌≡◌, ℕ, suc, ◌+◌, ◌*◌, ◌≤◌, Bool, true, false, inl, inr, cond, not, List, [], ◌∷◌, ◌++◌, length, Option}
 use Rattle.std.proofs.Common.{Some, None, refl, sym, ap, ◌∙◌, arith}
 use Rattle.std.specs.Prelude.{codes, option_to_list, ◌&&◌, ◌||◌, ◌==◌, bytes_eq, encode_utf8_all}
 use Rattle.std.specs.List.{list_all}
-use Rattle.std.proofs.lemmas.Bool.{and_parts, or_cases, eqb-true, false≢true, not-true}
+use Rattle.std.proofs.lemmas.Bool.{and_parts, or_cases, eqb-true, false≢true}
 use Rattle.std.proofs.lemmas.List.{length-append}
 use Rattle.std.proofs.lemmas.List.Folds.{list_all-append}
 use Rattle.xml_model.specs.Chars.{size, is_name, is_white, is_blank}
-use Rattle.xml_model.specs.Items.{Attribute, Tag, Declaration, Instruction, Leaf, Item, leaf, start_tag, empty_tag, end_tag, written_pieces}
+use Rattle.xml_model.specs.Items.{Attribute, Tag, Declaration, Instruction, Leaf, Item, leaf, empty_tag, end_tag, written_pieces}
 use Rattle.xml_model.specs.Items.{written_attribute, written_attributes, written_option, written_leaf, written_start, written_empty, written_end}
 use Rattle.xml_model.specs.Items.{written_tag, before_value, quote_char, spelling, meets, meets_attribute, meets_tag, meets_part, meets_part_if_there}
 use Rattle.xml_model.specs.Items.{meets_instruction, meets_declaration, is_version, is_encoding_name, is_yes_or_no, begins_with_space, is_nil}

@@ -2,7 +2,6 @@
 pub mod Laws
 pub mod Machine
 pub mod Verdicts
-
 -- What private functions promise.
 pub mod Ampersands
 pub mod Counts

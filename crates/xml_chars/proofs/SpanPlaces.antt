@@ -1,8 +1,8 @@
 -- Where characters begin after what was read at a place.
 use Rattle.std.proofs.Common.{◌≡◌, ℕ, ◌+◌, true, List, [], ◌∷◌, ◌++◌, length, drop, refl, sym, ap, subst, ◌∙◌, arith, lit<, append_assoc}
 use Rattle.std.specs.Str.{IsUtf8, chars, IsCharBoundary}
-use lib.Utf8.{scalar, scalars, encodes}
-use Rattle.std.proofs.lemmas.Bool.{and_parts, false≢true}
+use lib.Utf8.{scalars, encodes}
+use Rattle.std.proofs.lemmas.Bool.{false≢true}
 use Rattle.std.proofs.lemmas.Str.{chars-encodes, scalars-chars, IsUtf8-drop, IsCharBoundary-from_rest}
 use Rattle.xml_model.specs.Chars.{size}
 use Rattle.xml_model.specs.Items.{Piece, literal, entity, decimal, hexadecimal, written_piece}

@@ -28,4 +28,3 @@ wide_name c h e = rw (wide_start c h ∙ e) (wide_rest c h)
 
 pub ascii_name_low : (c : ℕ) → is_ascii_name c ≡ true → c < 128
 ascii_name_low c h = ltb-true c 128 (and_parts (nat_lt c 128) (is_name_char c) h).0
-

@@ -3,7 +3,7 @@ use Rattle.std.proofs.Common.{◌≡◌, ℕ, ◌+◌, ◌-◌, ◌<◌, ◌≤�
 use Rattle.std.specs.Prelude.{codes, ◌&&◌, option_map, option_and_then, is_some}
 use Rattle.std.specs.Str.{IsUtf8, chars, IsCharBoundary}
 use Rattle.std.specs.List.{list_all}
-use lib.Utf8.{scalar, scalars, encodes}
+use lib.Utf8.{scalars, encodes}
 use Rattle.xml_chars.specs.Reading.{begins_name}
 use Rattle.xml_items.specs.Shown.{item_shown, item_kind, item_content}
 use Rattle.xml_items.specs.declared.Item.{Item as ItemShown}

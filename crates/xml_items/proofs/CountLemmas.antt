@@ -12,7 +12,7 @@ use Rattle.xml_items.specs.Reading.{some_space, read_bare, read_attribute, begin
 use Rattle.xml_items.specs.Suffixes.{Suffixes, suffixes}
 use Rattle.xml_items.specs.Shown.{item_shown}
 use Rattle.xml_items.specs.AttributeList.{item_attributes}
-use Rattle.xml_items.specs.Counting.{counted_from, counted, with_count, counted_shown}
+use Rattle.xml_items.specs.Counting.{counted_from, with_count, counted_shown}
 use Rattle.xml_items.specs.declared.Item.{Item as ItemShown}
 use Rattle.xml_items.specs.declared.Counted.{Counted}
 use Rattle.xml_items.proofs.MarkSpans.{shows}

@@ -1,5 +1,5 @@
 -- Plain bytes, and what reads past them.
-use Rattle.std.proofs.Common.{◌≡◌, ℕ, ◌<◌, Bool, true, false, inl, inr, List, [], ◌∷◌, length, drop, get_or, Option, Some, None, refl, sym, ap, ◌∙◌, arith}
+use Rattle.std.proofs.Common.{◌≡◌, ℕ, ◌<◌, Bool, true, false, inl, inr, List, [], ◌∷◌, length, get_or, Option, Some, None, refl, sym, ap, ◌∙◌, arith}
 use Rattle.std.specs.Prelude.{◌&&◌, ◌==◌, not, nat_le, codes}
 use Rattle.std.specs.List.{list_all}
 use Rattle.std.proofs.Math.Numerals.{one-add}
@@ -187,4 +187,3 @@ word_some w text rest e = elim (cases_Bool (begins w text)) [
   | inl t ↦ t
   | inr f ↦ absurd (let n : ◌≡◌ {A = Option (Unit {0} × List ℕ)} None (Some (tt, rest)) = rw f at e in cc)
 ]
-

@@ -5,16 +5,15 @@ use Rattle.std.specs.Str.{IsUtf8, chars}
 use Rattle.std.proofs.lemmas.Str.{chars-nil}
 use Rattle.std.proofs.lemmas.List.{nil_from_length}
 use Rattle.std.proofs.lemmas.Bool.{eqb-true, eqb-false}
-use Rattle.xml_model.specs.Items.{Quote, single, double, Attribute, quote_char, written_pieces, written_attribute, Piece}
+use Rattle.xml_model.specs.Items.{Quote, single, double, Attribute, quote_char, written_pieces, Piece}
 use Rattle.xml_chars.specs.Readers.{skip, word, mapped}
 use Rattle.xml_chars.specs.Reading.{read_name, read_space, ascii_head}
-use Rattle.xml_chars.proofs.Readers.{skip_some, skip_none, word_reads, many_more, many_stuck, many_done, map_some}
+use Rattle.xml_chars.proofs.Readers.{skip_some, skip_none, word_reads, map_some}
 use Rattle.xml_chars.proofs.NameLaws.{name_reads, space_reads}
 use Rattle.xml_chars.proofs.Points.{first_of}
-use Rattle.xml_items.specs.Reading.{quote_form, read_quote, read_value, some_space, BareParts, read_bare_parts, attribute_of, read_bare, read_attribute, begins_attribute, read_attributes}
+use Rattle.xml_items.specs.Reading.{quote_form, read_quote, read_value, some_space, BareParts, read_bare_parts, attribute_of, read_bare, read_attribute}
 use Rattle.xml_items.specs.Suffixes.{Suffixes, suffixes}
 use Rattle.xml_items.proofs.PieceLaws.{quote_reads, value_reads}
-use Rattle.xml_items.proofs.TagLaws.{attribute_reads, attribute_pos, FitAttribute}
 
 -- ---- quotes
 

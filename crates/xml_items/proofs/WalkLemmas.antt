@@ -8,7 +8,6 @@ use lib.Utf8.{encode, encodes}
 use Rattle.std.proofs.lemmas.List.{drop-drop}
 use Rattle.std.proofs.lemmas.Str.{chars-encodes, chars-nil, scalars-chars}
 use Rattle.std.proofs.lemmas.Bool.{cases_Bool, cases_lt, false≢true, and_parts, and_from, ne_eqb, eq-eqb, eqb-true, lt-ltb, le-ltb, false_from_ne_true}
-use Rattle.std.proofs.lemmas.Option.{same_Some}
 use Rattle.xml_model.specs.Chars.{begins, size}
 use Rattle.xml_model.specs.Items.{Item, leaf, Leaf, start_tag, empty_tag, end_tag, written, spelling, meets, ends_well, may_begin_at, begins_at, first_place, byte_order_mark}
 use Rattle.xml_chars.specs.Readers.{word}

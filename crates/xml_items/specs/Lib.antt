@@ -2,7 +2,6 @@
 pub mod Shown
 pub mod AttributeList
 pub mod Counted
-
 -- What private functions promise.
 pub mod Reading
 pub mod Counting
