@@ -187,9 +187,9 @@ def split_comment(line, is_antt):
 
 
 PROSE = [
-    (r"\b([Ii])n front\b", r"\1n@front"),
+    (r"\b([Ii])n front\b", r"\1n fr@nt"),
     (r"\bat (the|its|their) front\b", r"at \1 start"), (r"\binto the front of\b", "into the start of"), (r"\bthe front of\b", "the start of"),
-    (r"\bA front\b", "A prefix"), (r"\bfronts\b", "prefixes"), (r"\bfront\b", "prefix"), (r"n@front", "n front"),
+    (r"\bA front\b", "A prefix"), (r"\bfronts\b", "prefixes"), (r"\bfront\b", "prefix"), (r"fr@nt", "front"),
     (r"\bone behind another\b", "one after another"), (r"\bBehind\b", "After"), (r"\bbehind\b", "after"),
     (r"\b(that|which) tells? (?:its|their) bytes\b", "whose bytes are known"),
     (r"\bwhere (the|an?|all) (\w+) tells? (?:its|their) bytes\b", r"where the bytes of \1 \2 are known"),
@@ -269,6 +269,8 @@ def converted(text, path, crate):
         # texts between quotes stay
         pieces = re.split(r'("(?:[^"\\]|\\.)*")', code)
         code = "".join(it if i % 2 else IDENTIFIER.sub(lambda n: names.of(n[0]), it) for i, it in enumerate(pieces))
+        # the library's own field
+        code = re.sub(r"(split_at[\w-]*\.ensures)\.prefix", r"\1.front", code)
         lines.append(head + code + prose(words_in(comment, names)))
     return "\n".join(lines)
 

@@ -208,7 +208,7 @@ next_tag bytes rs es s open_tags hs p depth first r l f known = by l.left l.chai
                 tag = x.tag;
                 inside = c.0.inside;
                 what = c.0.what;
-                declared = moved first (c.0.entry.index + 1) x.tag p n (there ∙ ap (λ m. m + 1) (sym c.0.place)) d;
+                declared = moved first (c.0.entry.index + 1) x.tag p n (there ∙ ap (λ m. m + 1) (sym c.0.index)) d;
                 nearest_says = e ∙ ap (λ q. first_of q (nearest p (tags_in xs))) d.found;
               };
           missing = λ k.

@@ -67,7 +67,7 @@ pub holder_found : (bytes : List ℕ) (lists : Lists) (nest : Forest) → IsNest
     ((e : Entry) → Identifies kinds.Element tag e (nodes_of bytes nest) → IfSome r (λ owner. IsParent (nodes_of bytes nest) e owner)) → node.at ≡ holder_index xs
 holder_found bytes lists nest s x xs c tag h r node k known =
     let e = c.0.entry in
-    let p : IsParent (nodes_of bytes nest) e node = subst (λ o. IfSome o (λ owner. IsParent (nodes_of bytes nest) e owner)) k (known e (c.0.there, ap kind_of c.0.what, c.0.place ∙ h)) in
+    let p : IsParent (nodes_of bytes nest) e node = subst (λ o. IfSome o (λ owner. IsParent (nodes_of bytes nest) e owner)) k (known e (c.0.there, ap kind_of c.0.what, c.0.index ∙ h)) in
     parent_index bytes lists nest s e c.0.there node p ∙ ap holder_index c.0.holders
 
 pub holder_lower : (bytes : List ℕ) (lists : Lists) (nest : Forest) → IsNestOf bytes lists nest → (x : Holder) (xs : List Holder) → Chain (nodes_of bytes nest) (x ∷ xs) → holder_index xs < x.index
@@ -75,7 +75,7 @@ holder_lower bytes lists nest s x xs c = (chain_holds nest (first_place bytes) (
 
 pub holder_element : (bytes : List ℕ) (lists : Lists) (nest : Forest) → IsNestOf bytes lists nest → (xs : List Holder) → Chain (nodes_of bytes nest) xs → (r : ℕ) → r ≡ holder_index xs → (r ≡ 0 → ⊥) → IsElementAt bytes lists r
 holder_element bytes lists nest s [] c r e h = absurd (h e)
-holder_element bytes lists nest s (y ∷ ys) c r e h = record { nest = nest; shown = s; entry = c.0.entry; holds = (c.0.there, ap kind_of c.0.what, c.0.place ∙ sym e) }
+holder_element bytes lists nest s (y ∷ ys) c r e h = record { nest = nest; shown = s; entry = c.0.entry; holds = (c.0.there, ap kind_of c.0.what, c.0.index ∙ sym e) }
 
 -- the declarations above, one element after another
 
@@ -130,7 +130,7 @@ next_above bytes lists few nest s hs p at first r l z f known = by l.left l.chai
             tag = x.tag;
             inside = c.0.inside;
             what = c.0.what;
-            declared = record { declaration = d.declaration; found = d.found; number = d.number; holds = d.holds; index = d.index ∙ ap (λ m. m + 2 * d.number) (there ∙ ap (λ m. m + 1) (sym c.0.place)) };
+            declared = record { declaration = d.declaration; found = d.found; number = d.number; holds = d.holds; index = d.index ∙ ap (λ m. m + 2 * d.number) (there ∙ ap (λ m. m + 1) (sym c.0.index)) };
             nearest_says = e ∙ ap (λ q. first_of q (nearest p (tags_in xs))) d.found;
           };
           missing = λ k up u. absurd (false≢true (sym k));

@@ -131,7 +131,7 @@ element_holds nest first s e c k x p xs h =
 
 pub chain_holds : (nest : Forest) (first : ℕ) → Shallow 0 nest → (hs : List Holder) → Chain (all nest first) hs → ChainHolds (records nest first) hs
 chain_holds nest first s [] c = tt
-chain_holds nest first s (x ∷ xs) c = (element_holds nest first s c.0.entry c.0.there (ap kind_of c.0.what) x c.0.place xs c.0.holders, chain_holds nest first s xs c.1)
+chain_holds nest first s (x ∷ xs) c = (element_holds nest first s c.0.entry c.0.there (ap kind_of c.0.what) x c.0.index xs c.0.holders, chain_holds nest first s xs c.1)
 
 -- the tags that are open where an element begins, its own included
 pub opened_at : (nest : Forest) (first : ℕ) → Shallow 0 nest → (e : Entry) (x : Holder) → HolderIn (all nest first) x e.holders → Chain (all nest first) e.holders → (open_tags : List ℕ) → IsOpenBefore open_tags (records nest first) (x.index + 1) → Opened open_tags (x ∷ e.holders)

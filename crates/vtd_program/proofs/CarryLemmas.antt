@@ -10,11 +10,11 @@ use Rattle.vtd_program.specs.declared.running.Status.TheVariants as statuses
 use Rattle.vtd_program.specs.Lines.{lines, command, IsLine}
 use Rattle.vtd_program.specs.Meaning.{Outcome, carried_out, step, refused_line, SendsAll, SendsPrefix, IsPrefix, CarriesLine, Carries}
 
--- with this in@prefix of its output
+-- with this in front of its output
 abbrev pub after_output : List ℕ → Outcome → Outcome
 after_output out m = record m { out = out ++ m.out }
 
--- What was taken is in@prefix of what the lines that are left mean.
+-- What was taken is in front of what the lines that are left mean.
 pub record Carrying (whole left : Outcome) (before : List ℕ) (now : Option (List ℕ)) : Type 0 where
   pub out : List ℕ
   pub taken : now ≡ Some (before ++ out)

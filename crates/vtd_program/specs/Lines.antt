@@ -40,7 +40,7 @@ pub record EndsLine (script : List ℕ) (from end : ℕ) : Type 0 where
 abbrev pub IsUnended : List ℕ → ℕ → Type 0
 IsUnended script from = from < length script → lines (drop from script) ≡ drop from script ∷ []
 
--- the line that begins at a place ends before the line feed, and before a carriage return in@prefix of it
+-- the line that begins at a place ends before the line feed, and before a carriage return in front of it
 pub record IsBeforeReturn (script : List ℕ) (from end result : ℕ) : Type 0 where
   pub low : from ≤ result
   pub high : result ≤ end

@@ -257,7 +257,7 @@ found (element t inside space f) h n k =
             | inl p ↦ found_by own all_own (h.index + n) (contains_left own (nodes (inside_of h t) inside)) (tag_found h t inside past n (tag_attributes h t) (same_true _ _ p.is (same_true _ _ q.is k)))
             | inr p ↦
                 found_by (nodes (inside_of h t) inside) all_own (h.index + n) (contains_right own (nodes (inside_of h t) inside))
-                (along _ ((inside_of h t).place + p.index) (h.index + n) (omega (arith, p.place)) (found inside (inside_of h t) p.index (same_true _ _ p.is (same_true _ _ q.is k))))
+                (along _ ((inside_of h t).index + p.index) (h.index + n) (omega (arith, p.place)) (found inside (inside_of h t) p.index (same_true _ _ p.is (same_true _ _ q.is k))))
           ] in
           found_by (map (under (child h.number)) all_own) (nodes h (element t inside space f)) (h.index + n) (contains_left (map (under (child h.number)) all_own) (nodes next f)) (found_under h.number all_own (h.index + n) there)
       | inr q ↦
@@ -282,7 +282,7 @@ name_found bytes nest (suc n) h =
         element = e.element;
         number = e.number;
         holds = e.holds;
-        place = omega (arith, e.index, twice_is e.number);
+        place = omega (arith, e.place, twice_is e.number);
       };
     }
 

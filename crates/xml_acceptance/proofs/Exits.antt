@@ -97,7 +97,7 @@ is_refusal bytes fault k e none r = record { refuses = r; first = λ other l. no
 
 pub refused_utf8 : (bytes : List ℕ) (at : ℕ) → IsValidUpTo bytes at → IsRefusal bytes (faults.Utf8 at)
 refused_utf8 bytes at v =
-    record { refuses = record { within = v.short; prefix = v.prefix; longest = λ n l m. v.longest n l }; first = λ other l r. no_layer other l }
+    record { refuses = record { within = v.short; prefix = v.front; longest = λ n l m. v.longest n l }; first = λ other l r. no_layer other l }
   where
     no_layer : (other : DocFault) → layer other < 1 → ⊥
     no_layer (faults.Utf8 n) l = omega (arith, l)

@@ -56,7 +56,7 @@ pub read_until_reads : (mark : List ℕ) → begins mark [] ≡ false → IsRead
 unfolding read_until
 read_until_reads mark ne = kept_reads (list_all is_char) (until mark) (λ cs. cs) (FitUntil mark) (until_reads mark ne)
 
--- the mark begins nowhere in@prefix of itself, where the text has it nowhere
+-- the mark begins nowhere in front of itself, where the text has it nowhere
 lacks_to : (mark t u : List ℕ) → lacks mark t ≡ true → ((c : ℕ) (cs : List ℕ) → begins mark (c ∷ (cs ++ t)) ≡ begins mark (c ∷ (cs ++ u))) → (cs : List ℕ) → NoneBegins mark cs u → lacks mark (cs ++ t) ≡ true
 lacks_to mark t u none same [] h = none
 lacks_to mark t u none same (c ∷ cs) h = and_from _ _ (not_from_false _ (same c cs ∙ h.0)) (lacks_to mark t u none same cs h.1)

@@ -44,7 +44,7 @@ both {m} {b} {us} {vs} c e = record {
   last = ended-append b us vs ∙ ap (λ x. ended x vs) c.last ∙ e.last;
 }
 
--- one more token in@prefix, that is no bracket
+-- one more token in front, that is no bracket
 ahead : (t : Token) {m : ℕ} (b : Bool) {ts : List Token} → m ≤ rank b t → ((d : ℕ) → depth_after d t ≡ d) → Clean m (ends t) ts → Clean m b (t ∷ ts)
 ahead t {m} b {ts} le plain c = record {
   flat = λ k h. ((λ e. absurd (omega arith)), rw plain (c.flat k h));

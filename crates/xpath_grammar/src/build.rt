@@ -98,7 +98,7 @@ pub fn call(alloc: Global, name: &Text, arguments: Exprs) -> Result<Expr, Fault>
     Ok(Expr::Call { name, arguments })
 }
 
-/// The list with one more expression in@prefix.
+/// The list with one more expression in front.
 pub fn more(alloc: Global, part: Expr, all: Exprs) -> Result<Exprs, Fault>
     ensures { Gives result (λ es. trees_of es ≡ more_trees (tree_of part) (trees_of all)) }
 {
@@ -107,7 +107,7 @@ pub fn more(alloc: Global, part: Expr, all: Exprs) -> Result<Exprs, Fault>
     Ok(Exprs::More(part, all))
 }
 
-/// The steps with one more in@prefix (XPath 1.0, production 3).
+/// The steps with one more in front (XPath 1.0, production 3).
 pub fn step_more(alloc: Global, part: Step, all: Steps) -> Result<Steps, Fault>
     ensures { Gives result (λ s. walk_of s ≡ joined_walks (step_walk part) (walk_of all)) }
 {

@@ -11,4 +11,4 @@ split_at-requires c = (name_cut c.args.text.now c.after_name_chars-rest.result.n
 
 pub returns-clause-read : goal.returns-clause-read
 returns-clause-read c =
-    rw (c.split_at.ensures.prefix, c.split_at.ensures.back) ((name_cut c.args.text.now c.after_name_chars-rest.result.now c.utf8.text c.after_name_chars-rest.utf8 c.after_name_chars-rest.ensures.rest).1 (sym c.begins_name.ensures ∙ c.if-not-begins_name.false))
+    rw (c.split_at.ensures.front, c.split_at.ensures.back) ((name_cut c.args.text.now c.after_name_chars-rest.result.now c.utf8.text c.after_name_chars-rest.utf8 c.after_name_chars-rest.ensures.rest).1 (sym c.begins_name.ensures ∙ c.if-not-begins_name.false))

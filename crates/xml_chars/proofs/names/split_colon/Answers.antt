@@ -19,4 +19,4 @@ pub returns : goal.returns
 returns c =
     let s = colon_split c.args.text.now c.as_bytes.result.now c.in_ok-at.at c.as_bytes.ensures.value c.utf8.text c.in_ok-at.ensures in
     let q = (colon_of (chars c.args.text.now)).some c.in_ok-after.field-0-0 (chars c.in_ok-after.after.now) (sym s.back ∙ ap chars (sym c.split_at.ensures.back) ∙ char_some _ _ _ c.in_ok-after.ensures.read) in
-    (q.0, ap chars c.split_at.ensures.prefix ∙ s.prefix ∙ q.1, q.2)
+    (q.0, ap chars c.split_at.ensures.front ∙ s.prefix ∙ q.1, q.2)

@@ -16,18 +16,18 @@ returns-clause-read c =
     let p : ℕ → Bool = λ x. is_digit x c.args.base in
     run_of_split p c.args.text.now _ _ c.digits_len.result
     (split_run p (digit_low c.args.base c.requires.high) c.args.text.now c.digits_len.result c.utf8.text (c.digits_len.ensures.value ∙ ap (prefix_len p) c.as_bytes.ensures.value))
-    c.split_at.ensures.prefix c.split_at.ensures.back
+    c.split_at.ensures.front c.split_at.ensures.back
 
 pub returns-clause-digits : goal.returns-clause-digits
 returns-clause-digits c =
     let p : ℕ → Bool = λ x. is_digit x c.args.base in
     let n : c.digits_len.result ≡ prefix_len p c.args.text.now = c.digits_len.ensures.value ∙ ap (prefix_len p) c.as_bytes.ensures.value in
-    let prefix : c.split_at.result.0.now ≡ take (prefix_len p c.args.text.now) c.args.text.now = c.split_at.ensures.prefix ∙ ap (λ (k : ℕ). take k c.args.text.now) n in
+    let prefix : c.split_at.result.0.now ≡ take (prefix_len p c.args.text.now) c.args.text.now = c.split_at.ensures.front ∙ ap (λ (k : ℕ). take k c.args.text.now) n in
     ap (list_all p) prefix ∙ (run_takes p c.args.text.now).0
 
 pub returns-clause-ascii : goal.returns-clause-ascii
 returns-clause-ascii c =
     let p : ℕ → Bool = λ x. is_digit x c.args.base in
     let n : c.digits_len.result ≡ prefix_len p c.args.text.now = c.digits_len.ensures.value ∙ ap (prefix_len p) c.as_bytes.ensures.value in
-    let prefix : c.split_at.result.0.now ≡ take (prefix_len p c.args.text.now) c.args.text.now = c.split_at.ensures.prefix ∙ ap (λ (k : ℕ). take k c.args.text.now) n in
+    let prefix : c.split_at.result.0.now ≡ take (prefix_len p c.args.text.now) c.args.text.now = c.split_at.ensures.front ∙ ap (λ (k : ℕ). take k c.args.text.now) n in
     ascii_chars p (digit_low c.args.base c.requires.high) c.split_at.result.0.now (ap (list_all p) prefix ∙ (run_takes p c.args.text.now).0)

@@ -14,4 +14,4 @@ unfolding read_space
 returns-clause-read c =
     run_of_split is_space c.args.text.now _ _ c.space_len.result
     (split_run is_space space_low c.args.text.now c.space_len.result c.utf8.text (c.space_len.ensures.value ∙ ap (prefix_len is_space) c.as_bytes.ensures.value))
-    c.split_at.ensures.prefix c.split_at.ensures.back
+    c.split_at.ensures.front c.split_at.ensures.back

@@ -19,7 +19,7 @@ returns-then-not-is_same-clause-read c =
     let v : IsUtf8 c.in_ok-part.part.after_name.now = search rules in
     let p = part_seen (chars c.args.text.now) c.in_ok-part.part c.in_ok-part.ensures.read in
     let k = part_cut_name (chars c.args.text.now) c.in_ok-part.part p u v in
-    named_other c.args.name.now (chars c.args.text.now) c.in_ok-part.part p (ap (λ l. bytes_eq l c.args.name.now) (sym (ap chars c.split_at.ensures.prefix ∙ k.points)) ∙ sym c.is_same.ensures ∙ c.if-not-is_same.true)
+    named_other c.args.name.now (chars c.args.text.now) c.in_ok-part.part p (ap (λ l. bytes_eq l c.args.name.now) (sym (ap chars c.split_at.ensures.front ∙ k.points)) ∙ sym c.is_same.ensures ∙ c.if-not-is_same.true)
 
 pub split_at-requires-2 : goal.split_at-requires-2
 split_at-requires-2 c =
@@ -36,4 +36,4 @@ returns-clause-read c =
     let u2 : IsUtf8 c.in_ok-part.part.value.now = search rules in
     let v2 : IsUtf8 c.in_ok-part.part.after_value.now = search rules in
     let m = part_cut_value (chars c.args.text.now) c.in_ok-part.part p u2 v2 in
-    named_yes c.args.name.now (chars c.args.text.now) (chars c.split_at-2.result.0.now) c.in_ok-part.part p (ap (λ l. bytes_eq l c.args.name.now) (sym (ap chars c.split_at.ensures.prefix ∙ k.points)) ∙ sym c.is_same.ensures ∙ c.if-not-is_same.false) (ap chars c.split_at-2.ensures.prefix ∙ m.points)
+    named_yes c.args.name.now (chars c.args.text.now) (chars c.split_at-2.result.0.now) c.in_ok-part.part p (ap (λ l. bytes_eq l c.args.name.now) (sym (ap chars c.split_at.ensures.front ∙ k.points)) ∙ sym c.is_same.ensures ∙ c.if-not-is_same.false) (ap chars c.split_at-2.ensures.front ∙ m.points)

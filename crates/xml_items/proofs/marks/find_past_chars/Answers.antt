@@ -16,9 +16,9 @@ split_at-requires c =
 pub returns-then-are_chars-clause-read : goal.returns-then-are_chars-clause-read
 returns-then-are_chars-clause-read c =
     let v : IsUtf8 c.in_ok-rest.rest.now = search rules in
-    sym ((prefix_of c.args.mark.now c.args.text.now c.in_ok-rest.rest.now c.utf8.text v c.in_ok-rest.ensures.read).yes (ap (λ l. list_all is_char (chars l)) (sym c.split_at.ensures.prefix) ∙ sym c.are_chars.ensures ∙ c.if-are_chars.true))
+    sym ((prefix_of c.args.mark.now c.args.text.now c.in_ok-rest.rest.now c.utf8.text v c.in_ok-rest.ensures.read).yes (ap (λ l. list_all is_char (chars l)) (sym c.split_at.ensures.front) ∙ sym c.are_chars.ensures ∙ c.if-are_chars.true))
 
 pub returns-else-are_chars-clause-read : goal.returns-else-are_chars-clause-read
 returns-else-are_chars-clause-read c =
     let v : IsUtf8 c.in_ok-rest.rest.now = search rules in
-    sym ((prefix_of c.args.mark.now c.args.text.now c.in_ok-rest.rest.now c.utf8.text v c.in_ok-rest.ensures.read).none (ap (λ l. list_all is_char (chars l)) (sym c.split_at.ensures.prefix) ∙ sym c.are_chars.ensures ∙ c.if-are_chars.false))
+    sym ((prefix_of c.args.mark.now c.args.text.now c.in_ok-rest.rest.now c.utf8.text v c.in_ok-rest.ensures.read).none (ap (λ l. list_all is_char (chars l)) (sym c.split_at.ensures.front) ∙ sym c.are_chars.ensures ∙ c.if-are_chars.false))

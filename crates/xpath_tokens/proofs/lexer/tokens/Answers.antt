@@ -11,7 +11,7 @@ pub loop-rest-preserved : goal.loop-rest-preserved
 loop-rest-preserved c =
     let rest = c.loop-rest.rest.now in
     let n = c.word_length-count.ensures.count in
-    let prefix = c.split_at.ensures.prefix ∙ ap (λ k. take k rest) n in
+    let prefix = c.split_at.ensures.front ∙ ap (λ k. take k rest) n in
     let back = c.split_at.ensures.back ∙ ap (λ k. drop k rest) n in
     let tok = sym (ap (λ z. token_of c.loop-rest.after z c.split_at.result.1.now) prefix ∙ ap (λ z. token_of c.loop-rest.after (take (word_length rest) rest) z) back) ∙ c.in_ok-next.ensures in
     let some = some_list rest c.is_empty.ensures c.loop-rest-test.true in
@@ -28,7 +28,7 @@ pub returns-in_err-next-clause-syntax : goal.returns-in_err-next-clause-syntax
 returns-in_err-next-clause-syntax c =
     let rest = c.loop-rest.rest.now in
     let n = c.word_length-count.ensures.count in
-    let prefix = c.split_at.ensures.prefix ∙ ap (λ k. take k rest) n in
+    let prefix = c.split_at.ensures.front ∙ ap (λ k. take k rest) n in
     let back = c.split_at.ensures.back ∙ ap (λ k. drop k rest) n in
     let some = some_list rest c.is_empty.ensures c.loop-rest-test.true in
     let within : word_length rest ≤ length rest = let w = c.word_length-count.ensures.within in omega (arith, n, w) in

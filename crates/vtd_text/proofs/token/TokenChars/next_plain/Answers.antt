@@ -11,5 +11,5 @@ split_at-requires c =
 pub returns-clause-content : goal.returns-clause-content
 returns-clause-content c = λ content h.
     let u : IsUtf8 c.args.self.now.text.now = search rules in
-    rw (c.split_at.ensures.prefix, c.split_at.ensures.back)
+    rw (c.split_at.ensures.front, c.split_at.ensures.back)
     ((plain_split c.args.self.now.rule c.args.self.now.text.now c.as_bytes.result.now c.plain_len.result c.as_bytes.ensures.value u c.plain_len.ensures).content content h)
