@@ -55,7 +55,8 @@ module _ (nest : Forest) (first : ℕ) (n : is_nest nest ≡ true) where
             elim (cases_lt z.index y.index) [
               | inl less ↦
                   let pass = attributes_pass nest first n c kc tag y ky p.1 o.held o.after o.before z.index (omega (arith, l, w.0)) less in
-                  let level = eqb-true (level_of (record_at z.index rs)) (suc (length c.holders)) (and_parts _ _ pass).1 in
+                  let level : level_of (record_at z.index rs) ≡ suc (length c.holders) =
+                  eqb-true (level_of (record_at z.index rs)) (suc (length c.holders)) (and_parts _ _ pass).1 in
                   omega (arith, level, levels_shown nest first n z kz, deep, held, one, above)
               | inr same ↦
                   let e : z.index ≡ y.index = omega (arith, not_before, same) in
