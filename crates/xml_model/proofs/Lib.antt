@@ -29,4 +29,5 @@ pub mod TreeOrder
 pub mod Contexts
 pub mod Inside
 pub mod AttributeRuns
+pub mod AttributeSteps
 pub mod Depths

@@ -63,3 +63,11 @@ pub fn parents_of_contexts()
         (cs : List Entry) → AreContexts cs (all nest first) →
         union_list axes.Parent cs (all nest first) ≡ filter (is_parent_of_any cs) (all nest first) }
 {}
+
+/// The attributes of contexts are those of each, one list after another.
+pub fn attributes_of_contexts()
+    ensures { (nest : Forest) (first : ℕ) → is_nest nest ≡ true →
+        (cs : List Entry) → AreContexts cs (all nest first) →
+        union_list axes.Attribute cs (all nest first)
+        ≡ flat_map (λ c. filter (by_indexes axes.Attribute c) (all nest first)) cs }
+{}
