@@ -84,13 +84,13 @@ fn after_first<W: Words>(table: &Table<'_, W>, node: Node) -> u32
     node.at + 1
 }
 
-/// Answers the URIs of names and name tests for the nodes of a document. It keeps the open tags along the records, knows
-/// where the declarations of the document end, and notes what it found out of tags. So nodes that come in document order
-/// cost, together, one read for each record up to the last of them, and for each node a look into the notes for those of
-/// its open tags that are before the end of the declarations; the names of such a tag are walked once for each prefix, as
-/// long as the 8,192 places of the notes have room. Where the document declares nothing, a node costs its own record
-/// alone. A node before the last one that was asked for begins anew at the first record. It sits on the stack, 130 KiB.
-/// Contracts see the bytes and the words of the document.
+/// Answers the URIs of names and name tests for the nodes of a document. It keeps the open tags along the records,
+/// knows where the declarations of the document end, and notes what it found out of tags. So nodes that come in
+/// document order cost, together, one read for each record up to the last of them, and for each node a look into the
+/// notes for those of its open tags that are before the end of the declarations; the names of such a tag are walked
+/// once for each prefix, as long as the 8,192 places of the notes have room. Where the document declares nothing, a
+/// node costs its own record alone. A node before the last one that was asked for begins anew at the first record. It
+/// sits on the stack, 130 KiB. Contracts see the bytes and the words of the document.
 #[derive(Drop)]
 pub struct Resolver<'t, 'a, W: Words> {
     table: &'t Table<'a, W>,
