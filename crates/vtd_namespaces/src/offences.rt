@@ -17,7 +17,7 @@ ghost use Rattle.xml_model.specs.Accepted.{declaration_offends as offends_by_dec
 ghost use Rattle.xml_model.specs.Accepted.{is_reserved as is_reserved_uri, offending_attributes, offending_tag};
 ghost use Rattle.xml_model.specs.Accepted.{repeated, tag_offends};
 ghost use Rattle.vtd_words.specs.Lists.{list_of};
-ghost use Rattle.vtd_words.specs.Table.{IsNestOf, Shows, nodes_of};
+ghost use Rattle.vtd_words.specs.Table.{ForEachNest, Shows, nodes_of};
 ghost use Rattle.vtd_text.specs.NameRecords.{IsDeclaration, IsNameOf};
 ghost use Rattle.vtd_namespaces.specs.Memos.{IsMemoOf};
 ghost use Rattle.vtd_namespaces.specs.NameRecords.{AreAttributeRecords, IsAttributeRecord, IsNameRecord, IsTagRecord};
@@ -39,8 +39,8 @@ use xml_model::TokenKind;
 /// Whether the value of a declaration is one of the two URIs that are bound to `xml` and `xmlns` for ever.
 fn is_reserved<W: Words>(table: &Table<'_, W>, at: u32) -> bool
     requires { IsDeclaration table.now.bytes (W.lists table.now.words) at }
-    ensures { (nest : Forest) → IsNestOf table.now.bytes (W.lists table.now.words) nest → (a : Attribute) →
-        IsNameOf table.now.bytes nest at a → result ≡ is_reserved_uri (value_content a.value) }
+    ensures { ForEachNest table.now.bytes (W.lists table.now.words) (λ nest.
+        (a : Attribute) → IsNameOf table.now.bytes nest at a → result ≡ is_reserved_uri (value_content a.value)) }
 {
     equals_str(Chars::of_declaration(table, at), XML_URI)
         || equals_str(Chars::of_declaration(table, at), XMLNS_URI)
@@ -50,9 +50,9 @@ fn is_reserved<W: Words>(table: &Table<'_, W>, at: u32) -> bool
 /// Prefixes and Namespace Names', and section 5, constraint 'No Prefix Undeclaring').
 fn declaration_offends<W: Words>(table: &Table<'_, W>, at: u32, name: &[u8]) -> bool
     requires { IsDeclaration table.now.bytes (W.lists table.now.words) at }
-    ensures { (nest : Forest) → IsNestOf table.now.bytes (W.lists table.now.words) nest → (a : Attribute) →
-        IsNameOf table.now.bytes nest at a →
-        name.now ≡ encode_utf8_all a.name → result ≡ offends_by_declaration a.name (value_content a.value) }
+    ensures { ForEachNest table.now.bytes (W.lists table.now.words) (λ nest.
+        (a : Attribute) → IsNameOf table.now.bytes nest at a → name.now ≡ encode_utf8_all a.name →
+        result ≡ offends_by_declaration a.name (value_content a.value)) }
 {
     if name == DEFAULT {
         return is_reserved(table, at);
