@@ -1,5 +1,5 @@
 -- What a memo notes of tags and prefixes.
-use Rattle.std.proofs.Common.{◌≡◌, ℕ, zero, suc, ◌+◌, ◌<◌, ◌≤◌, List, length, set, refl, ap, sym, ◌∙◌, subst, arith, Option, Some, None, IfSome, ◌⊎◌, ⊎_elim, inl, inr, get_or-set_same, get_or-set_other, bytes_eq, true}
+use Rattle.std.proofs.Common.{◌≡◌, ℕ, zero, suc, ◌+◌, ◌<◌, ◌≤◌, List, length, set, refl, ap, sym, ◌∙◌, subst, arith, Option, Some, None, IfSome, ◌⊎◌, ⊎_elim, inl, inr, get_or-set_same, get_or-set_other}
 use Rattle.std.specs.Prelude.{take, drop, encode_utf8_all}
 use Rattle.std.specs.Option.{unwrap_or}
 use Rattle.std.specs.List.{slice_index_or}

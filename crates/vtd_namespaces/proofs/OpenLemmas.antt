@@ -1,6 +1,39 @@
 -- The tags that are open at a record, by depth: the last starting tag of each depth before it.
-use Rattle.std.proofs.Common.{◌≡◌, ℕ, zero, suc, ◌+◌, ◌<◌, ◌≤◌, Bool, true, false, cond, ◌&&◌, ◌==◌, nat_lt, List, [], ◌∷◌, ◌++◌, length, take, refl, ap, ap₂, sym, ◌∙◌, subst, arith, Some,
-    slice_set, add-zero, zero-add, ne_eqb, length-append}
+use Rattle.std.proofs.Common.{
+  ◌≡◌,
+  ℕ,
+  zero,
+  suc,
+  ◌+◌,
+  ◌<◌,
+  ◌≤◌,
+  Bool,
+  true,
+  false,
+  cond,
+  ◌&&◌,
+  ◌==◌,
+  nat_lt,
+  List,
+  [],
+  ◌∷◌,
+  ◌++◌,
+  length,
+  take,
+  refl,
+  ap,
+  ap₂,
+  sym,
+  ◌∙◌,
+  subst,
+  arith,
+  Some,
+  slice_set,
+  add-zero,
+  zero-add,
+  ne_eqb,
+  length-append,
+}
 use Rattle.std.specs.Prelude.{replicate}
 use Rattle.std.specs.List.{slice_index_or, Contains}
 use Rattle.std.proofs.lemmas.Bool.{eq-eqb}
@@ -9,7 +42,7 @@ use Rattle.std.proofs.Math.Seq.{take-suc-set}
 use Rattle.xml_model.specs.Records.{Record, records}
 use Rattle.xml_model.specs.declared.Kind.TheVariants as kinds
 use Rattle.xml_model.specs.Levels.{is_tag}
-use Rattle.xml_model.specs.Scan.{record_at, level_of, tag_or, last_tag, kind_of_token}
+use Rattle.xml_model.specs.Scan.{record_at, level_of, tag_or, last_tag}
 use Rattle.xml_model.specs.Slots.{slots_with, slots_after, holder_indexes}
 use Rattle.xml_model.specs.Tree.{Entry, Holder, all, kind_of}
 use Rattle.xml_model.specs.Nest.{Forest, is_nest}

@@ -1,5 +1,5 @@
 -- The elements whose declarations reach a node, by the tags that are open where its first record is.
-use Rattle.std.proofs.Common.{◌≡◌, ℕ, suc, ◌+◌, ◌<◌, ◌^◌, Bool, true, false, cond, ◌==◌, List, ◌∷◌, length, refl, ap, sym, ◌∙◌, subst, arith, Some, None, Option, ne_eqb}
+use Rattle.std.proofs.Common.{◌≡◌, ℕ, suc, ◌+◌, ◌<◌, ◌^◌, Bool, true, false, cond, ◌==◌, List, length, refl, ap, sym, ◌∙◌, subst, arith, Some, None, Option, ne_eqb}
 use Rattle.std.specs.List.{Contains}
 use Rattle.std.proofs.lemmas.Bool.{eq-eqb}
 use Rattle.xml_model.specs.declared.Kind.{Kind}
@@ -20,7 +20,7 @@ use Rattle.vtd_words.proofs.Fitting.{nest_shown}
 use Rattle.vtd_namespaces.specs.Reach.{reaching, with_own}
 use Rattle.vtd_namespaces.specs.NodeNames.{HasExpandedName}
 use Rattle.vtd_namespaces.specs.OpenTags.{open_before}
-use Rattle.vtd_namespaces.specs.Scope.{Chain, Opened, IsNearest, tags_in}
+use Rattle.vtd_namespaces.specs.Scope.{Chain, Opened, tags_in}
 use Rattle.vtd_namespaces.specs.Undeclared.{NoneDeclared, NoneDeclares}
 use Rattle.vtd_namespaces.specs.Reach.{reach_of}
 use Rattle.vtd_namespaces.proofs.NameRecordLemmas.{document_holds}

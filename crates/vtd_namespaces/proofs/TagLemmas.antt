@@ -1,8 +1,7 @@
 -- Whether a tag's names offend, and what a document's nodes have of it.
-use Rattle.std.proofs.Common.{◌≡◌, ℕ, suc, ◌+◌, ◌<◌, ◌^◌, Bool, true, false, cond, not, ◌||◌, List, [], ◌∷◌, ◌++◌, length, refl, ap, ap₂, sym, ◌∙◌, subst, arith, Option, Some, None, bytes_eq, codes, ◌==◌, ◌⊎◌, ⊎_elim, IfSome, is_some}
+use Rattle.std.proofs.Common.{◌≡◌, ℕ, ◌+◌, ◌<◌, ◌^◌, Bool, true, false, cond, not, ◌||◌, List, [], ◌∷◌, ◌++◌, length, refl, ap, ap₂, sym, ◌∙◌, subst, arith, Option, Some, None, bytes_eq, codes, ◌⊎◌, ⊎_elim, IfSome, is_some}
 use Rattle.std.specs.Prelude.{encode_utf8_all}
 use Rattle.std.specs.List.{AllByRecursion as Each, Contains, flat_map}
-use Rattle.std.proofs.Math.Utf8.{encode}
 use Rattle.std.proofs.lemmas.Bool.{false≢true}
 use Rattle.xml_model.specs.declared.Kind.{Kind}
 use Rattle.xml_model.specs.declared.Kind.TheVariants as kinds
@@ -10,7 +9,7 @@ use Rattle.xml_model.specs.Chars.{size, prefix_of, is_name, is_qname, has_colon}
 use Rattle.xml_model.specs.Items.{Tag, first_place}
 use Rattle.xml_model.specs.Nest.{Forest}
 use Rattle.xml_model.specs.Records.{Record, records, attributes_place}
-use Rattle.xml_model.specs.Scan.{record_at, level_of, kind_of_token, is_start_token}
+use Rattle.xml_model.specs.Scan.{record_at, kind_of_token, is_start_token}
 use Rattle.xml_model.specs.Tree.{Thing, Entry, Holder, all, kind_of}
 use Rattle.xml_model.specs.Names.{tags_of}
 use Rattle.xml_model.specs.Laws.{FirstRecordShows}

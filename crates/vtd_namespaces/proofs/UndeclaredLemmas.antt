@@ -1,6 +1,5 @@
 -- Tags after the last declaration of a document declare nothing.
-use Rattle.std.proofs.Common.{◌≡◌, ℕ, zero, suc, ◌+◌, ◌≤◌, ◌<◌, true, false, cond, List, [], ◌∷◌, length, refl, ap, sym, ◌∙◌, subst, arith, Some, None, bytes_eq, find, ◌⊎◌, ⊎_elim}
-use Rattle.std.specs.Prelude.{◌==◌}
+use Rattle.std.proofs.Common.{◌≡◌, ℕ, zero, suc, ◌+◌, ◌≤◌, false, cond, List, [], ◌∷◌, length, refl, ap, ◌∙◌, subst, arith, Some, None, bytes_eq, find, ⊎_elim}
 use Rattle.std.specs.List.{AllByRecursion as Each, Contains}
 use Rattle.std.proofs.lemmas.Bool.{cases_lt}
 use Rattle.xml_model.specs.Chars.{size}

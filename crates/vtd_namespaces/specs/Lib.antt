@@ -3,7 +3,6 @@ pub mod NodeNames
 pub mod Uris
 pub mod OpenTags
 pub mod Undeclared
-
 -- What private functions promise.
 pub mod NameRecords
 pub mod Faults

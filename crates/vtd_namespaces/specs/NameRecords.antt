@@ -1,6 +1,6 @@
 -- How the names of a document are in its bytes and its records (this project's own). A tag's record is followed by two
 -- for each attribute: its name, of type 2, or 3 where it declares a namespace, and its value.
-use Rattle.std.specs.Prelude.{◌≡◌, ℕ, ◌+◌, ◌<◌, Bool, true, false, ◌||◌, List, [], ◌∷◌, length, take, drop, ◌==◌}
+use Rattle.std.specs.Prelude.{◌≡◌, ℕ, ◌+◌, ◌<◌, true, false, List, [], ◌∷◌, length}
 use Rattle.std.specs.Prelude.{encode_utf8_all}
 use Rattle.std.specs.Prelude.{⊤}
 use Rattle.xml_model.specs.Chars.{size, prefix_of, is_name}

@@ -43,8 +43,8 @@ abbrev pub IsNoted : List Tag → List ℕ → Attribute → Type 0
 IsNoted tags slots a = not (declares a.name) ≡ true → (prefix_of a.name ≡ [] → ⊥) →
     is_taken slots (key_of tags a) ≡ true
 
--- a declaration is the nearest one of an attribute's prefix, where the attribute has a prefix and is no declaration, by the
--- record of its name
+-- a declaration is the nearest one of an attribute's prefix, where the attribute has a prefix and is no declaration, by
+-- the record of its name
 abbrev pub NearestOf : List ℕ → Forest → List Holder → Record → Attribute → Option ℕ → Type 0
 NearestOf bytes nest hs r a declaration = r.token ≢ kind_number token.NamespaceName → r.prefix ≢ 0 →
     IsNearest (nodes_of bytes nest) hs (prefix_of a.name) declaration

@@ -49,7 +49,8 @@ abbrev pub some_of : ℕ → Option ℕ
 some_of zero = None
 some_of (suc n) = Some (suc n)
 
--- the record of the name of a tag's declaration of the prefix that the bytes at a place are, or none, by the tag's record
+-- the record of the name of a tag's declaration of the prefix that the bytes at a place are, or none, by the tag's
+-- record
 pub record IsKnown (bytes words : List ℕ) (tag offset len declaration : ℕ) : Type 0 where
   pub found : (rs : List Record) → Shows words rs → (at : ℕ) (t : Tag) →
       AreAttributeRecords bytes rs (tag + 1) at t.attributes →
@@ -64,8 +65,8 @@ IsMemo bytes words tags offsets lens declarations = (k : ℕ) → 0 < slice_inde
     IsKnown bytes words (slice_index_or tags k 0) (slice_index_or offsets k 0) (slice_index_or lens k 0)
     (slice_index_or declarations k 0)
 
--- the open tags of a resolver are those after the records that it passed, it knows where the declarations end, and its memo is
--- of the document
+-- the open tags of a resolver are those after the records that it passed, it knows where the declarations end, and its
+-- memo is of the document
 pub record IsResolver (bytes : List ℕ) (lists : Lists) (open_tags : List ℕ) (passed end : ℕ)
     (tags offsets lens declarations : List ℕ) : Type 0 where
   pub few : length bytes < 2 ^ 30

@@ -1,11 +1,9 @@
 -- The elements that hold what is at a record, with the declarations in their tags (this project's own).
-use Rattle.std.specs.Prelude.{◌≡◌, ℕ, ◌+◌, ◌*◌, ◌<◌, List, [], ◌∷◌, map, length, Option, Some, None, Contains}
+use Rattle.std.specs.Prelude.{◌≡◌, ℕ, ◌+◌, ◌*◌, List, [], ◌∷◌, map, length, Option, Some, None, Contains}
 use Rattle.std.specs.Prelude.{slice_get, MatchOption, ⊤}
 use Rattle.std.specs.List.{slice_index_or}
 use Rattle.xml_model.specs.Items.{Attribute, Tag}
 use Rattle.xml_model.specs.Nest.{Forest}
-use Rattle.xml_model.specs.Records.{Record}
-use Rattle.xml_model.specs.Scan.{record_at}
 use Rattle.xml_model.specs.Tree.{Thing, Entry, Holder}
 use Rattle.xml_model.specs.Content.{value_content}
 use Rattle.xml_model.specs.Names.{declaration_of, nearest}

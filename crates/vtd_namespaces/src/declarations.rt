@@ -55,7 +55,8 @@ pub fn declaration_in<W: Words>(bytes: &[u8], words: &W, first: u32, prefix: &[u
     let mut number = 0;
     while let Some(parts) = attribute_at(words, first + 2 * number) {
         if parts.token == TokenKind::NamespaceName as u8
-            && is_declaring(slice_of(bytes, parts), prefix) {
+            && is_declaring(slice_of(bytes, parts), prefix)
+        {
             return Some(first + 2 * number);
         }
         number += 1;

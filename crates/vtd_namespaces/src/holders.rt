@@ -2,11 +2,10 @@
 
 ghost use Rattle.std.specs.Prelude.{◌≡◌, ℕ, ◌+◌, ◌<◌, ◌≤◌, ◌≢◌, List, ◌∷◌, length, encode_utf8_all, IfSome};
 ghost use Rattle.vtd_words.specs.Lists.{list_of};
-ghost use Rattle.xml_model.specs.Nest.{Forest};
-ghost use Rattle.xml_model.specs.Tree.{Entry, Holder, Identifies};
+ghost use Rattle.xml_model.specs.Tree.{Holder};
 ghost use Rattle.xml_model.specs.Laws.{holder_index};
 ghost use Rattle.xml_model.specs.Names.{binding};
-ghost use Rattle.vtd_words.specs.Table.{IsNestOf, IsNodeOf, nodes_of};
+ghost use Rattle.vtd_words.specs.Table.{ForEachEntry, ForEachNest, IsNodeOf, nodes_of};
 ghost use Rattle.vtd_text.specs.NameRecords.{IsDeclaration};
 ghost use Rattle.vtd_namespaces.specs.Scope.{tags_in, Chain, IsNearest};
 ghost use Rattle.vtd_namespaces.specs.Uris.{uri_value};
@@ -25,9 +24,9 @@ pub const XML: &[u8] = b"xml";
 /// The record of the element that holds an element, by its record; 0 where none does.
 fn holder_of<W: Words>(table: &Table<'_, W>, tag: u32) -> u32
     requires { IsElementAt table.now.bytes (W.lists table.now.words) tag }
-    ensures found { (nest : Forest) → IsNestOf table.now.bytes (W.lists table.now.words) nest →
+    ensures found { ForEachNest table.now.bytes (W.lists table.now.words) (λ nest.
         (x : Holder) (xs : List Holder) → Chain (nodes_of table.now.bytes nest) (x ∷ xs) → x.index ≡ tag →
-        result ≡ holder_index xs }
+        result ≡ holder_index xs) }
     ensures lower { result < tag }
     ensures element { result ≢ 0 → IsElementAt table.now.bytes (W.lists table.now.words) result }
 {
@@ -56,9 +55,9 @@ fn first_attribute<W: Words>(table: &Table<'_, W>, tag: u32) -> u32
 /// record, or `None` where they have none; 0 stands for no element.
 fn declaration_above<W: Words>(table: &Table<'_, W>, tag: u32, prefix: &[u8]) -> Option<u32>
     requires { tag ≢ 0 → IsElementAt table.now.bytes (W.lists table.now.words) tag }
-    ensures found { (nest : Forest) → IsNestOf table.now.bytes (W.lists table.now.words) nest → (hs : List Holder) →
-        Chain (nodes_of table.now.bytes nest) hs → holder_index hs ≡ tag →
-        (p : List ℕ) → prefix.now ≡ encode_utf8_all p → IsNearest (nodes_of table.now.bytes nest) hs p result }
+    ensures found { ForEachNest table.now.bytes (W.lists table.now.words) (λ nest.
+        (hs : List Holder) → Chain (nodes_of table.now.bytes nest) hs → holder_index hs ≡ tag → (p : List ℕ) →
+        prefix.now ≡ encode_utf8_all p → IsNearest (nodes_of table.now.bytes nest) hs p result) }
     ensures declares { IfSome result (IsDeclaration table.now.bytes (W.lists table.now.words)) }
 {
     let mut at = tag;
@@ -81,9 +80,9 @@ pub fn uri_by<'a, W: Words>(
     declaration: Option<u32>,
 ) -> Uri<'a, W>
     requires { IfSome declaration (IsDeclaration table.now.bytes (W.lists table.now.words)) }
-    ensures { (nest : Forest) → IsNestOf table.now.bytes (W.lists table.now.words) nest → (hs : List Holder) →
-        (p : List ℕ) → prefix.now ≡ encode_utf8_all p → IsNearest (nodes_of table.now.bytes nest) hs p declaration →
-        uri_value result ≡ binding p (tags_in hs) }
+    ensures { ForEachNest table.now.bytes (W.lists table.now.words) (λ nest.
+        (hs : List Holder) → (p : List ℕ) → prefix.now ≡ encode_utf8_all p →
+        IsNearest (nodes_of table.now.bytes nest) hs p declaration → uri_value result ≡ binding p (tags_in hs)) }
 {
     if prefix == XML {
         return Uri::Xml;
@@ -103,9 +102,9 @@ pub fn uri_by<'a, W: Words>(
 /// bound.
 pub fn uri_of_prefix<'a, W: Words>(table: &Table<'a, W>, tag: u32, prefix: &[u8]) -> Uri<'a, W>
     requires { tag ≢ 0 → IsElementAt table.now.bytes (W.lists table.now.words) tag }
-    ensures { (nest : Forest) → IsNestOf table.now.bytes (W.lists table.now.words) nest →
-        (hs : List Holder) → Chain (nodes_of table.now.bytes nest) hs → holder_index hs ≡ tag →
-        (p : List ℕ) → prefix.now ≡ encode_utf8_all p → uri_value result ≡ binding p (tags_in hs) }
+    ensures { ForEachNest table.now.bytes (W.lists table.now.words) (λ nest.
+        (hs : List Holder) → Chain (nodes_of table.now.bytes nest) hs → holder_index hs ≡ tag → (p : List ℕ) →
+        prefix.now ≡ encode_utf8_all p → uri_value result ≡ binding p (tags_in hs)) }
 {
     if prefix == XML {
         return Uri::Xml;
@@ -117,8 +116,8 @@ pub fn uri_of_prefix<'a, W: Words>(table: &Table<'a, W>, tag: u32, prefix: &[u8]
 pub fn nearest_element<W: Words>(table: &Table<'_, W>, node: Node) -> u32
     requires node { IsNodeOf table.now.bytes (W.lists table.now.words) node }
     requires named { HasExpandedName node.kind }
-    ensures found { (nest : Forest) → IsNestOf table.now.bytes (W.lists table.now.words) nest → (e : Entry) →
-        Identifies node.kind node.at e (nodes_of table.now.bytes nest) → result ≡ holder_index (reaching e) }
+    ensures found { ForEachEntry table.now.bytes (W.lists table.now.words) node (λ nest e.
+        result ≡ holder_index (reaching e)) }
     ensures element { result ≢ 0 → IsElementAt table.now.bytes (W.lists table.now.words) result }
 {
     match node.kind {

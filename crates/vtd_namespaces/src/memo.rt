@@ -36,8 +36,8 @@ const PLACES: usize = 8_192;
 /// How many places are looked at for one tag and prefix.
 const STEPS: usize = 4;
 
-/// For tags and prefixes, the record of the name of the tag's declaration of the prefix. A place is free where the tag is 0;
-/// the prefix is there by its place in the document; the declaration is 0 where the tag has none.
+/// For tags and prefixes, the record of the name of the tag's declaration of the prefix. A place is free where the tag
+/// is 0; the prefix is there by its place in the document; the declaration is 0 where the tag has none.
 #[derive(Drop)]
 pub struct Memo {
     pub tags: [u32; PLACES],
@@ -71,7 +71,8 @@ fn is_for(bytes: &[u8], memo: &Memo, place: usize, tag: u32, prefix: &[u8]) -> b
     ensures some { result ≡ true → 0 < tag }
     ensures tag { result ≡ true → slice_index_or memo.now.tags place 0 ≡ tag }
     ensures prefix { result ≡ true →
-        take (slice_index_or memo.now.lens place 0) (drop (slice_index_or memo.now.offsets place 0) bytes.now) ≡ prefix.now }
+        take (slice_index_or memo.now.lens place 0) (drop (slice_index_or memo.now.offsets place 0) bytes.now) ≡
+        prefix.now }
 {
     if tag == 0 {
         return false;
@@ -121,9 +122,9 @@ fn note(memo: &mut Memo, place: usize, tag: u32, offset: u32, len: u32, declarat
     memo.declarations[place] = declaration;
 }
 
-/// The record of the name of a tag's declaration of a prefix, or `None` where the tag has none, by the tag's record: out of a
-/// memo, or by a look along the tag's names, which is noted. The prefix has its length and its place in the document beside it.
-/// No record from `end` on is of a declaration's name.
+/// The record of the name of a tag's declaration of a prefix, or `None` where the tag has none, by the tag's record:
+/// out of a memo, or by a look along the tag's names, which is noted. The prefix has its length and its place in the
+/// document beside it. No record from `end` on is of a declaration's name.
 fn known_declaration<W: Words>(
     bytes: &[u8],
     words: &W,
@@ -154,13 +155,20 @@ fn known_declaration<W: Words>(
     }
     let found = declaration_in(bytes, words, tag + 1, prefix.text);
     if bytes_at(bytes, prefix.offset, prefix.len) == prefix.text {
-        note(memo, place, tag, prefix.offset, prefix.len, found.unwrap_or(0));
+        note(
+            memo,
+            place,
+            tag,
+            prefix.offset,
+            prefix.len,
+            found.unwrap_or(0),
+        );
     }
     found
 }
 
-/// The record of the name of the nearest declaration of a prefix in the first so many open tags, or `None` where they have
-/// none, with a memo of what tags declare. No record from `end` on is of a declaration's name.
+/// The record of the name of the nearest declaration of a prefix in the first so many open tags, or `None` where they
+/// have none, with a memo of what tags declare. No record from `end` on is of a declaration's name.
 pub fn nearest_known<W: Words>(
     bytes: &[u8],
     words: &W,

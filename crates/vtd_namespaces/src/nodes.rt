@@ -2,10 +2,8 @@
 //! 1.0, sections 2.3 and 5).
 
 ghost use Rattle.std.specs.Prelude.{◌≡◌, encode_utf8_all};
-ghost use Rattle.xml_model.specs.Nest.{Forest};
-ghost use Rattle.xml_model.specs.Tree.{Entry, Identifies};
 ghost use Rattle.xml_model.specs.Names.{expanded, name_passes};
-ghost use Rattle.vtd_words.specs.Table.{IsNestOf, IsNodeOf, nodes_of};
+ghost use Rattle.vtd_words.specs.Table.{ForEachEntry, IsNodeOf};
 ghost use Rattle.vtd_namespaces.specs.Uris.{uri_value};
 ghost use Rattle.vtd_namespaces.specs.NodeNames.{node_local, node_prefix, test_of, uri_in, HasExpandedName, HasName};
 
@@ -22,9 +20,8 @@ use xml_model::{Kind, NameTest, Node, TokenKind};
 pub fn prefix_of<'a, W: Words>(table: &Table<'a, W>, node: Node) -> &'a [u8]
     requires node { IsNodeOf table.now.bytes (W.lists table.now.words) node }
     requires named { HasName node.kind }
-    ensures { (nest : Forest) → IsNestOf table.now.bytes (W.lists table.now.words) nest → (e : Entry) →
-        Identifies node.kind node.at e (nodes_of table.now.bytes nest) →
-        result.now ≡ encode_utf8_all (node_prefix e.what) }
+    ensures { ForEachEntry table.now.bytes (W.lists table.now.words) node (λ nest e.
+        result.now ≡ encode_utf8_all (node_prefix e.what)) }
 {
     let parts = parts_at(table.words(), node.at);
     if parts.token == TokenKind::Target as u8 {
@@ -38,9 +35,8 @@ pub fn prefix_of<'a, W: Words>(table: &Table<'a, W>, node: Node) -> &'a [u8]
 pub fn local_of<'a, W: Words>(table: &Table<'a, W>, node: Node) -> &'a [u8]
     requires node { IsNodeOf table.now.bytes (W.lists table.now.words) node }
     requires named { HasName node.kind }
-    ensures { (nest : Forest) → IsNestOf table.now.bytes (W.lists table.now.words) nest → (e : Entry) →
-        Identifies node.kind node.at e (nodes_of table.now.bytes nest) →
-        result.now ≡ encode_utf8_all (node_local e.what) }
+    ensures { ForEachEntry table.now.bytes (W.lists table.now.words) node (λ nest e.
+        result.now ≡ encode_utf8_all (node_local e.what)) }
 {
     let parts = parts_at(table.words(), node.at);
     let name = slice_of(table.bytes(), parts);
@@ -56,9 +52,8 @@ pub fn local_of<'a, W: Words>(table: &Table<'a, W>, node: Node) -> &'a [u8]
 pub fn uri_of<'a, W: Words>(table: &Table<'a, W>, node: Node) -> Uri<'a, W>
     requires node { IsNodeOf table.now.bytes (W.lists table.now.words) node }
     requires named { HasName node.kind }
-    ensures { (nest : Forest) → IsNestOf table.now.bytes (W.lists table.now.words) nest → (e : Entry) →
-        Identifies node.kind node.at e (nodes_of table.now.bytes nest) →
-        uri_value result ≡ uri_in (expanded e) }
+    ensures { ForEachEntry table.now.bytes (W.lists table.now.words) node (λ nest e.
+        uri_value result ≡ uri_in (expanded e)) }
 {
     let prefix = prefix_of(table, node);
     match node.kind {
@@ -78,9 +73,8 @@ pub fn uri_of<'a, W: Words>(table: &Table<'a, W>, node: Node) -> Uri<'a, W>
 pub fn matches<W: Words>(table: &Table<'_, W>, node: Node, test: &NameTest<'_>) -> bool
     requires node { IsNodeOf table.now.bytes (W.lists table.now.words) node }
     requires named { HasExpandedName node.kind }
-    ensures { (nest : Forest) → IsNestOf table.now.bytes (W.lists table.now.words) nest → (e : Entry) →
-        Identifies node.kind node.at e (nodes_of table.now.bytes nest) →
-        result ≡ name_passes (test_of test.now) (expanded e) }
+    ensures { ForEachEntry table.now.bytes (W.lists table.now.words) node (λ nest e.
+        result ≡ name_passes (test_of test.now) (expanded e)) }
 {
     match *test {
         NameTest::Any => true,

@@ -17,7 +17,7 @@ ghost use Rattle.xml_model.specs.Accepted.{declaration_offends as offends_by_dec
 ghost use Rattle.xml_model.specs.Accepted.{is_reserved as is_reserved_uri, offending_attributes, offending_tag};
 ghost use Rattle.xml_model.specs.Accepted.{repeated, tag_offends};
 ghost use Rattle.vtd_words.specs.Lists.{list_of};
-ghost use Rattle.vtd_words.specs.Table.{IsNestOf, Shows, nodes_of};
+ghost use Rattle.vtd_words.specs.Table.{ForEachNest, Shows, nodes_of};
 ghost use Rattle.vtd_text.specs.NameRecords.{IsDeclaration, IsNameOf};
 ghost use Rattle.vtd_namespaces.specs.Memos.{IsMemoOf};
 ghost use Rattle.vtd_namespaces.specs.NameRecords.{AreAttributeRecords, IsAttributeRecord, IsNameRecord, IsTagRecord};
@@ -39,8 +39,8 @@ use xml_model::TokenKind;
 /// Whether the value of a declaration is one of the two URIs that are bound to `xml` and `xmlns` for ever.
 fn is_reserved<W: Words>(table: &Table<'_, W>, at: u32) -> bool
     requires { IsDeclaration table.now.bytes (W.lists table.now.words) at }
-    ensures { (nest : Forest) → IsNestOf table.now.bytes (W.lists table.now.words) nest → (a : Attribute) →
-        IsNameOf table.now.bytes nest at a → result ≡ is_reserved_uri (value_content a.value) }
+    ensures { ForEachNest table.now.bytes (W.lists table.now.words) (λ nest.
+        (a : Attribute) → IsNameOf table.now.bytes nest at a → result ≡ is_reserved_uri (value_content a.value)) }
 {
     equals_str(Chars::of_declaration(table, at), XML_URI)
         || equals_str(Chars::of_declaration(table, at), XMLNS_URI)
@@ -50,9 +50,9 @@ fn is_reserved<W: Words>(table: &Table<'_, W>, at: u32) -> bool
 /// Prefixes and Namespace Names', and section 5, constraint 'No Prefix Undeclaring').
 fn declaration_offends<W: Words>(table: &Table<'_, W>, at: u32, name: &[u8]) -> bool
     requires { IsDeclaration table.now.bytes (W.lists table.now.words) at }
-    ensures { (nest : Forest) → IsNestOf table.now.bytes (W.lists table.now.words) nest → (a : Attribute) →
-        IsNameOf table.now.bytes nest at a →
-        name.now ≡ encode_utf8_all a.name → result ≡ offends_by_declaration a.name (value_content a.value) }
+    ensures { ForEachNest table.now.bytes (W.lists table.now.words) (λ nest.
+        (a : Attribute) → IsNameOf table.now.bytes nest at a → name.now ≡ encode_utf8_all a.name →
+        result ≡ offends_by_declaration a.name (value_content a.value)) }
 {
     if name == DEFAULT {
         return is_reserved(table, at);
@@ -152,8 +152,8 @@ fn has_twin<W: Words>(
 
 /// Whether an attribute or a declaration of the nearest tag offends, by the number of attributes before it, none of
 /// which offends; the record of the first of them has the index `first`. No two of them have one name. Where it is
-/// known to be new, none of them has its expanded name. The declaration is the nearest one of its prefix, where it is an
-/// attribute that has one.
+/// known to be new, none of them has its expanded name. The declaration is the nearest one of its prefix, where it is
+/// an attribute that has one.
 fn attribute_offends<W: Words>(
     scope: &Scope<'_, '_, W>,
     first: u32,
@@ -240,7 +240,7 @@ fn attributes_offence_in_many<W: Words>(
     ensures offence { (nest : Forest) (x : Holder) (xs : List Holder) → IsScope scope.now.table.now.bytes
         (W.lists scope.now.table.now.words) scope.now.open_tags.now scope.now.depth nest (x ∷ xs) →
         first ≡ x.index + 1 → (at : ℕ) → AreAttributeRecords scope.now.table.now.bytes
-          (records nest (first_place scope.now.table.now.bytes)) first at x.tag.attributes →
+        (records nest (first_place scope.now.table.now.bytes)) first at x.tag.attributes →
         repeated at [] x.tag.attributes ≡ [] →
         result ≡ first_of (offending_attributes (tags_in (x ∷ xs)) at [] x.tag.attributes) }
 {
@@ -271,7 +271,7 @@ fn attributes_offence<W: Words>(
     ensures offence { (nest : Forest) (x : Holder) (xs : List Holder) → IsScope scope.now.table.now.bytes
         (W.lists scope.now.table.now.words) scope.now.open_tags.now scope.now.depth nest (x ∷ xs) →
         first ≡ x.index + 1 → (at : ℕ) → AreAttributeRecords scope.now.table.now.bytes
-          (records nest (first_place scope.now.table.now.bytes)) first at x.tag.attributes →
+        (records nest (first_place scope.now.table.now.bytes)) first at x.tag.attributes →
         repeated at [] x.tag.attributes ≡ [] →
         result ≡ first_of (offending_attributes (tags_in (x ∷ xs)) at [] x.tag.attributes) }
 {
@@ -306,7 +306,7 @@ fn tag_name_offends<W: Words>(
     ensures offends { (nest : Forest) (x : Holder) (xs : List Holder) → IsScope scope.now.table.now.bytes
         (W.lists scope.now.table.now.words) scope.now.open_tags.now scope.now.depth nest (x ∷ xs) →
         (at : ℕ) → IsTagRecord scope.now.table.now.bytes (records nest (first_place scope.now.table.now.bytes)) tag at
-          x.tag →
+        x.tag →
         result ≡ tag_offends (tags_in (x ∷ xs)) x.tag.name }
 {
     let name = slice_of(scope.table.bytes(), parts);
@@ -330,11 +330,7 @@ fn tag_name_offends<W: Words>(
 
 /// Where the first name of the nearest tag begins that offends, by the index of the tag's record; no two names of its
 /// attributes and declarations are one.
-pub fn tag_offence<W: Words>(
-    scope: &Scope<'_, '_, W>,
-    memo: &mut Memo,
-    tag: u32,
-) -> Option<u32>
+pub fn tag_offence<W: Words>(scope: &Scope<'_, '_, W>, memo: &mut Memo, tag: u32) -> Option<u32>
     requires known { IsMemoOf scope.now.table.now.bytes (W.lists scope.now.table.now.words).records memo.old }
     requires tag { tag < length (list_of Part.Records (W.lists scope.now.table.now.words)) }
     ensures known { IsMemoOf scope.now.table.now.bytes (W.lists scope.now.table.now.words).records memo.new }

@@ -2,12 +2,10 @@
 
 ghost use Rattle.std.specs.Prelude.{◌≡◌, ℕ, ◌+◌, ◌<◌, ◌≤◌, ◌^◌, List, length, encode_utf8_all, IfSome};
 ghost use Rattle.xml_model.specs.Names.{binding, expanded, name_passes};
-ghost use Rattle.xml_model.specs.Nest.{Forest};
 ghost use Rattle.xml_model.specs.Records.{Record};
-ghost use Rattle.xml_model.specs.Tree.{Entry, Identifies};
 ghost use Rattle.vtd_words.specs.Lists.{list_of};
 ghost use Rattle.vtd_words.specs.Packed.{record_of};
-ghost use Rattle.vtd_words.specs.Table.{IsNestOf, IsNodeOf, Shows, nodes_of};
+ghost use Rattle.vtd_words.specs.Table.{ForEachEntry, IsNodeOf, Shows, nodes_of};
 ghost use Rattle.vtd_text.specs.NameRecords.{IsDeclaration};
 ghost use Rattle.vtd_namespaces.specs.Reach.{reaching};
 ghost use Rattle.vtd_namespaces.specs.NodeNames.{test_of, uri_in, HasExpandedName, HasName};
@@ -84,13 +82,13 @@ fn after_first<W: Words>(table: &Table<'_, W>, node: Node) -> u32
     node.at + 1
 }
 
-/// Answers the URIs of names and name tests for the nodes of a document. It keeps the open tags along the records, knows
-/// where the declarations of the document end, and notes what it found out of tags. So nodes that come in document order
-/// cost, together, one read for each record up to the last of them, and for each node a look into the notes for those of
-/// its open tags that are before the end of the declarations; the names of such a tag are walked once for each prefix, as
-/// long as the 8,192 places of the notes have room. Where the document declares nothing, a node costs its own record
-/// alone. A node before the last one that was asked for begins anew at the first record. It sits on the stack, 130 KiB.
-/// Contracts see the bytes and the words of the document.
+/// Answers the URIs of names and name tests for the nodes of a document. It keeps the open tags along the records,
+/// knows where the declarations of the document end, and notes what it found out of tags. So nodes that come in
+/// document order cost, together, one read for each record up to the last of them, and for each node a look into the
+/// notes for those of its open tags that are before the end of the declarations; the names of such a tag are walked
+/// once for each prefix, as long as the 8,192 places of the notes have room. Where the document declares nothing, a
+/// node costs its own record alone. A node before the last one that was asked for begins anew at the first record. It
+/// sits on the stack, 130 KiB. Contracts see the bytes and the words of the document.
 #[derive(Drop)]
 pub struct Resolver<'t, 'a, W: Words> {
     table: &'t Table<'a, W>,
@@ -132,10 +130,9 @@ impl<'t, 'a, W: Words> Resolver<'t, 'a, W> {
         requires node { IsNodeOf self.old.bytes (W.lists self.old.words) node }
         requires named { HasExpandedName node.kind }
         ensures table { self.new ≡ self.old }
-        ensures found { (nest : Forest) → IsNestOf self.old.bytes (W.lists self.old.words) nest →
-            (e : Entry) → Identifies node.kind node.at e (nodes_of self.old.bytes nest) →
+        ensures found { ForEachEntry self.old.bytes (W.lists self.old.words) node (λ nest e.
             (p : List ℕ) → prefix.now ≡ encode_utf8_all p →
-            IsNearest (nodes_of self.old.bytes nest) (reaching e) p result }
+            IsNearest (nodes_of self.old.bytes nest) (reaching e) p result) }
         ensures declares { IfSome result (IsDeclaration self.old.bytes (W.lists self.old.words)) }
     {
         if self.end == 0 {
@@ -166,9 +163,8 @@ impl<'t, 'a, W: Words> Resolver<'t, 'a, W> {
         requires node { IsNodeOf self.old.bytes (W.lists self.old.words) node }
         requires named { HasExpandedName node.kind }
         ensures table { self.new ≡ self.old }
-        ensures uri { (nest : Forest) → IsNestOf self.old.bytes (W.lists self.old.words) nest →
-            (e : Entry) → Identifies node.kind node.at e (nodes_of self.old.bytes nest) →
-            (p : List ℕ) → prefix.now ≡ encode_utf8_all p → uri_value result ≡ binding p (tags_in (reaching e)) }
+        ensures uri { ForEachEntry self.old.bytes (W.lists self.old.words) node (λ nest e.
+            (p : List ℕ) → prefix.now ≡ encode_utf8_all p → uri_value result ≡ binding p (tags_in (reaching e))) }
     {
         if prefix == XML {
             return Uri::Xml;
@@ -184,9 +180,8 @@ impl<'t, 'a, W: Words> Resolver<'t, 'a, W> {
         requires node { IsNodeOf self.old.bytes (W.lists self.old.words) node }
         requires named { HasName node.kind }
         ensures table { self.new ≡ self.old }
-        ensures uri { (nest : Forest) → IsNestOf self.old.bytes (W.lists self.old.words) nest →
-            (e : Entry) → Identifies node.kind node.at e (nodes_of self.old.bytes nest) →
-            uri_value result ≡ uri_in (expanded e) }
+        ensures uri { ForEachEntry self.old.bytes (W.lists self.old.words) node (λ nest e.
+            uri_value result ≡ uri_in (expanded e)) }
     {
         let prefix = prefix_of(self.table, node);
         match node.kind {
@@ -208,9 +203,8 @@ impl<'t, 'a, W: Words> Resolver<'t, 'a, W> {
         requires node { IsNodeOf self.old.bytes (W.lists self.old.words) node }
         requires named { HasExpandedName node.kind }
         ensures table { self.new ≡ self.old }
-        ensures passes { (nest : Forest) → IsNestOf self.old.bytes (W.lists self.old.words) nest →
-            (e : Entry) → Identifies node.kind node.at e (nodes_of self.old.bytes nest) →
-            result ≡ name_passes (test_of test.now) (expanded e) }
+        ensures passes { ForEachEntry self.old.bytes (W.lists self.old.words) node (λ nest e.
+            result ≡ name_passes (test_of test.now) (expanded e)) }
     {
         match *test {
             NameTest::Any => true,

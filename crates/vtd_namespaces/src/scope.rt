@@ -55,8 +55,8 @@ impl<'s, 'a, W: Words> Scope<'s, 'a, W> {
         )
     }
 
-    /// The same by a memo of what tags declare: the record of the name of the nearest declaration of a prefix, or `None`
-    /// where there is none.
+    /// The same by a memo of what tags declare: the record of the name of the nearest declaration of a prefix, or
+    /// `None` where there is none.
     pub fn declaration_known(&self, memo: &mut Memo, prefix: &Prefix<'_>) -> Option<u32>
         requires known { IsMemoOf self.now.table.now.bytes (W.lists self.now.table.now.words).records memo.old }
         ensures known { IsMemoOf self.now.table.now.bytes (W.lists self.now.table.now.words).records memo.new }
@@ -119,8 +119,8 @@ impl<'s, 'a, W: Words> Scope<'s, 'a, W> {
         same_uri(self.uri_by(one, declaration), self.uri_of_prefix(other))
     }
 
-    /// Whether a prefix is bound, by the record of its nearest declaration (Namespaces in XML 1.0, section 5, constraint
-    /// 'Prefix Declared'): the empty one needs no binding, and `xml` always has one.
+    /// Whether a prefix is bound, by the record of its nearest declaration (Namespaces in XML 1.0, section 5,
+    /// constraint 'Prefix Declared'): the empty one needs no binding, and `xml` always has one.
     pub fn is_bound(&self, prefix: &[u8], declaration: Option<u32>) -> bool
         ensures { (nest : Forest) (hs : List Holder) → IsScope self.now.table.now.bytes
             (W.lists self.now.table.now.words) self.now.open_tags.now self.now.depth nest hs →

@@ -53,7 +53,8 @@ fn note_name<W: Words>(
     ensures new { (nest : Forest) (hs : List Holder) → IsScope scope.now.table.now.bytes
         (W.lists scope.now.table.now.words) scope.now.open_tags.now scope.now.depth nest hs →
         (a : Attribute) → IsWritten name.now prefix_len a →
-        IsNearest (nodes_of scope.now.table.now.bytes nest) hs (prefix_of_chars a.name) declaration → result ≡ not (is_taken filter.old (key_of (tags_in hs) a)) }
+        IsNearest (nodes_of scope.now.table.now.bytes nest) hs (prefix_of_chars a.name) declaration →
+        result ≡ not (is_taken filter.old (key_of (tags_in hs) a)) }
     ensures noted { (nest : Forest) (hs : List Holder) → IsScope scope.now.table.now.bytes
         (W.lists scope.now.table.now.words) scope.now.open_tags.now scope.now.depth nest hs →
         (a : Attribute) → IsWritten name.now prefix_len a →
@@ -84,7 +85,8 @@ pub fn note_attribute<W: Words>(
         (W.lists scope.now.table.now.words) scope.now.open_tags.now scope.now.depth nest hs →
         (a : Attribute) → parts.token ≡ name_token a.name →
         IsNameRecord scope.now.table.now.bytes (record_of parts) a.name →
-        NearestOf scope.now.table.now.bytes nest hs (record_of parts) a declaration → IsNoted (tags_in hs) filter.new a }
+        NearestOf scope.now.table.now.bytes nest hs (record_of parts) a declaration →
+        IsNoted (tags_in hs) filter.new a }
     ensures kept { (key : List ℕ) → is_taken filter.old key ≡ true → is_taken filter.new key ≡ true }
 {
     if parts.token == TokenKind::NamespaceName as u8 || parts.prefix == 0 {

@@ -2,14 +2,13 @@
 
 ghost use Rattle.std.specs.Prelude.{◌≡◌, ℕ, ◌+◌, ◌<◌, ◌⊎◌, List, [], length, IfSome};
 ghost use Rattle.xml_model.specs.Items.{first_place};
-ghost use Rattle.xml_model.specs.Nest.{Forest};
 ghost use Rattle.xml_model.specs.Records.{Record, kind_number};
 ghost use Rattle.xml_model.specs.Scan.{record_at};
 ghost use Rattle.xml_model.specs.Accepted.{offences, over_names, repeats};
 ghost use Rattle.xml_model.specs.declared.TokenKind.TheVariants as token;
 ghost use Rattle.vtd_words.specs.Lists.{list_of};
 ghost use Rattle.vtd_words.specs.Packed.{record_of};
-ghost use Rattle.vtd_words.specs.Table.{IsNestOf, Shows, nodes_of};
+ghost use Rattle.vtd_words.specs.Table.{ForEachNest, Shows, nodes_of};
 ghost use Rattle.vtd_namespaces.specs.Faults.{first_of, OffenceAt};
 ghost use Rattle.vtd_namespaces.specs.Memos.{IsMemoOf};
 ghost use Rattle.vtd_namespaces.specs.OpenTags.{open_before};
@@ -45,9 +44,9 @@ fn element_offence<W: Words>(
     requires depth { (rs : List Record) → Shows (list_of Part.Records (W.lists table.now.words)) rs →
         (record_at at rs).depth ≡ depth }
     ensures known { IsMemoOf table.now.bytes (W.lists table.now.words).records memo.new }
-    ensures offence { (nest : Forest) → IsNestOf table.now.bytes (W.lists table.now.words) nest →
+    ensures offence { ForEachNest table.now.bytes (W.lists table.now.words) (λ nest.
         over_names repeats [] (first_place table.now.bytes) nest ≡ [] →
-        OffenceAt at result (nodes_of table.now.bytes nest) }
+        OffenceAt at result (nodes_of table.now.bytes nest)) }
 {
     let records = table.words().len(Part::Records);
     prove!(at < records);
@@ -65,8 +64,8 @@ fn instruction_offence<W: Words>(table: &Table<'_, W>, at: u32, parts: Parts) ->
     requires here { (rs : List Record) → Shows (list_of Part.Records (W.lists table.now.words)) rs →
         record_of parts ≡ record_at at rs }
     requires instruction { parts.token ≡ kind_number token.Target }
-    ensures { (nest : Forest) → IsNestOf table.now.bytes (W.lists table.now.words) nest →
-        OffenceAt at result (nodes_of table.now.bytes nest) }
+    ensures { ForEachNest table.now.bytes (W.lists table.now.words) (λ nest.
+        OffenceAt at result (nodes_of table.now.bytes nest)) }
 {
     if has_colon(slice_of(table.bytes(), parts)) {
         return Some(parts.offset);
@@ -91,9 +90,9 @@ fn offence_at<W: Words>(
     ensures known { IsMemoOf table.now.bytes (W.lists table.now.words).records memo.new }
     ensures opened { (rs : List Record) → Shows (list_of Part.Records (W.lists table.now.words)) rs →
         open_tags.new ≡ open_before (at + 1) rs }
-    ensures offence { (nest : Forest) → IsNestOf table.now.bytes (W.lists table.now.words) nest →
+    ensures offence { ForEachNest table.now.bytes (W.lists table.now.words) (λ nest.
         over_names repeats [] (first_place table.now.bytes) nest ≡ [] →
-        OffenceAt at result (nodes_of table.now.bytes nest) }
+        OffenceAt at result (nodes_of table.now.bytes nest)) }
     ensures starts { IfSome result (λ _. (rs : List Record) →
         Shows (list_of Part.Records (W.lists table.now.words)) rs →
         ((record_at at rs).token ≡ kind_number token.StartTag) ⊎ ((record_at at rs).token ≡ kind_number token.Target)) }
@@ -112,9 +111,9 @@ fn offence_at<W: Words>(
 /// Where the first name of a document begins that offends Namespaces in XML 1.0, in the order of the records; `None`
 /// exactly where none does. No name repeats an earlier one of its tag.
 pub fn first_offence<W: Words>(table: &Table<'_, W>) -> Option<u32>
-    ensures { (nest : Forest) → IsNestOf table.now.bytes (W.lists table.now.words) nest →
+    ensures { ForEachNest table.now.bytes (W.lists table.now.words) (λ nest.
         over_names repeats [] (first_place table.now.bytes) nest ≡ [] →
-        result ≡ first_of (over_names offences [] (first_place table.now.bytes) nest) }
+        result ≡ first_of (over_names offences [] (first_place table.now.bytes) nest)) }
 {
     let records = table.words().len(Part::Records);
     let end = declarations_end(table.words());

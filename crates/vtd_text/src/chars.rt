@@ -7,12 +7,10 @@ ghost use Rattle.std.specs.Iterator.{YieldsFirst, item_count};
 ghost use Rattle.std.specs.Str.{chars};
 ghost use Rattle.xml_model.specs.Content.{content, value_content};
 ghost use Rattle.xml_model.specs.Items.{Attribute};
-ghost use Rattle.xml_model.specs.Nest.{Forest};
 ghost use Rattle.xml_model.specs.Records.{Record};
 ghost use Rattle.xml_model.specs.Scan.{record_at};
-ghost use Rattle.xml_model.specs.Tree.{Entry, Identifies};
 ghost use Rattle.vtd_words.specs.Lists.{list_of};
-ghost use Rattle.vtd_words.specs.Table.{IsNestOf, IsNodeOf, Shows, nodes_of};
+ghost use Rattle.vtd_words.specs.Table.{ForEachEntry, ForEachNest, IsNodeOf, Shows};
 ghost use Rattle.vtd_text.specs.Joined.{Joined};
 ghost use Rattle.vtd_text.specs.NameRecords.{IsDeclaration, IsNameOf};
 ghost use Rattle.vtd_text.specs.Resolved.{IsRecord, IsResolved, IsRow};
@@ -59,8 +57,7 @@ impl<'a, W: Words> Chars<'a, W> {
     /// in it, in document order.
     pub fn of(table: &Table<'a, W>, node: Node) -> Chars<'a, W>
         requires { IsNodeOf table.now.bytes (W.lists table.now.words) node }
-        ensures { (nest : Forest) → IsNestOf table.now.bytes (W.lists table.now.words) nest →
-            (e : Entry) → Identifies node.kind node.at e (nodes_of table.now.bytes nest) → result ≡ content e.what }
+        ensures { ForEachEntry table.now.bytes (W.lists table.now.words) node (λ nest e. result ≡ content e.what) }
     {
         let bytes = table.bytes();
         let words = table.words();
@@ -86,8 +83,8 @@ impl<'a, W: Words> Chars<'a, W> {
     /// the type 3 (Namespaces in XML 1.0, section 3); its value is resolved as that of an attribute.
     pub fn of_declaration(table: &Table<'a, W>, at: u32) -> Chars<'a, W>
         requires { IsDeclaration table.now.bytes (W.lists table.now.words) at }
-        ensures { (nest : Forest) → IsNestOf table.now.bytes (W.lists table.now.words) nest →
-            (a : Attribute) → IsNameOf table.now.bytes nest at a → result ≡ value_content a.value }
+        ensures { ForEachNest table.now.bytes (W.lists table.now.words) (λ nest.
+            (a : Attribute) → IsNameOf table.now.bytes nest at a → result ≡ value_content a.value) }
     {
         let words = table.words();
         Chars::of_record(table.bytes(), words, Rule::Value, after(words, at))

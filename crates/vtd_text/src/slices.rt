@@ -4,12 +4,10 @@
 ghost use Rattle.std.specs.Prelude.{◌≡◌, ◌+◌, ◌<◌, length, None, IfSome, MatchOption};
 ghost use Rattle.std.specs.Option.{option_copied};
 ghost use Rattle.xml_model.specs.Items.{first_place};
-ghost use Rattle.xml_model.specs.Nest.{Forest};
 ghost use Rattle.xml_model.specs.Records.{records};
 ghost use Rattle.xml_model.specs.Scan.{record_at};
-ghost use Rattle.xml_model.specs.Tree.{Entry, Identifies};
 ghost use Rattle.vtd_words.specs.Lists.{list_of};
-ghost use Rattle.vtd_words.specs.Table.{IsNestOf, IsNodeOf, nodes_of};
+ghost use Rattle.vtd_words.specs.Table.{ForEachEntry, IsNodeOf};
 ghost use Rattle.vtd_text.specs.Raw.{IsWritten, raw_content, written_content};
 
 use crate::chars::{Chars, after};
@@ -22,11 +20,10 @@ use xml_model::{Kind, Node};
 /// several records.
 fn content_record<W: Words>(table: &Table<'_, W>, node: Node) -> Option<u32>
     requires { IsNodeOf table.now.bytes (W.lists table.now.words) node }
-    ensures record { (nest : Forest) → IsNestOf table.now.bytes (W.lists table.now.words) nest → (e : Entry) →
-        Identifies node.kind node.at e (nodes_of table.now.bytes nest) →
+    ensures record { ForEachEntry table.now.bytes (W.lists table.now.words) node (λ nest e.
         MatchOption result (written_content e.what ≡ None)
         (λ at. IsWritten table.now.bytes (record_at at (records nest (first_place table.now.bytes)))
-        (written_content e.what)) }
+        (written_content e.what))) }
     ensures within { IfSome result (λ at. at < length (list_of Part.Records (W.lists table.now.words))) }
 {
     let words = table.words();
@@ -49,9 +46,8 @@ fn content_record<W: Words>(table: &Table<'_, W>, node: Node) -> Option<u32>
 /// several records, and where the bytes are another text.
 pub fn raw<'a, W: Words>(table: &Table<'a, W>, node: Node) -> Option<&'a [u8]>
     requires { IsNodeOf table.now.bytes (W.lists table.now.words) node }
-    ensures { (nest : Forest) → IsNestOf table.now.bytes (W.lists table.now.words) nest → (e : Entry) →
-        Identifies node.kind node.at e (nodes_of table.now.bytes nest) →
-        option_copied result ≡ raw_content e.what }
+    ensures { ForEachEntry table.now.bytes (W.lists table.now.words) node (λ nest e.
+        option_copied result ≡ raw_content e.what) }
 {
     let at = content_record(table, node)?;
     let text = text_of(table.bytes(), parts_at(table.words(), at));

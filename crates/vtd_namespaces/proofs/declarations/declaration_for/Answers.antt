@@ -1,4 +1,4 @@
-use Rattle.std.proofs.Common.{◌∙◌, ◌+◌, ◌-◌, sym, arith}
+use Rattle.std.proofs.Common.{◌∙◌, ◌-◌, sym, arith}
 use Rattle.vtd_namespaces.proofs.DeclarationLemmas.{step_back, step_found, step_missing, all_left, none_left}
 use Rattle.vtd_namespaces.proofs.declarations.declaration_for.Goals as goal
 

@@ -1,6 +1,6 @@
-use Rattle.std.proofs.Common.{◌∙◌, ap, sym, arith}
+use Rattle.std.proofs.Common.{arith}
 use Rattle.vtd_words.proofs.Shown.{shown_length}
-use Rattle.vtd_namespaces.proofs.UndeclaredLemmas.{none_after, none_from}
+use Rattle.vtd_namespaces.proofs.UndeclaredLemmas.{none_after}
 use Rattle.vtd_namespaces.proofs.declarations.declarations_end.Goals as goal
 
 pub loop-at-init : goal.loop-at-init

@@ -1,5 +1,4 @@
-use Rattle.std.proofs.Common.{◌∙◌, sym, arith}
-use Rattle.vtd_namespaces.proofs.MemoLemmas.{known_at, known_by, memo_more}
+use Rattle.std.proofs.Common.{arith}
 use Rattle.vtd_namespaces.proofs.UndeclaredLemmas.{tag_declares_none}
 use Rattle.vtd_namespaces.proofs.memo.known_declaration.Goals as goal
 

@@ -1,4 +1,4 @@
-use Rattle.std.proofs.Common.{◌∙◌, ◌+◌, ◌-◌, sym, arith}
+use Rattle.std.proofs.Common.{◌∙◌, ◌-◌, sym, arith}
 use Rattle.vtd_namespaces.proofs.DeclarationLemmas.{step_back, step_found, step_missing, all_left, none_left}
 use Rattle.vtd_namespaces.proofs.memo.nearest_known.Goals as goal
 
@@ -15,9 +15,9 @@ pub loop-level-preserved : goal.loop-level-preserved
 loop-level-preserved g c = record {
   known = c.known_declaration-found.ensures.known;
   found = λ nest s hs h o m p e.
-    step_missing _ c.args.open_tags.now hs p (c.loop-level.level - 1) c.known_declaration-found.result
-    (step_back c.args.bytes.now _ c.requires.few nest s c.args.open_tags.now hs p c.loop-level.level c.known_declaration-found.result c.loop-level-test.true (c.loop-level.invariant.found nest s hs h o m p e) (λ rs k at t hold. (rw c.tag_at-tag.ensures at c.known_declaration-found.ensures.found) rs k at t hold p e))
-    (sym c.is_some.ensures ∙ c.if-is_some.false);
+      step_missing _ c.args.open_tags.now hs p (c.loop-level.level - 1) c.known_declaration-found.result
+      (step_back c.args.bytes.now _ c.requires.few nest s c.args.open_tags.now hs p c.loop-level.level c.known_declaration-found.result c.loop-level-test.true (c.loop-level.invariant.found nest s hs h o m p e) (λ rs k at t hold. (rw c.tag_at-tag.ensures at c.known_declaration-found.ensures.found) rs k at t hold p e))
+      (sym c.is_some.ensures ∙ c.if-is_some.false);
 }
 
 pub returns-clause-found : goal.returns-clause-found

@@ -1,4 +1,4 @@
-use Rattle.std.proofs.Common.{◌≡◌, ℕ, ◌+◌, List, length}
+use Rattle.std.proofs.Common.{◌≡◌, ℕ, List, length}
 use Rattle.std.specs.Prelude.{encode_utf8_all}
 use Rattle.xml_model.specs.Nest.{Forest}
 use Rattle.xml_model.specs.Tree.{Holder}

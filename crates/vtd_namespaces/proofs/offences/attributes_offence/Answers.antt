@@ -38,7 +38,7 @@ loop-parts-preserved g c =
           let n = next_inspected c.args.scope.now.table.now.bytes rs c.args.first c.loop-parts.number at (tags_in (x ∷ xs)) x.tag.attributes c.in-Some.parts (c.loop-parts.invariant.inspected nest x xs s e at hold h) (here rs (nest_shown _ _ nest s.few s.shown)) c.in-Some.ensures.kind in
           let o = (attends _ _ _ _ nest x xs s c.args.first c.loop-parts.number e n.done n.left n.attribute n.split n.many c.in-Some.parts here).other in
           n.miss (sym (c.attribute_offends.ensures nest x xs s e n.done n.left n.attribute n.split n.many n.fine (differ c.args.scope.now.table.now.bytes rs c.args.first c.loop-parts.number at (tags_in (x ∷ xs)) x.tag.attributes c.in-Some.parts n h) not_known
-    (c.prefix_declaration-declaration.ensures.found nest (x ∷ xs) s n.attribute (known_record _ c.in-Some.parts n.attribute o))) ∙ c.if-attribute_offends.false);
+          (c.prefix_declaration-declaration.ensures.found nest (x ∷ xs) s n.attribute (known_record _ c.in-Some.parts n.attribute o))) ∙ c.if-attribute_offends.false);
     }
 
 pub returns-clause-offence : goal.returns-clause-offence

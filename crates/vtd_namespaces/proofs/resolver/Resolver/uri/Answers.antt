@@ -1,4 +1,4 @@
-use Rattle.std.proofs.Common.{◌≡◌, ◌∙◌, ap, sym, length}
+use Rattle.std.proofs.Common.{◌∙◌, ap, sym, length}
 use Rattle.std.proofs.lemmas.Bool.{eqb-true}
 use Rattle.vtd_namespaces.specs.NodeNames.{node_prefix}
 use Rattle.vtd_namespaces.proofs.DeclarationLemmas.{empty_encoded, some_length}
