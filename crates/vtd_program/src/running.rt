@@ -60,7 +60,7 @@ impl Status {
 }
 
 /// Why there is no document.
-#[derive(Clone, Copy, Debug, PartialEq, Eq)]
+#[derive(Clone, Copy)]
 enum NoDocument {
     Failed,
     Long,

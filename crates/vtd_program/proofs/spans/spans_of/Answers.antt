@@ -6,7 +6,8 @@ use Rattle.xml_model.specs.Records.{records, word, forest_records}
 use Rattle.xml_model.specs.Tree.{all}
 use Rattle.xml_model.proofs.Rise.{indexes_rise}
 use Rattle.vtd_program.specs.Listing.{elements}
-use Rattle.vtd_program.proofs.Elements.{element_spans, from_index, from_first, spans_found, spans_passed, spans_end}
+use Rattle.vtd_program.proofs.Elements.{element_spans, spans_found, spans_passed, spans_end}
+use Rattle.xml_model.proofs.FromIndex.{from_index, from_first}
 use Rattle.vtd_program.proofs.spans.spans_of.Goals as goal
 use Rattle.vtd_program.proofs.spans.spans_of.Goals.{in-Some+in_ok-push_span, in_default}
 

@@ -5,7 +5,8 @@ use Rattle.xml_model.specs.Tree.{all}
 use Rattle.vtd_words.specs.Table.{IsNestOf}
 use Rattle.vtd_program.specs.Spans.{spans_of}
 use Rattle.vtd_program.specs.Listing.{elements}
-use Rattle.vtd_program.proofs.Elements.{element_spans, from_index}
+use Rattle.vtd_program.proofs.Elements.{element_spans}
+use Rattle.xml_model.proofs.FromIndex.{from_index}
 use Rattle.vtd_program.proofs.spans.spans_of.Given as goal
 
 -- the spans so far are before those of the elements that are left
