@@ -1,8 +1,8 @@
 -- What a walk along the records knows on its way.
-use Rattle.std.proofs.Common.{◌≡◌, ℕ, ◌+◌, ◌-◌, ◌<◌, ◌≤◌, Bool, true, false, ◌||◌, ◌==◌, List, length, ap, sym, ◌∙◌, subst, arith, inl, inr, Option}
+use Rattle.std.proofs.Common.{◌≡◌, ℕ, ◌+◌, ◌-◌, ◌<◌, ◌≤◌, Bool, true, false, List, length, ap, sym, ◌∙◌, subst, arith, inl, inr, Option}
 use Rattle.std.proofs.Common.{Some, None}
 use Rattle.std.specs.List.{Contains}
-use Rattle.std.proofs.lemmas.Bool.{cases_lt, false≢true, le-leb, lt-leb, eqb-true, and_parts}
+use Rattle.std.proofs.lemmas.Bool.{cases_lt, false≢true, le-leb, lt-leb}
 use Rattle.xml_model.specs.declared.Kind.{Kind}
 use Rattle.xml_model.specs.declared.Kind.TheVariants as kinds
 use Rattle.xml_model.specs.declared.Node.{Node}
@@ -15,7 +15,7 @@ use Rattle.xml_model.specs.Laws.{is_attribute_thing, is_child_thing, is_child_ki
 use Rattle.vtd_words.specs.Lists.{Lists}
 use Rattle.vtd_words.specs.Table.{IsNestOf, nodes_of}
 use Rattle.xml_model.proofs.Things.{attribute_kind, attribute_thing, child_kind}
-use Rattle.xml_model.proofs.AttributeRuns.{attribute_part}
+use Rattle.xml_model.proofs.AttributeRuns.{attribute_level, attribute_part}
 use Rattle.xml_model.proofs.Inside.{levels_shown, child_after}
 use Rattle.vtd_cursor.specs.Searches.{IsWanted, NodeOfLevel, FirstFrom, LastBefore}
 use Rattle.vtd_words.specs.Found.{NodeAt}
@@ -177,9 +177,6 @@ this_level want level found es at (Some node) e n = (e, n)
 
 pub none_of_level : (want : Thing → Bool) (level : ℕ) (es : List Entry) (at : ℕ) → NodeAt want es at None → NoneAt want level es at
 none_of_level want level es at n = λ x c w p. n x c w.wanted p
-
-attribute_level : (level : ℕ) (r : Record) → is_attribute_part level r ≡ true → level_of r ≡ level
-attribute_level level r h = eqb-true (level_of r) level (and_parts (r.token == 2 || r.token == 3 || r.token == 4) (level_of r == level) h).1
 
 pub attribute_found : (bytes : List ℕ) (lists : Lists) (nest : Forest) → IsNestOf bytes lists nest → (level from at : ℕ) (node : Node) → from ≤ at →
     PassedFrom (is_attribute_part level) is_attribute_thing level (records nest (first_place bytes)) (nodes_of bytes nest) from at →

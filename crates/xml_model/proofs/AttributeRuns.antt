@@ -1,8 +1,8 @@
 -- The attributes of an element: records of attributes and declarations alone are before each of them.
 use Rattle.std.proofs.Common.{◌≡◌, ℕ, zero, suc, ◌+◌, ◌-◌, ◌<◌, ◌≤◌, Bool, true, false, cond, ◌&&◌, ◌||◌, ◌==◌, List, [], ◌∷◌, ◌++◌, length}
-use Rattle.std.proofs.Common.{refl, ap, ap₂, sym, ◌∙◌, subst, arith, Some, inl, inr, length-append, eq-eqb, append_assoc}
+use Rattle.std.proofs.Common.{refl, ap, ap₂, sym, ◌∙◌, subst, arith, Some, inl, inr, length-append, eq-eqb, eqb-true, append_assoc}
 use Rattle.std.specs.List.{Contains, AllByRecursion as Each}
-use Rattle.std.proofs.lemmas.Bool.{cases_lt, false≢true}
+use Rattle.std.proofs.lemmas.Bool.{and_parts, cases_lt, false≢true}
 use Rattle.xml_model.specs.declared.Kind.TheVariants as kinds
 use Rattle.xml_model.specs.Chars.{size}
 use Rattle.xml_model.specs.Items.{Attribute, Tag, Leaf, written_attribute}
@@ -135,6 +135,9 @@ attributes_pass nest first n z c k y d w l a b =
     let g : FirstRecordShows rs y = first_record_of_node nest first n y d in
     fits_attributes rs x.0 x.1 (length z.holders) z.start z.index z.past f y.index a b
     (attribute_token _ (g.kind ∙ ap (λ v. Some v) (attribute_kind y.what w))) (g.level ∙ l)
+
+pub attribute_level : (level : ℕ) (r : Record) → is_attribute_part level r ≡ true → level_of r ≡ level
+attribute_level level r h = eqb-true (level_of r) level (and_parts (r.token == 2 || r.token == 3 || r.token == 4) (level_of r == level) h).1
 
 held_thing : (w : Thing) (n : ℕ) → is_attribute_thing w ≡ true → IsHeld w n → 0 < n
 held_thing (Thing.root first f) n h k = absurd (false≢true h)

@@ -10,7 +10,7 @@ use Rattle.xml_model.specs.Records.{records}
 use Rattle.xml_model.specs.Scan.{level_of, record_at}
 use Rattle.xml_model.specs.Tree.{Entry, all, kind_of}
 use Rattle.xml_model.specs.Laws.{by_indexes, is_attribute_thing, is_one_under, is_under, nodes_above}
-use Rattle.xml_model.proofs.AttributeRuns.{attribute_held, attributes_pass}
+use Rattle.xml_model.proofs.AttributeRuns.{attribute_held, attribute_level, attributes_pass}
 use Rattle.xml_model.proofs.Contexts.{any_by_indexes}
 use Rattle.xml_model.proofs.Each.{contains_here, contains_next, each_at}
 use Rattle.xml_model.proofs.Filters.{any_out, none_of, split_pairs}
@@ -55,8 +55,7 @@ module _ (nest : Forest) (first : ℕ) (n : is_nest nest ≡ true) where
             elim (cases_lt z.index y.index) [
               | inl less ↦
                   let pass = attributes_pass nest first n c kc tag y ky p.1 o.held o.after o.before z.index (omega (arith, l, w.0)) less in
-                  let level : level_of (record_at z.index rs) ≡ suc (length c.holders) =
-                  eqb-true (level_of (record_at z.index rs)) (suc (length c.holders)) (and_parts _ _ pass).1 in
+                  let level = attribute_level (suc (length c.holders)) (record_at z.index rs) pass in
                   omega (arith, level, levels_shown nest first n z kz, deep, held, one, above)
               | inr same ↦
                   let e : z.index ≡ y.index = omega (arith, not_before, same) in
