@@ -11,7 +11,8 @@ ghost use Rattle.vtd_words.specs.Lists.{Lists};
 ghost use Rattle.vtd_words.specs.Table.{IsNestOf, nodes_of};
 ghost use Rattle.vtd_namespaces.specs.Undeclared.{NoneDeclares};
 
-/// Where no record is of a declaration's name, no prefix is declared for any node, and no default namespace.
+/// Where no record is of a declaration's name, no prefix is declared for any node, and no default namespace: so
+/// `declarations_end` answers 0, and a name test costs its bytes.
 pub fn plain_documents()
     ensures { (bytes : List ℕ) (lists : Lists) (nest : Forest) → IsNestOf bytes lists nest →
         NoneDeclares (records nest (first_place bytes)) 0 →

@@ -16,7 +16,7 @@ use vtd_words::{Table, Words, parts_at};
 use xml_model::{Kind, NameTest, Node, TokenKind};
 
 /// The prefix in a node's name, in UTF-8; it is empty where the name has none, and for an instruction. The node is an
-/// element, an attribute or an instruction of the table.
+/// element, an attribute or an instruction of the table. It reads one record.
 pub fn prefix_of<'a, W: Words>(table: &Table<'a, W>, node: Node) -> &'a [u8]
     requires node { IsNodeOf table.now.bytes (W.lists table.now.words) node }
     requires named { HasName node.kind }
@@ -31,7 +31,7 @@ pub fn prefix_of<'a, W: Words>(table: &Table<'a, W>, node: Node) -> &'a [u8]
 }
 
 /// The local part of a node's name, in UTF-8: what follows the colon, or the whole; an instruction's is its target. The
-/// node is an element, an attribute or an instruction of the table.
+/// node is an element, an attribute or an instruction of the table. It reads one record.
 pub fn local_of<'a, W: Words>(table: &Table<'a, W>, node: Node) -> &'a [u8]
     requires node { IsNodeOf table.now.bytes (W.lists table.now.words) node }
     requires named { HasName node.kind }
@@ -48,7 +48,9 @@ pub fn local_of<'a, W: Words>(table: &Table<'a, W>, node: Node) -> &'a [u8]
 
 /// The URI of a node's expanded name (Namespaces in XML 1.0, sections 2.1 and 6): that of the prefix, or of the default
 /// for an element without one; an attribute without a prefix and an instruction have none. The node is an element, an
-/// attribute or an instruction of the table.
+/// attribute or an instruction of the table. It goes back over the records to the elements that hold the node, up to
+/// that of the declaration, and walks the names of each: at most so many reads as there are records before the node's,
+/// and these names. A walk asks a `Resolver`.
 pub fn uri_of<'a, W: Words>(table: &Table<'a, W>, node: Node) -> Uri<'a, W>
     requires node { IsNodeOf table.now.bytes (W.lists table.now.words) node }
     requires named { HasName node.kind }
@@ -69,7 +71,8 @@ pub fn uri_of<'a, W: Words>(table: &Table<'a, W>, node: Node) -> Uri<'a, W>
 }
 
 /// Whether a node passes a name test (XPath 1.0, section 2.3), by its expanded name; an empty URI is no namespace. The
-/// node is an element or an attribute of the table.
+/// node is an element or an attribute of the table. It costs what `uri_of` does, where the local part is that of the
+/// test, and else one read. A walk asks a `Resolver`.
 pub fn matches<W: Words>(table: &Table<'_, W>, node: Node, test: &NameTest<'_>) -> bool
     requires node { IsNodeOf table.now.bytes (W.lists table.now.words) node }
     requires named { HasExpandedName node.kind }

@@ -7,12 +7,11 @@ ghost use Rattle.vtd_words.specs.Lists.{list_of};
 ghost use Rattle.vtd_words.specs.Packed.{record_of};
 ghost use Rattle.vtd_words.specs.Table.{ForEachEntry, IsNodeOf, Shows, nodes_of};
 ghost use Rattle.vtd_text.specs.NameRecords.{IsDeclaration};
-ghost use Rattle.vtd_namespaces.specs.Reach.{reaching};
+ghost use Rattle.vtd_namespaces.specs.Reach.{reaching, reach_of};
 ghost use Rattle.vtd_namespaces.specs.NodeNames.{test_of, uri_in, HasExpandedName, HasName};
 ghost use Rattle.vtd_namespaces.specs.OpenTags.{open_before};
 ghost use Rattle.vtd_namespaces.specs.Scope.{tags_in, IsNearest};
 ghost use Rattle.vtd_namespaces.specs.Undeclared.{NoneDeclared};
-ghost use Rattle.vtd_namespaces.specs.Reach.{reach_of};
 ghost use Rattle.vtd_namespaces.specs.Uris.{uri_value};
 
 use crate::compare::is_uri;
