@@ -138,3 +138,6 @@ impl<'r, R: Runtime> Files for SystemFiles<'r, R> {
         Err(Failed)
     }
 }
+
+#[cfg(test)]
+mod tests;
