@@ -25,7 +25,8 @@ pub number_back : (found : Option ℕ) (least : ℕ) → 0 < least → IfSome fo
 number_back None least h k = refl
 number_back (Some n) least h k = sym (index_of n (λ z. omega arith))
 
-known_along : (bytes words : List ℕ) (a b c d a' b' c' d' : ℕ) → a' ≡ a → b' ≡ b → c' ≡ c → d' ≡ d → IsKnown bytes words a b c d → IsKnown bytes words a' b' c' d'
+known_along : (bytes words : List ℕ) (a b c d a' b' c' d' : ℕ) → a' ≡ a → b' ≡ b → c' ≡ c → d' ≡ d → IsKnown bytes words a b c d →
+    IsKnown bytes words a' b' c' d'
 known_along bytes words a b c d a' b' c' d' e f g h k =
     subst (λ n. IsKnown bytes words n b' c' d') (sym e) (subst (λ n. IsKnown bytes words a n c' d') (sym f)
     (subst (λ n. IsKnown bytes words a b n d') (sym g) (subst (λ n. IsKnown bytes words a b c n) (sym h) k)))
@@ -34,7 +35,8 @@ equal_or : (m n : ℕ) → (m ≡ n) ⊎ (m ≡ n → ⊥)
 equal_or m n = ⊎_elim (λ s. inr (λ e. omega arith)) (λ s. ⊎_elim (λ t. inr (λ e. omega arith)) (λ t. inl (omega arith)) (cases_lt n m)) (cases_lt m n)
 
 -- a memo with one place more
-pub memo_more : (bytes words tags offsets lens declarations : List ℕ) (place tag offset len declaration : ℕ) → place < length tags → place < length offsets → place < length lens → place < length declarations →
+pub memo_more : (bytes words tags offsets lens declarations : List ℕ) (place tag offset len declaration : ℕ) → place < length tags →
+    place < length offsets → place < length lens → place < length declarations →
     IsMemo bytes words tags offsets lens declarations → IsKnown bytes words tag offset len declaration →
     IsMemo bytes words (set tags place tag) (set offsets place offset) (set lens place len) (set declarations place declaration)
 memo_more bytes words tags offsets lens declarations place tag offset len declaration h i j l m k = λ n some. ⊎_elim
@@ -51,15 +53,19 @@ memo_more bytes words tags offsets lens declarations place tag offset len declar
     (equal_or n place)
 
 -- what is noted, out of the memo
-pub known_at : (bytes words tags offsets lens declarations : List ℕ) → IsMemo bytes words tags offsets lens declarations → (place tag : ℕ) → 0 < tag → slice_index_or tags place 0 ≡ tag →
+pub known_at : (bytes words tags offsets lens declarations : List ℕ) → IsMemo bytes words tags offsets lens declarations → (place tag : ℕ) → 0 < tag →
+    slice_index_or tags place 0 ≡ tag →
     IsKnown bytes words tag (slice_index_or offsets place 0) (slice_index_or lens place 0) (slice_index_or declarations place 0)
 known_at bytes words tags offsets lens declarations m place tag some e =
     subst (λ n. IsKnown bytes words n (slice_index_or offsets place 0) (slice_index_or lens place 0) (slice_index_or declarations place 0)) e (m place (omega (arith, e, some)))
 
 -- what was found by a look along the names
-pub known_by : (bytes words prefix : List ℕ) (tag offset len : ℕ) (found : Option ℕ) → take len (drop offset bytes) ≡ prefix → IfSome found (λ n. tag + 1 ≤ n) →
-    ((rs : List Record) → Shows words rs → (at : ℕ) (t : Tag) → AreAttributeRecords bytes rs (tag + 1) at t.attributes → (p : List ℕ) → prefix ≡ encode_utf8_all p → IsDeclarationIn (tag + 1) t p found) →
-    ((rs : List Record) → Shows words rs → IfSome found (λ n. (record_at n rs).token ≡ kind_number token.NamespaceName)) → IsKnown bytes words tag offset len (unwrap_or found 0)
+pub known_by : (bytes words prefix : List ℕ) (tag offset len : ℕ) (found : Option ℕ) → take len (drop offset bytes) ≡ prefix →
+    IfSome found (λ n. tag + 1 ≤ n) →
+    ((rs : List Record) → Shows words rs → (at : ℕ) (t : Tag) → AreAttributeRecords bytes rs (tag + 1) at t.attributes → (p : List ℕ) →
+    prefix ≡ encode_utf8_all p → IsDeclarationIn (tag + 1) t p found) →
+    ((rs : List Record) → Shows words rs → IfSome found (λ n. (record_at n rs).token ≡ kind_number token.NamespaceName)) →
+    IsKnown bytes words tag offset len (unwrap_or found 0)
 known_by bytes words prefix tag offset len found e later f d =
     let back : found ≡ some_of (unwrap_or found 0) = sym (number_back found (tag + 1) (omega arith) later) in
     record {

@@ -92,7 +92,8 @@ first_token nest first zero t = absurd (omega (arith, t))
 first_token nest first (suc n) t = omega arith
 
 -- an element is among the records
-pub element_holds : (nest : Forest) (first : ℕ) → Shallow 0 nest → (e : Entry) → Contains (all nest first) e → kind_of e.what ≡ kinds.Element → (x : Holder) → e.index ≡ x.index → (xs : List Holder) → e.holders ≡ xs → HolderHolds (records nest first) x xs
+pub element_holds : (nest : Forest) (first : ℕ) → Shallow 0 nest → (e : Entry) → Contains (all nest first) e → kind_of e.what ≡ kinds.Element →
+    (x : Holder) → e.index ≡ x.index → (xs : List Holder) → e.holders ≡ xs → HolderHolds (records nest first) x xs
 element_holds nest first s e c k x p xs h =
     let whole = records nest first in
     let f = each_at (FirstRecordShows whole) (all nest first) e (first_records nest first s) c in
@@ -171,7 +172,8 @@ pub open_more : (rs : List Record) (n : ℕ) → n < length rs → open_before (
 open_more rs n h = let next : n + 1 ≡ suc n = omega arith in ap (λ m. open_before m rs) next ∙ after_more rs n 0 no_tags h ∙ ap (λ m. slots_with m (open_before n rs) (record_at n rs)) (zero-add n)
 
 -- a record that is passed
-pub passed : (tags next : List ℕ) (rs : List Record) (n : ℕ) (r : Record) → next ≡ slots_with n tags r → n < length rs → r ≡ record_at n rs → tags ≡ open_before n rs → next ≡ open_before (n + 1) rs
+pub passed : (tags next : List ℕ) (rs : List Record) (n : ℕ) (r : Record) → next ≡ slots_with n tags r → n < length rs → r ≡ record_at n rs →
+    tags ≡ open_before n rs → next ≡ open_before (n + 1) rs
 passed tags next rs n r e h here o = e ∙ ap₂ (slots_with n) o here ∙ sym (open_more rs n h)
 
 -- what the slots have after a record that is a starting tag's, and after another
@@ -200,11 +202,13 @@ opened_by (x ∷ xs) tags h =
       opened_by xs tags (left ∙ ap (take l) h ∙ take_at (holder_indexes xs) (x.index ∷ []) l many),
     )
 
-open_slots : (nest : Forest) (first : ℕ) → is_nest nest ≡ true → (e : Entry) → Contains (all nest first) e → take (length e.holders) (open_before e.index (records nest first)) ≡ holder_indexes e.holders
+open_slots : (nest : Forest) (first : ℕ) → is_nest nest ≡ true → (e : Entry) → Contains (all nest first) e →
+    take (length e.holders) (open_before e.index (records nest first)) ≡ holder_indexes e.holders
 open_slots nest first n e c = holders_in_slots no_tags (omega (arith, open_length [] 0)) nest first n e c
 
 -- the tags that are open where an element begins, its own included
-pub opened_at : (nest : Forest) (first : ℕ) → is_nest nest ≡ true → (e : Entry) → Contains (all nest first) e → kind_of e.what ≡ kinds.Element → (x : Holder) → e.index ≡ x.index →
+pub opened_at : (nest : Forest) (first : ℕ) → is_nest nest ≡ true → (e : Entry) → Contains (all nest first) e → kind_of e.what ≡ kinds.Element →
+    (x : Holder) → e.index ≡ x.index →
     (tags : List ℕ) → tags ≡ open_before (x.index + 1) (records nest first) → length e.holders < 256 → Opened tags (x ∷ e.holders)
 opened_at nest first n e c k x p tags o low =
     let whole = records nest first in
@@ -219,7 +223,8 @@ opened_at nest first n e c k x p tags o low =
     (ap (take (suc l)) put ∙ take-suc-set before l x.index (omega (arith, open_length whole x.index)) ∙ ap (λ s. s ++ x.index ∷ []) held)
 
 -- the tags that are open where another node begins
-pub opened_before : (nest : Forest) (first : ℕ) → is_nest nest ≡ true → (e : Entry) → Contains (all nest first) e → ((record_at e.index (records nest first)).token ≡ 0 → ⊥) →
+pub opened_before : (nest : Forest) (first : ℕ) → is_nest nest ≡ true → (e : Entry) → Contains (all nest first) e →
+    ((record_at e.index (records nest first)).token ≡ 0 → ⊥) →
     (tags : List ℕ) → tags ≡ open_before (e.index + 1) (records nest first) → Opened tags e.holders
 opened_before nest first n e c t tags o =
     let whole = records nest first in

@@ -72,8 +72,10 @@ module _ (bytes : List ℕ) (nest : Forest) (n : is_nest nest ≡ true) (e : Ent
   reached_by (Thing.comment cs) w h = absurd h
   reached_by (Thing.instruction i) w h = absurd h
 
-pub reached : (bytes : List ℕ) (lists : Lists) → length bytes < 2 ^ 30 → (nest : Forest) → IsNestOf bytes lists nest → (kind : Kind) (at : ℕ) → HasExpandedName kind → (e : Entry) → Identifies kind at e (nodes_of bytes nest) →
-    (r : Record) → ((rs : List Record) → Shows lists.records rs → r ≡ record_at at rs) → r.depth < 256 → (tags : List ℕ) → ((rs : List Record) → Shows lists.records rs → tags ≡ open_before (at + 1) rs) →
+pub reached : (bytes : List ℕ) (lists : Lists) → length bytes < 2 ^ 30 → (nest : Forest) → IsNestOf bytes lists nest → (kind : Kind) (at : ℕ) →
+    HasExpandedName kind → (e : Entry) → Identifies kind at e (nodes_of bytes nest) →
+    (r : Record) → ((rs : List Record) → Shows lists.records rs → r ≡ record_at at rs) → r.depth < 256 → (tags : List ℕ) → ((rs : List Record) →
+    Shows lists.records rs → tags ≡ open_before (at + 1) rs) →
     Reaches bytes nest (reaching e) tags (reach_of r)
 reached bytes lists few nest s kind at h e w r here low tags known =
     let rs = records nest (first_place bytes) in
@@ -82,7 +84,8 @@ reached bytes lists few nest s kind at h e w r here low tags known =
     (each_at (λ x. Chain (nodes_of bytes nest) x.holders) (nodes_of bytes nest) e (Rattle.vtd_namespaces.proofs.ChainLemmas.document_chain nest (first_place bytes)) w.0) e.what refl (subst HasExpandedName (sym w.1) h)
 
 -- where no record is of a declaration's name, nothing is nearest
-pub none_reaches : (bytes : List ℕ) (lists : Lists) → length bytes < 2 ^ 30 → (end : ℕ) → end ≡ 0 → NoneDeclared lists.records end → (nest : Forest) → IsNestOf bytes lists nest → (e : Entry) → Contains (nodes_of bytes nest) e → (p : List ℕ) →
+pub none_reaches : (bytes : List ℕ) (lists : Lists) → length bytes < 2 ^ 30 → (end : ℕ) → end ≡ 0 → NoneDeclared lists.records end → (nest : Forest) →
+    IsNestOf bytes lists nest → (e : Entry) → Contains (nodes_of bytes nest) e → (p : List ℕ) →
     nearest p (tags_in (reaching e)) ≡ None
 none_reaches bytes lists few end z u nest s e c p =
     let rs = records nest (first_place bytes) in
