@@ -8,7 +8,8 @@ use Rattle.xml_model.specs.Records.{Record, plain, named, name_token}
 use Rattle.xml_chars.specs.Places.{span_from}
 use Rattle.xml_chars.proofs.Readers.{begins_split}
 use Rattle.vtd_builder.specs.Found.{bytes_of, plain_span, named_span}
-use Rattle.vtd_builder.proofs.Colons.{prefix_bytes, declares_bytes}
+use Rattle.xml_chars.proofs.PrefixLemmas.{prefix_bytes}
+use Rattle.vtd_builder.proofs.Colons.{declares_bytes}
 use Rattle.vtd_builder.specs.Cuts.{Placed}
 use Rattle.vtd_builder.proofs.Placed.{placed_bytes}
 
