@@ -24,4 +24,6 @@ pub record IsDoc (bytes : List ℕ) (words : Lists) : Type 0 where
 
 -- the lengths of the levels, and the room that each has for further words
 abbrev pub levels_of : Growing → List ℕ
-levels_of g = length g.lists.level1 ∷ length g.lists.level2 ∷ length g.lists.level3 ∷ g.room.level1 ∷ g.room.level2 ∷ g.room.level3 ∷ []
+levels_of g =
+    length g.lists.level1 ∷ length g.lists.level2 ∷ length g.lists.level3 ∷ g.room.level1 ∷ g.room.level2
+    ∷ g.room.level3 ∷ []

@@ -30,11 +30,14 @@ named_span bytes token depth span = record { token = token; depth = depth;
     prefix = length (prefix_of (bytes_of bytes span)); len = span.end - span.start; offset = span.start }
 
 abbrev pub attribute_found : List ℕ → ℕ → AttributeItem → List Record
-attribute_found bytes depth a = named_span bytes (name_token (bytes_of bytes a.name)) depth a.name ∷ plain_span (kind_number token.Value) depth a.value ∷ []
+attribute_found bytes depth a =
+    named_span bytes (name_token (bytes_of bytes a.name)) depth a.name
+    ∷ plain_span (kind_number token.Value) depth a.value ∷ []
 
 -- the parts of the XML declaration
 abbrev pub part_found : ℕ → AttributeItem → List Record
-part_found depth a = plain_span (kind_number token.PartName) depth a.name ∷ plain_span (kind_number token.PartValue) depth a.value ∷ []
+part_found depth a =
+    plain_span (kind_number token.PartName) depth a.name ∷ plain_span (kind_number token.PartValue) depth a.value ∷ []
 
 abbrev pub parts_found : ℕ → List AttributeItem → List Record
 parts_found depth [] = []

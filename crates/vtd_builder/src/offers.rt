@@ -203,7 +203,8 @@ fn offer_parts<R: RecordSink>(
     requires places { AllByRecursion AreOrdered (attributes_left parts) }
     requires room { CanOffer count (parts_found depth (attributes_left parts)) }
     ensures outcome { outcome (R.taken into.new) result
-        ≡ offer (R.refuses into.old) (R.taken into.old) count (map word (parts_found depth (attributes_left parts.entry))) }
+        ≡ offer (R.refuses into.old) (R.taken into.old) count
+            (map word (parts_found depth (attributes_left parts.entry))) }
     ensures rest { R.rest into.new ≡ R.rest into.old }
     ensures test { R.refuses into.new ≡ R.refuses into.old }
 {
@@ -223,9 +224,12 @@ fn offer_instruction<R: RecordSink>(
 ) -> Result<u32, u32>
     requires name { item.name.start ≤ item.name.end }
     requires content { item.content.start ≤ item.content.end }
-    requires room { CanOffer count (plain_span (kind_number TokenKind.Target) depth item.name ∷ plain_span (kind_number TokenKind.Data) depth item.content ∷ []) }
+    requires room { CanOffer count (plain_span (kind_number TokenKind.Target) depth item.name
+        ∷ plain_span (kind_number TokenKind.Data) depth item.content ∷ []) }
     ensures outcome { outcome (R.taken into.new) result
-        ≡ offer (R.refuses into.old) (R.taken into.old) count (map word (plain_span (kind_number TokenKind.Target) depth item.name ∷ plain_span (kind_number TokenKind.Data) depth item.content ∷ [])) }
+        ≡ offer (R.refuses into.old) (R.taken into.old) count
+            (map word (plain_span (kind_number TokenKind.Target) depth item.name
+            ∷ plain_span (kind_number TokenKind.Data) depth item.content ∷ [])) }
     ensures rest { R.rest into.new ≡ R.rest into.old }
     ensures test { R.refuses into.new ≡ R.refuses into.old }
 {

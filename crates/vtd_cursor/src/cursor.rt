@@ -1,6 +1,7 @@
 //! A place among the nodes of a document, with moves.
 
-ghost use Rattle.std.specs.Prelude.{◌≡◌, ◌≤◌, ◌<◌, ◌↔◌, ◌++◌, ◌∷◌, [], List, length, filter, true, false, Contains, None, IfSome, OnOk, OnErr};
+ghost use Rattle.std.specs.Prelude.{◌≡◌, ◌≤◌, ◌<◌, ◌↔◌, ◌++◌, ◌∷◌, [], List, length, filter, true, false, Contains};
+ghost use Rattle.std.specs.Prelude.{None, IfSome, OnOk, OnErr};
 ghost use Rattle.xml_model.specs.declared.Axis.TheVariants as axes;
 ghost use Rattle.xml_model.specs.Nest.{Forest};
 ghost use Rattle.xml_model.specs.Tree.{axis_list, before, on_axis, Entry, Identifies};

@@ -10,7 +10,9 @@ ghost use Rattle.xml_items.specs.Shown.{item_shown};
 ghost use Rattle.vtd_words.specs.Lists.{list_of};
 ghost use Rattle.vtd_words.specs.Packed.{record_of};
 ghost use Rattle.vtd_words.specs.Table.{Shows};
-ghost use Rattle.vtd_cursor.specs.Endings.{opening, closing, record_end, ends_tag, EndTags, HasEndTags, HasEnding, HasLastPiece, HasTagAt, HasTagOf, IsEnding, IsLastPiece, IsNearestTag, IsTagOf};
+ghost use Rattle.vtd_cursor.specs.Endings.{opening, closing, record_end, ends_tag, EndTags, HasEndTags, HasEnding};
+ghost use Rattle.vtd_cursor.specs.Endings.{HasLastPiece, HasTagAt, HasTagOf, IsEnding, IsLastPiece, IsNearestTag};
+ghost use Rattle.vtd_cursor.specs.Endings.{IsTagOf};
 
 use vtd_words::{Part, Parts, Words, parts_at};
 use xml_items::{Item, ItemKind, next_item};

@@ -78,8 +78,8 @@ pub fn span<W: Words>(nav: &Nav<'_, W>, node: Node) -> Span
     }
 }
 
-/// Where the name in the first tag of an element is (XML 1.0, productions 40 and 44). It reads one record, where `tags_of`
-/// goes over all that is in the element.
+/// Where the name in the first tag of an element is (XML 1.0, productions 40 and 44). It reads one record, where
+/// `tags_of` goes over all that is in the element.
 pub fn name_span<W: Words>(nav: &Nav<'_, W>, node: Node) -> Span
     requires node { IsNodeOf nav.now.bytes (W.lists nav.now.words) node }
     requires element { node.kind ≡ Kind.Element }

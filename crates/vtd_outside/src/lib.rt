@@ -113,7 +113,8 @@ pub trait Files {
         ensures err { OnErr result (is_reading self.new ≡ false) }
         ensures files_stay { contents self.new ≡ contents self.old }
         ensures writing_stays { is_writing self.new ≡ is_writing self.old }
-        ensures cause { HasFileCause (is_missing (contents self.old) name.now) (missed self.old) (missed self.new) (proper self.old) (proper self.new) result };
+        ensures cause { HasFileCause (is_missing (contents self.old) name.now) (missed self.old) (missed self.new)
+            (proper self.old) (proper self.new) result };
 
     /// Reads on in the file being read, as `Source::read` does. The same file is then still being read.
     ///
@@ -127,7 +128,8 @@ pub trait Files {
         ensures err { OnErr result (is_reading self.new ≡ false) }
         ensures files_stay { contents self.new ≡ contents self.old }
         ensures writing_stays { is_writing self.new ≡ is_writing self.old }
-        ensures cause { HasFileCause false (missed self.old) (missed self.new) (proper self.old) (proper self.new) result };
+        ensures cause { HasFileCause false (missed self.old) (missed self.new) (proper self.old)
+            (proper self.new) result };
 
     ghost reading_known: { (s : Self) → IsSome (contents s) → is_some (opened s) ≡ is_reading s };
 

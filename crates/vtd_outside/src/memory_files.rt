@@ -174,7 +174,9 @@ impl Files for MemoryFiles {
         ensures ok { OnOk result (is_some self.new.opened ≡ true) }
         ensures err { OnErr result (is_some self.new.opened ≡ false) }
         ensures files_stay { self.new.files ≡ self.old.files }
-        ensures cause { HasFileCause (is_missing (Some (lookup self.old.files)) name.now) self.old.missed self.new.missed self.old.proper self.new.proper result }
+        ensures cause { HasFileCause
+            (is_missing (Some (lookup self.old.files)) name.now) self.old.missed self.new.missed self.old.proper
+            self.new.proper result }
         ensures fails { IsErr result ↔ IsTrue (is_listed self.old.calls || is_none (lookup self.old.files name.now)) }
         ensures missed { self.new.missed
             ≡ (if is_none (lookup self.old.files name.now) then raised self.old.missed else self.old.missed) }

@@ -1,5 +1,6 @@
 -- The lines of a script, and what each asks for (this project's own).
-use Rattle.std.specs.Prelude.{◌≡◌, ◌+◌, ◌<◌, ◌≤◌, slice_range, slice_index, drop, length, ℕ, Bool, cond, ◌&&◌, ◌==◌, List, [], ◌∷◌, codes, bytes_eq}
+use Rattle.std.specs.Prelude.{◌≡◌, ◌+◌, ◌<◌, ◌≤◌, slice_range, slice_index, drop, length, ℕ, Bool, cond, ◌&&◌, ◌==◌}
+use Rattle.std.specs.Prelude.{List, [], ◌∷◌, codes, bytes_eq}
 use Rattle.xml_model.specs.Chars.{begins}
 use Rattle.xml_model.specs.Items.{is_nil}
 use Rattle.vtd_program.specs.declared.commands.Line.{Line}
@@ -13,7 +14,8 @@ with_first byte (line ∷ lines) = (byte ∷ line) ∷ lines
 
 -- A line feed ends a line, and a carriage return directly before it belongs to the line end. The last line may lack it.
 abbrev pub with_byte : ℕ → Bool → List (List ℕ) → List (List ℕ)
-with_byte byte before_line_feed rest = cond (byte == 13 && before_line_feed) rest (cond (byte == 10) ([] ∷ rest) (with_first byte rest))
+with_byte byte before_line_feed rest =
+    cond (byte == 13 && before_line_feed) rest (cond (byte == 10) ([] ∷ rest) (with_first byte rest))
 
 unfoldable pub lines : List ℕ → List (List ℕ)
 lines [] = []

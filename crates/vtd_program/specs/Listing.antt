@@ -1,5 +1,5 @@
--- What the command `elements` prints (this project's own): the number of elements, and of each its start and its length, in
--- document order.
+-- What the command `elements` prints (this project's own): the number of elements, and of each its start and its
+-- length, in document order.
 use Rattle.std.specs.Prelude.{ℕ, ◌-◌, List, [], ◌∷◌, ◌++◌, length, filter, codes}
 use Rattle.std.specs.List.{flat_map}
 use Rattle.std.specs.Fmt.{decimal}

@@ -1,6 +1,7 @@
--- What a run means (this project's own): what standard output and standard error take, the status, and what is left of the
--- script, for each list of words after the program's name, files and script. The files stay.
-use Rattle.std.specs.Prelude.{◌≡◌, ℕ, ◌+◌, ◌<◌, ◌≤◌, Bool, cond, List, [], ◌∷◌, ◌++◌, length, drop, nat_lt, codes, ◌⊎◌, Option, Some, None, Result, Ok, Err, true, false}
+-- What a run means (this project's own): what standard output and standard error take, the status, and what is left of
+-- the script, for each list of words after the program's name, files and script. The files stay.
+use Rattle.std.specs.Prelude.{◌≡◌, ℕ, ◌+◌, ◌<◌, ◌≤◌, Bool, cond, List, [], ◌∷◌, ◌++◌, length, drop, nat_lt, codes, ◌⊎◌}
+use Rattle.std.specs.Prelude.{Option, Some, None, Result, Ok, Err, true, false}
 use Rattle.vtd_outside.specs.Causes.{Rose, RoseAlone, is_missing}
 use Rattle.vtd_outside.specs.Known.{NameMap}
 use Rattle.xml_model.specs.Chars.{begins}
@@ -54,7 +55,8 @@ refused_line words = codes "refused " ++ words ++ line_feed
 
 -- an end with one line that refuses, where the script is read or not, and this is left of it
 abbrev pub refused : List ℕ → Bool → List ℕ → Outcome
-refused words reads left = record { out = refused_line words; err = []; status = statuses.Refused; reads = reads; left = left }
+refused words reads left =
+    record { out = refused_line words; err = []; status = statuses.Refused; reads = reads; left = left }
 
 -- One line before the rest of a script, with what the command `elements` prints.
 abbrev pub step : List ℕ → Command → Outcome → Outcome
@@ -116,9 +118,12 @@ fault_words fault = fault_word fault ++ decimal (fault_place fault)
 
 -- a document of these bytes, and a script, which is read only where the document is accepted
 pub data MeansDocument : List ℕ → List ℕ → Outcome → Type 0 where
-  too_long : (bytes script : List ℕ) → document_limit < length bytes → MeansDocument bytes script (refused (codes "file-long") false script)
-  unfit : (bytes script : List ℕ) → length bytes ≤ document_limit → (fault : DocFault) → IsRefusal bytes fault → MeansDocument bytes script (refused (fault_words fault) false script)
-  accepted : (bytes script : List ℕ) → length bytes ≤ document_limit → (nest : Forest) → Accepted 8 bytes nest → MeansDocument bytes script (scripted bytes nest script)
+  too_long : (bytes script : List ℕ) → document_limit < length bytes →
+      MeansDocument bytes script (refused (codes "file-long") false script)
+  unfit : (bytes script : List ℕ) → length bytes ≤ document_limit → (fault : DocFault) → IsRefusal bytes fault →
+      MeansDocument bytes script (refused (fault_words fault) false script)
+  accepted : (bytes script : List ℕ) → length bytes ≤ document_limit → (nest : Forest) → Accepted 8 bytes nest →
+      MeansDocument bytes script (scripted bytes nest script)
 
 -- a file that may not be there
 abbrev pub MeansFile : Option (List ℕ) → List ℕ → Outcome → Type 0
@@ -126,7 +131,8 @@ MeansFile None script m = m ≡ record { out = []; err = []; status = statuses.F
 MeansFile (Some bytes) script m = MeansDocument bytes script m
 
 abbrev pub MeansName : Option (List ℕ) → NameMap → List ℕ → Outcome → Type 0
-MeansName None files script m = m ≡ record { out = []; err = usage_line; status = statuses.Usage; reads = false; left = script }
+MeansName None files script m =
+    m ≡ record { out = []; err = usage_line; status = statuses.Usage; reads = false; left = script }
 MeansName (Some name) files script m = MeansFile (files name) script m
 
 -- the words, files and script mean this outcome
@@ -144,9 +150,9 @@ pub record IsMeant (m : Outcome) (out err left : List ℕ) (status : Status) : T
   pub same_err : err ≡ m.err
   pub same_left : left ≡ m.left
 
--- How a run with this meaning ends, by its status, and by what was taken in it and what is left of the script: exactly as it
--- means, or earlier, after a prefix of its output. A script that could not be read was to be read; where the document could not be
--- read, the script was not touched.
+-- How a run with this meaning ends, by its status, and by what was taken in it and what is left of the script: exactly
+-- as it means, or earlier, after a prefix of its output. A script that could not be read was to be read; where the
+-- document could not be read, the script was not touched.
 abbrev pub EndsAs : Outcome → List ℕ → List ℕ → List ℕ → List ℕ → Status → Type 0
 EndsAs m script out err left statuses.Done = IsMeant m out err left statuses.Done
 EndsAs m script out err left statuses.Refused = IsMeant m out err left statuses.Refused
@@ -156,8 +162,10 @@ EndsAs m script out err left statuses.WriteFault = IsPrefix out m.out × IsPrefi
 EndsAs m script out err left statuses.FileFault = (out ≡ []) × (err ≡ []) × (left ≡ script)
 EndsAs m script out err left statuses.NoMemory = IsPrefix out m.out × (err ≡ [])
 
--- a run over objects whose bytes are known: what it means, what was taken in it, what is left of the script, and how it ends
-pub record Ran (words : List (List ℕ)) (files : NameMap) (script out_before err_before : List ℕ) (left_after out_after err_after : Option (List ℕ)) (status : Status) : Type 0 where
+-- a run over objects whose bytes are known: what it means, what was taken in it, what is left of the script, and how it
+-- ends
+pub record Ran (words : List (List ℕ)) (files : NameMap) (script out_before err_before : List ℕ)
+    (left_after out_after err_after : Option (List ℕ)) (status : Status) : Type 0 where
   pub m : Outcome
   pub means : Means words files script m
   pub out : List ℕ
@@ -169,7 +177,8 @@ pub record Ran (words : List (List ℕ)) (files : NameMap) (script out_before er
   pub ends : EndsAs m script out err left status
 
 -- a run that leaves exactly what the words, the files and the script mean
-pub record RanExactly (words : List (List ℕ)) (files : NameMap) (script out_before err_before : List ℕ) (left_after out_after err_after : Option (List ℕ)) (status : Status) : Type 0 where
+pub record RanExactly (words : List (List ℕ)) (files : NameMap) (script out_before err_before : List ℕ)
+    (left_after out_after err_after : Option (List ℕ)) (status : Status) : Type 0 where
   pub m : Outcome
   pub means : Means words files script m
   pub out_taken : out_after ≡ Some (out_before ++ m.out)
@@ -183,20 +192,25 @@ pub record IsBuilt (doc : Document) : Type 0 where
   pub accepted : Accepted 8 doc.bytes nest
   pub words : (other : Forest) → Accepted 8 doc.bytes other → IsNavOf doc.bytes doc.words other
 
--- Why no document was read, by the answer, where the files are known: the name is not there, the file is too long, or it is
--- refused. Otherwise a document was read whose bytes are the file's, within the limit.
+-- Why no document was read, by the answer, where the files are known: the name is not there, the file is too long, or
+-- it is refused. Otherwise a document was read whose bytes are the file's, within the limit.
 abbrev pub ReadsDocument : Option NameMap → List ℕ → Result Document NoDocument → Type 0
 ReadsDocument None name result = Unit {0}
-ReadsDocument (Some files) name (Ok doc) = (files name ≡ Some doc.bytes) × (length doc.bytes ≤ document_limit) × IsBuilt doc
+ReadsDocument (Some files) name (Ok doc) =
+    (files name ≡ Some doc.bytes) × (length doc.bytes ≤ document_limit) × IsBuilt doc
 ReadsDocument (Some files) name (Err no.Failed) = Unit {0}
 ReadsDocument (Some files) name (Err no.NoMemory) = Unit {0}
-ReadsDocument (Some files) name (Err no.Long) = (bytes : List ℕ) × (files name ≡ Some bytes) × (document_limit < length bytes)
-ReadsDocument (Some files) name (Err (no.Unfit fault)) = (bytes : List ℕ) × (files name ≡ Some bytes) × (length bytes ≤ document_limit) × IsRefusal bytes fault
+ReadsDocument (Some files) name (Err no.Long) =
+    (bytes : List ℕ) × (files name ≡ Some bytes) × (document_limit < length bytes)
+ReadsDocument (Some files) name (Err (no.Unfit fault)) =
+    (bytes : List ℕ) × (files name ≡ Some bytes) × (length bytes ≤ document_limit) × IsRefusal bytes fault
 
 -- no document was read: a fault of the files came alone, by the name or proper; else no count rose
 abbrev pub DocumentCause : Bool → ℕ → ℕ → ℕ → ℕ → Result Document NoDocument → Type 0
-DocumentCause missing missed_before missed proper_before proper (Err no.Failed) = RoseAlone missing missed_before missed proper_before proper
-DocumentCause missing missed_before missed proper_before proper result = (missed ≡ missed_before) × (proper ≡ proper_before)
+DocumentCause missing missed_before missed proper_before proper (Err no.Failed) =
+    RoseAlone missing missed_before missed proper_before proper
+DocumentCause missing missed_before missed proper_before proper result =
+    (missed ≡ missed_before) × (proper ≡ proper_before)
 
 -- a sink takes the whole of a piece, or a prefix of it, where it says what it took
 abbrev pub SendsAll : Option (List ℕ) → Option (List ℕ) → List ℕ → Type 0
@@ -214,12 +228,14 @@ SendsPrefix (Some before) None piece = ⊥
 -- A piece was sent and the run goes on or ends so, or a prefix of it was and the count of faults rose.
 abbrev pub SendsAs : Option (List ℕ) → Option (List ℕ) → List ℕ → ℕ → ℕ → Status → Status → Type 0
 SendsAs before after piece faults_before faults status result =
-    ((result ≡ status) × SendsAll before after piece × (faults ≡ faults_before)) ⊎ ((result ≡ statuses.WriteFault) × SendsPrefix before after piece × Rose faults_before faults)
+    ((result ≡ status) × SendsAll before after piece × (faults ≡ faults_before))
+        ⊎ ((result ≡ statuses.WriteFault) × SendsPrefix before after piece × Rose faults_before faults)
 
 -- The line of a refused document was sent, or there was no memory for it and nothing was sent.
 abbrev pub EndsUnfit : Option (List ℕ) → Option (List ℕ) → DocFault → ℕ → ℕ → Status → Type 0
 EndsUnfit before after fault faults_before faults result =
-    ((result ≡ statuses.NoMemory) × (after ≡ before) × (faults ≡ faults_before)) ⊎ SendsAs before after (refused_line (fault_words fault)) faults_before faults statuses.Refused result
+    ((result ≡ statuses.NoMemory) × (after ≡ before) × (faults ≡ faults_before))
+        ⊎ SendsAs before after (refused_line (fault_words fault)) faults_before faults statuses.Refused result
 
 -- how the carrying out of a script may end
 abbrev pub EndsInScript : Status → Type 0
@@ -231,17 +247,22 @@ EndsInScript _ = Unit {0}
 -- The count stays where a line was carried out, and rises where its output could not be sent.
 abbrev pub LineCause : ℕ → ℕ → Result (Unit {0}) Status → Type 0
 LineCause faults_before faults (Ok x) = faults ≡ faults_before
-LineCause faults_before faults (Err status) = EndsInScript status × (status ≡ statuses.WriteFault → Rose faults_before faults)
+LineCause faults_before faults (Err status) =
+    EndsInScript status × (status ≡ statuses.WriteFault → Rose faults_before faults)
 
 -- One line of a script was carried out (Ok), or the run ends at it.
-abbrev pub CarriesLine : Option (List ℕ) → Option (List ℕ) → ℕ → ℕ → List ℕ → Command → Result (Unit {0}) Status → Type 0
+abbrev pub CarriesLine : Option (List ℕ) → Option (List ℕ) → ℕ → ℕ → List ℕ → Command → Result (Unit {0}) Status →
+    Type 0
 CarriesLine before after faults_before faults listing Skip (Ok x) = (after ≡ before) × (faults ≡ faults_before)
-CarriesLine before after faults_before faults listing Elements (Ok x) = SendsAll before after listing × (faults ≡ faults_before)
+CarriesLine before after faults_before faults listing Elements (Ok x) =
+    SendsAll before after listing × (faults ≡ faults_before)
 CarriesLine before after faults_before faults listing Unknown (Ok x) = ⊥
 CarriesLine before after faults_before faults listing Skip (Err status) = ⊥
 CarriesLine before after faults_before faults listing Elements (Err status) =
-    ((status ≡ statuses.NoMemory) × (after ≡ before) × (faults ≡ faults_before)) ⊎ ((status ≡ statuses.WriteFault) × SendsPrefix before after listing × Rose faults_before faults)
-CarriesLine before after faults_before faults listing Unknown (Err status) = SendsAs before after (refused_line (codes "command")) faults_before faults statuses.Refused status
+    ((status ≡ statuses.NoMemory) × (after ≡ before) × (faults ≡ faults_before))
+        ⊎ ((status ≡ statuses.WriteFault) × SendsPrefix before after listing × Rose faults_before faults)
+CarriesLine before after faults_before faults listing Unknown (Err status) =
+    SendsAs before after (refused_line (codes "command")) faults_before faults statuses.Refused status
 
 -- how a script with this meaning was carried out, by what was taken
 abbrev pub CarriesTo : Outcome → List ℕ → Status → Type 0
@@ -260,7 +281,8 @@ pub record Carries (m : Outcome) (before : List ℕ) (after : Option (List ℕ))
   pub carries : CarriesTo m out status
 
 -- a script that was run over a document with this nest
-pub record RanScript (bytes : List ℕ) (nest : Forest) (script before : List ℕ) (left_after after : Option (List ℕ)) (status : Status) : Type 0 where
+pub record RanScript (bytes : List ℕ) (nest : Forest) (script before : List ℕ) (left_after after : Option (List ℕ))
+    (status : Status) : Type 0 where
   pub out : List ℕ
   pub left : List ℕ
   pub taken : after ≡ Some (before ++ out)
@@ -281,4 +303,5 @@ WriteCause (Some name) out_before out_after err_before err_after = Rose out_befo
 -- The document could not be read: its name is known not to be there, or the proper count rose.
 abbrev pub FileCause : Option (List ℕ) → Option NameMap → ℕ → ℕ → ℕ → ℕ → Type 0
 FileCause None files missed_before missed proper_before proper = ⊥
-FileCause (Some name) files missed_before missed proper_before proper = RoseAlone (is_missing files name) missed_before missed proper_before proper
+FileCause (Some name) files missed_before missed proper_before proper =
+    RoseAlone (is_missing files name) missed_before missed proper_before proper

@@ -1,7 +1,8 @@
 //! The edge: files, standard input, standard output and standard error of the system, each with a count of faults.
 //! They say nothing of the bytes.
 
-ghost use Rattle.std.specs.Prelude.{◌≡◌, ℕ, ◌+◌, ◌<◌, ◌≤◌, Bool, true, false, List, Option, None, length, IfOk, OnOk, OnErr};
+ghost use Rattle.std.specs.Prelude.{◌≡◌, ℕ, ◌+◌, ◌<◌, ◌≤◌, Bool, true, false, List, Option, None, length, IfOk, OnOk};
+ghost use Rattle.std.specs.Prelude.{OnErr};
 
 use std::fs::File;
 use std::io::{Read, Write};

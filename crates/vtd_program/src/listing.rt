@@ -1,6 +1,7 @@
 //! The lines that a command prints.
 
-ghost use Rattle.std.specs.Prelude.{◌≡◌, ℕ, ◌+◌, ◌-◌, ◌^◌, ◌<◌, ◌≤◌, List, ◌∷◌, ◌++◌, [], length, vec_len, codes, OnOk, IfOk};
+ghost use Rattle.std.specs.Prelude.{◌≡◌, ℕ, ◌+◌, ◌-◌, ◌^◌, ◌<◌, ◌≤◌, List, ◌∷◌, ◌++◌, [], length, vec_len, codes, OnOk};
+ghost use Rattle.std.specs.Prelude.{IfOk};
 ghost use Rattle.xml_model.specs.Nest.{Forest};
 ghost use Rattle.xml_model.specs.Items.{first_place};
 ghost use Rattle.vtd_location.specs.Nav.{IsNavOf};
@@ -69,7 +70,8 @@ fn span_lines(alloc: Global, spans: &[Span]) -> Result<Vec<u8>, NoMemory>
 /// # Errors
 /// `NoMemory` where the memory for the lines was not to be had.
 pub fn element_lines(alloc: Global, doc: &Doc) -> Result<Vec<u8>, NoMemory>
-    ensures { IfOk result (λ lines. (nest : Forest) → IsNavOf doc.now.bytes doc.now.words nest → lines.items ≡ listed nest (first_place doc.now.bytes)) }
+    ensures { IfOk result (λ lines. (nest : Forest) → IsNavOf doc.now.bytes doc.now.words nest →
+        lines.items ≡ listed nest (first_place doc.now.bytes)) }
 {
     let spans = element_spans(alloc, doc)?;
     span_lines(alloc, &spans)

@@ -1,12 +1,16 @@
 //! The top call: what the words, the files and the script mean.
 
-ghost use Rattle.std.specs.Prelude.{◌⊎◌, ◌≡◌, ℕ, ◌+◌, ◌-◌, ◌^◌, ◌<◌, ◌≤◌, List, length, map, false, Some, string_bytes, option_copied, Err, IsTrue};
+ghost use Rattle.std.specs.Prelude.{◌⊎◌, ◌≡◌, ℕ, ◌+◌, ◌-◌, ◌^◌, ◌<◌, ◌≤◌, List, length, map, false, Some, string_bytes};
+ghost use Rattle.std.specs.Prelude.{option_copied, Err, IsTrue};
 ghost use Rattle.vtd_outside.specs.Causes.{Rose, is_missing};
 ghost use Rattle.vtd_outside.specs.Known.{NameMap};
 ghost use Rattle.xml_model.specs.Nest.{Forest};
 ghost use Rattle.vtd_location.specs.Nav.{IsNavOf};
 ghost use Rattle.vtd_program.specs.Lines.{command, lines};
-ghost use Rattle.vtd_program.specs.Meaning.{document_name, listed_in, EndsUnfit, carried_out, ReadsDocument, DocumentCause, SendsAs, CarriesLine, LineCause, Carries, EndsInScript, RanScript, Ran, RanExactly, ReadCause, WriteCause, FileCause, Outcome, Means};
+ghost use Rattle.vtd_program.specs.Meaning.{document_name, listed_in, EndsUnfit, carried_out, ReadsDocument};
+ghost use Rattle.vtd_program.specs.Meaning.{DocumentCause, SendsAs, CarriesLine, LineCause, Carries, EndsInScript};
+ghost use Rattle.vtd_program.specs.Meaning.{RanScript, Ran, RanExactly, ReadCause, WriteCause, FileCause, Outcome};
+ghost use Rattle.vtd_program.specs.Meaning.{Means};
 
 use crate::commands::{Command, command_of, next_line};
 use crate::listing::{element_lines, fault_line};
@@ -81,7 +85,8 @@ fn document_name(words: &[String]) -> Option<&str>
 fn read_document<F: Files>(alloc: Global, files: &mut F, name: &str) -> Result<Doc, NoDocument>
     requires { F.is_writing files.old ≡ false }
     ensures reads { ReadsDocument (F.contents files.old) name.now result }
-    ensures cause { DocumentCause (is_missing (F.contents files.old) name.now) (F.missed files.old) (F.missed files.new) (F.proper files.old) (F.proper files.new) result }
+    ensures cause { DocumentCause (is_missing (F.contents files.old) name.now) (F.missed files.old) (F.missed files.new)
+        (F.proper files.old) (F.proper files.new) result }
     ensures missing { IsTrue (is_missing (F.contents files.old) name.now) → result ≡ Err NoDocument.Failed }
     ensures files_stay { F.contents files.new ≡ F.contents files.old }
     ensures writing_stays { F.is_writing files.new ≡ false }
@@ -101,7 +106,8 @@ fn read_document<F: Files>(alloc: Global, files: &mut F, name: &str) -> Result<D
 
 /// Sends one line, and ends with a status where it was sent.
 fn end_with<K: Sink>(sink: &mut K, line: &[u8], status: Status) -> Status
-    ensures { SendsAs (K.taken sink.old) (K.taken sink.new) line.now (K.faults sink.old) (K.faults sink.new) status result }
+    ensures { SendsAs (K.taken sink.old) (K.taken sink.new) line.now (K.faults sink.old)
+        (K.faults sink.new) status result }
 {
     match send(sink, line) {
         Ok(()) => status,
@@ -119,12 +125,13 @@ fn end_unfit<K: Sink>(alloc: Global, fault: DocFault, out: &mut K) -> Status
     }
 }
 
-/// Carries out one line. The run ends at it where it is refused, where what it prints could not be sent, and for want of
-/// memory.
+/// Carries out one line. The run ends at it where it is refused, where what it prints could not be sent, and for want
+/// of memory.
 fn carry_line<K: Sink>(alloc: Global, doc: &Doc, line: &[u8], out: &mut K) -> Result<(), Status>
     ensures cause { LineCause (K.faults out.old) (K.faults out.new) result }
     ensures carries { (nest : Forest) → IsNavOf doc.now.bytes doc.now.words nest
-        → CarriesLine (K.taken out.old) (K.taken out.new) (K.faults out.old) (K.faults out.new) (listed_in doc.now.bytes nest) (command line.now) result }
+        → CarriesLine (K.taken out.old) (K.taken out.new) (K.faults out.old) (K.faults out.new)
+        (listed_in doc.now.bytes nest) (command line.now) result }
 {
     match command_of(line) {
         Command::Skip => Ok(()),
@@ -172,8 +179,8 @@ fn carry_out<K: Sink>(alloc: Global, doc: &Doc, script: &[u8], out: &mut K) -> S
 ///
 /// # Errors
 /// `ReadFault` only where the count of faults of `script` rose in this call; `WriteFault` only where that of `out` did,
-/// or that of `err` where the words are not of the form; `FileFault` only where the name is known not to be there or the
-/// proper count of `files` rose. `NoMemory` may come at any time.
+/// or that of `err` where the words are not of the form; `FileFault` only where the name is known not to be there or
+/// the proper count of `files` rose. `NoMemory` may come at any time.
 pub fn run<F: Files, S: Source, K: Sink, E: Sink>(
     alloc: Global,
     words: &[String],
@@ -184,25 +191,37 @@ pub fn run<F: Files, S: Source, K: Sink, E: Sink>(
 ) -> Status
     requires { F.is_writing files.old ≡ false }
     // Words, files and a script mean one outcome, and none is without.
-    ensures one_meaning { (contents : NameMap) (left : List ℕ) (m n : Outcome) → Means (map string_bytes words.now) contents left m → Means (map string_bytes words.now) contents left n → m ≡ n }
-    ensures some_meaning { (contents : NameMap) (left : List ℕ) → (m : Outcome) × Means (map string_bytes words.now) contents left m }
+    ensures one_meaning { (contents : NameMap) (left : List ℕ) (m n : Outcome) →
+        Means (map string_bytes words.now) contents left m → Means (map string_bytes words.now) contents left n →
+        m ≡ n }
+    ensures some_meaning { (contents : NameMap) (left : List ℕ) →
+        (m : Outcome) × Means (map string_bytes words.now) contents left m }
 
     // What the run leaves is what they mean, where the bytes of all objects are known.
-    ensures meaning { (contents : NameMap) (left taken known : List ℕ) → F.contents files.old ≡ Some contents → S.left script.old ≡ Some left
+    ensures meaning { (contents : NameMap) (left taken known : List ℕ) → F.contents files.old ≡ Some contents →
+        S.left script.old ≡ Some left
         → K.taken out.old ≡ Some taken → E.taken err.old ≡ Some known
-        → Ran (map string_bytes words.now) contents left taken known (S.left script.new) (K.taken out.new) (E.taken err.new) result }
+        → Ran (map string_bytes words.now) contents left taken known (S.left script.new) (K.taken out.new)
+        (E.taken err.new) result }
     // It is exactly that, or there was no memory, where no count of faults rose but for a name that is not there.
-    ensures exact { (contents : NameMap) (left taken known : List ℕ) → F.contents files.old ≡ Some contents → S.left script.old ≡ Some left
+    ensures exact { (contents : NameMap) (left taken known : List ℕ) → F.contents files.old ≡ Some contents →
+        S.left script.old ≡ Some left
         → K.taken out.old ≡ Some taken → E.taken err.old ≡ Some known
-        → ¬ Rose (S.faults script.old) (S.faults script.new) → ¬ Rose (K.faults out.old) (K.faults out.new) → ¬ Rose (E.faults err.old) (E.faults err.new) → ¬ Rose (F.proper files.old) (F.proper files.new)
-        → (result ≡ Status.NoMemory) ⊎ RanExactly (map string_bytes words.now) contents left taken known (S.left script.new) (K.taken out.new) (E.taken err.new) result }
+        → ¬ Rose (S.faults script.old) (S.faults script.new) → ¬ Rose (K.faults out.old) (K.faults out.new) →
+        ¬ Rose (E.faults err.old) (E.faults err.new) → ¬ Rose (F.proper files.old) (F.proper files.new)
+        → (result ≡ Status.NoMemory)
+        ⊎ RanExactly (map string_bytes words.now) contents left taken known (S.left script.new) (K.taken out.new)
+        (E.taken err.new) result }
 
     // A fault comes only by its cause, whether the bytes are known or not.
-    ensures read_fault { result ≡ Status.ReadFault → ReadCause (document_name (map string_bytes words.now)) (S.faults script.old) (S.faults script.new) }
+    ensures read_fault { result ≡ Status.ReadFault →
+        ReadCause (document_name (map string_bytes words.now)) (S.faults script.old) (S.faults script.new) }
     ensures write_fault { result ≡ Status.WriteFault
-        → WriteCause (document_name (map string_bytes words.now)) (K.faults out.old) (K.faults out.new) (E.faults err.old) (E.faults err.new) }
+        → WriteCause (document_name (map string_bytes words.now)) (K.faults out.old) (K.faults out.new)
+        (E.faults err.old) (E.faults err.new) }
     ensures file_fault { result ≡ Status.FileFault
-        → FileCause (document_name (map string_bytes words.now)) (F.contents files.old) (F.missed files.old) (F.missed files.new) (F.proper files.old) (F.proper files.new) }
+        → FileCause (document_name (map string_bytes words.now)) (F.contents files.old) (F.missed files.old)
+        (F.missed files.new) (F.proper files.old) (F.proper files.new) }
     ensures files_stay { F.contents files.new ≡ F.contents files.old }
     ensures writing_stays { F.is_writing files.new ≡ false }
 {

@@ -20,7 +20,8 @@ use xml_model::{Kind, NoMemory, Span};
 /// # Errors
 /// `NoMemory` where the memory for the spans was not to be had.
 pub fn element_spans(alloc: Global, doc: &Doc) -> Result<Vec<Span>, NoMemory>
-    ensures { IfOk result (λ spans. (nest : Forest) → IsNavOf doc.now.bytes doc.now.words nest → spans.items ≡ spans_of (elements nest (first_place doc.now.bytes))) }
+    ensures { IfOk result (λ spans. (nest : Forest) → IsNavOf doc.now.bytes doc.now.words nest →
+        spans.items ≡ spans_of (elements nest (first_place doc.now.bytes))) }
 {
     let nav = doc.nav();
     spans_of(alloc, &nav)
@@ -28,7 +29,8 @@ pub fn element_spans(alloc: Global, doc: &Doc) -> Result<Vec<Span>, NoMemory>
 
 /// The span of the element that begins at a record; `None` exactly where none does.
 fn element_span<W: Words>(nav: &Nav<'_, W>, at: u32) -> Option<Span>
-    ensures { (nest : Forest) → IsNestOf nav.now.bytes (W.lists nav.now.words) nest → result ≡ element_span_at at (nodes_of nav.now.bytes nest) }
+    ensures { (nest : Forest) → IsNestOf nav.now.bytes (W.lists nav.now.words) nest →
+        result ≡ element_span_at at (nodes_of nav.now.bytes nest) }
 {
     let node = nav.table().node_at(at)?;
     match node.kind {
@@ -52,7 +54,8 @@ fn push_span(spans: &mut Vec<Span>, span: Span) -> Result<(), NoMemory>
 
 /// The spans of the elements, record by record.
 fn spans_of<W: Words>(alloc: Global, nav: &Nav<'_, W>) -> Result<Vec<Span>, NoMemory>
-    ensures { IfOk result (λ spans. (nest : Forest) → IsNestOf nav.now.bytes (W.lists nav.now.words) nest → spans.items ≡ spans_of (elements nest (first_place nav.now.bytes))) }
+    ensures { IfOk result (λ spans. (nest : Forest) → IsNestOf nav.now.bytes (W.lists nav.now.words) nest →
+        spans.items ≡ spans_of (elements nest (first_place nav.now.bytes))) }
 {
     let records = record_count(nav);
     let mut spans = Vec::new(alloc);

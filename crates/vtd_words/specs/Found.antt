@@ -1,4 +1,5 @@
--- The node that begins at a record, where it passes a test: what look-ups of the crates above promise (this project's own).
+-- The node that begins at a record, where it passes a test: what look-ups of the crates above promise (this project's
+-- own).
 use Rattle.std.specs.Prelude.{◌≡◌, ℕ, Bool, true, List, Option, Some, None, Contains}
 use Rattle.xml_model.specs.declared.Node.{Node}
 use Rattle.xml_model.specs.Tree.{Thing, Entry}

@@ -55,7 +55,8 @@ value_place at a = at + size a.space + size (before_value a)
 -- the places of such references in the values of attributes from a place on
 abbrev pub unknown_attributes : ℕ → List Attribute → List ℕ
 unknown_attributes at [] = []
-unknown_attributes at (a ∷ others) = unknown_pieces (value_place at a) a.value ++ unknown_attributes (at + size (written_attribute a)) others
+unknown_attributes at (a ∷ others) =
+    unknown_pieces (value_place at a) a.value ++ unknown_attributes (at + size (written_attribute a)) others
 
 -- and in an item at a place
 abbrev pub unknown_item : ℕ → Item → List ℕ
@@ -66,7 +67,8 @@ unknown_item at _ = []
 
 -- 4. An encoding that is neither UTF-8 nor US-ASCII, ASCII letter case aside: which are known.
 abbrev pub is_known_encoding : List ℕ → Bool
-is_known_encoding name = bytes_eq (map to_ascii_lowercase name) (codes "utf-8") || bytes_eq (map to_ascii_lowercase name) (codes "us-ascii")
+is_known_encoding name =
+    bytes_eq (map to_ascii_lowercase name) (codes "utf-8") || bytes_eq (map to_ascii_lowercase name) (codes "us-ascii")
 
 -- the place of an encoding that is not known, if the declaration's part begins at a place
 abbrev pub unknown_encoding : ℕ → Option Attribute → List ℕ
@@ -138,12 +140,17 @@ pub record IsDocument (bytes : List ℕ) (nest : Forest) : Type 0 where
 
 -- 6. A record has no room for a token. The types of records that have the fields of a name.
 abbrev pub is_name_token : ℕ → Bool
-is_name_token n = list_any (λ k. n == k) (kind_number token.StartTag ∷ kind_number token.AttributeName ∷ kind_number token.NamespaceName ∷ kind_number token.Target ∷ kind_number token.PartName ∷ [])
+is_name_token n =
+    list_any (λ k. n == k) (kind_number token.StartTag ∷ kind_number token.AttributeName
+    ∷ kind_number token.NamespaceName ∷ kind_number token.Target ∷ kind_number token.PartName ∷ [])
 
 -- the field of a record that is too wide: of names the whole first (2,047 bytes) and then the prefix (511), of others
 -- the token (1,048,575)
 abbrev pub too_wide : Record → Option Field
-too_wide r = cond (is_name_token r.token) (cond (nat_lt 2047 r.len) (Some fields.Name) (cond (nat_lt 511 r.prefix) (Some fields.Prefix) None)) (cond (nat_lt 1_048_575 r.len) (Some fields.Token) None)
+too_wide r =
+    cond (is_name_token r.token)
+    (cond (nat_lt 2047 r.len) (Some fields.Name) (cond (nat_lt 511 r.prefix) (Some fields.Prefix) None))
+    (cond (nat_lt 1_048_575 r.len) (Some fields.Token) None)
 
 -- the first of what is found here and further on
 abbrev pub wide_here : Option Field → ℕ → Option (Field × ℕ) → Option (Field × ℕ)
@@ -176,13 +183,17 @@ abbrev pub over_names : Faults → List Tag → ℕ → Forest → List ℕ
 over_names w tags at done = []
 over_names w tags at (single x f) = leaf_faults w at x ++ over_names w tags (past_leaf at x) f
 over_names w tags at (empty t f) = w.tag at tags t ++ over_names w tags (past_empty at t) f
-over_names w tags at (element t inside space f) = w.tag at tags t ++ over_names w (t ∷ tags) (past_start at t) inside ++ over_names w tags (past_element at t inside space) f
+over_names w tags at (element t inside space f) =
+    w.tag at tags t ++ over_names w (t ∷ tags) (past_start at t) inside
+    ++ over_names w tags (past_element at t inside space) f
 
 -- 7. A name of a tag repeats an earlier one, byte for byte (XML 1.0, section 3.1, constraint 'Unique Att Spec'): the
 -- places of those that do, after those seen.
 abbrev pub repeated : ℕ → List (List ℕ) → List Attribute → List ℕ
 repeated at seen [] = []
-repeated at seen (a ∷ others) = cond (list_any (bytes_eq a.name) seen) (name_place at a ∷ []) [] ++ repeated (at + size (written_attribute a)) (a.name ∷ seen) others
+repeated at seen (a ∷ others) =
+    cond (list_any (bytes_eq a.name) seen) (name_place at a ∷ []) []
+    ++ repeated (at + size (written_attribute a)) (a.name ∷ seen) others
 
 -- 7. in a nest
 abbrev pub repeats : Faults
@@ -216,14 +227,16 @@ is_reserved uri = bytes_eq uri xml_uri || bytes_eq uri xmlns_uri
 abbrev pub declaration_offends : List ℕ → List ℕ → Bool
 declaration_offends name uri =
     cond (bytes_eq name (codes "xmlns")) (is_reserved uri)
-    (cond (bytes_eq name (codes "xmlns:xml")) (not (bytes_eq uri xml_uri)) (bytes_eq name (codes "xmlns:xmlns") || is_nil uri || is_reserved uri))
+    (cond (bytes_eq name (codes "xmlns:xml")) (not (bytes_eq uri xml_uri)) (bytes_eq name (codes "xmlns:xmlns")
+        || is_nil uri || is_reserved uri))
 
 -- whether an attribute offends: by no qualified name, a bad declaration, an unbound prefix, or an expanded name that
 -- an earlier attribute has (Namespaces in XML 1.0, section 6.3, constraint 'Attributes Unique')
 abbrev pub attribute_offends : List Tag → List Expanded → Attribute → Bool
 attribute_offends tags seen a =
     not (is_qname a.name)
-    || cond (declares a.name) (declaration_offends a.name (value_content a.value)) (not (is_bound (prefix_of a.name) tags) || list_any (same_expanded (expanded_of tags a)) seen)
+    || cond (declares a.name) (declaration_offends a.name (value_content a.value))
+        (not (is_bound (prefix_of a.name) tags) || list_any (same_expanded (expanded_of tags a)) seen)
 
 -- the expanded names seen, with that of an attribute
 abbrev pub seen_with : List Tag → Attribute → List Expanded → List Expanded
@@ -232,15 +245,20 @@ seen_with tags a seen = cond (declares a.name) [] (expanded_of tags a ∷ []) ++
 -- the places of the names that offend among attributes from a place on
 abbrev pub offending_attributes : List Tag → ℕ → List Expanded → List Attribute → List ℕ
 offending_attributes tags at seen [] = []
-offending_attributes tags at seen (a ∷ others) = cond (attribute_offends tags seen a) (name_place at a ∷ []) [] ++ offending_attributes tags (at + size (written_attribute a)) (seen_with tags a seen) others
+offending_attributes tags at seen (a ∷ others) =
+    cond (attribute_offends tags seen a) (name_place at a ∷ []) []
+    ++ offending_attributes tags (at + size (written_attribute a)) (seen_with tags a seen) others
 
 -- whether the name of a tag offends: by being no qualified name, by the prefix xmlns, or by an unbound prefix
 abbrev pub tag_offends : List Tag → List ℕ → Bool
-tag_offends tags name = not (is_qname name) || bytes_eq (prefix_of name) (codes "xmlns") || not (is_bound (prefix_of name) tags)
+tag_offends tags name =
+    not (is_qname name) || bytes_eq (prefix_of name) (codes "xmlns") || not (is_bound (prefix_of name) tags)
 
 -- the places of the names that offend in a tag at a place
 abbrev pub offending_tag : ℕ → List Tag → Tag → List ℕ
-offending_tag at tags t = cond (tag_offends (t ∷ tags) t.name) ((at + 1) ∷ []) [] ++ offending_attributes (t ∷ tags) (attributes_place at t) [] t.attributes
+offending_tag at tags t =
+    cond (tag_offends (t ∷ tags) t.name) ((at + 1) ∷ []) []
+    ++ offending_attributes (t ∷ tags) (attributes_place at t) [] t.attributes
 
 -- 8. in a nest; the target of an instruction has no colon: Namespaces in XML 1.0, section 7
 abbrev pub offences : Faults

@@ -153,7 +153,9 @@ written_leaf (text ps) = written_pieces ps
 written_leaf (cdata cs) = codes "<![CDATA[" ++ cs ++ codes "]]>"
 written_leaf (Leaf.comment cs) = codes "<!--" ++ cs ++ codes "-->"
 written_leaf (Leaf.instruction i) = codes "<?" ++ i.target ++ i.space ++ i.content ++ codes "?>"
-written_leaf (declaration d) = codes "<?xml" ++ written_attribute d.version ++ written_option d.encoding ++ written_option d.standalone ++ d.space ++ codes "?>"
+written_leaf (declaration d) =
+    codes "<?xml" ++ written_attribute d.version ++ written_option d.encoding ++ written_option d.standalone ++ d.space
+    ++ codes "?>"
 written_leaf (doctype d) = codes "<!DOCTYPE" ++ d.space ++ d.name ++ written_units d.units ++ codes ">"
 
 -- STag: XML 1.0, production 40
@@ -199,7 +201,9 @@ meets_piece stops (hexadecimal digits) = is_number 16 digits
 
 -- Attribute: XML 1.0, productions 41, 25 and 10
 abbrev pub meets_attribute : Attribute → Bool
-meets_attribute a = is_white a.space && is_name a.name && is_blank a.left && is_blank a.right && list_all (meets_piece (λ c. c == quote_char a.quote)) a.value
+meets_attribute a =
+    is_white a.space && is_name a.name && is_blank a.left && is_blank a.right
+    && list_all (meets_piece (λ c. c == quote_char a.quote)) a.value
 
 -- the inside of a start tag or an empty tag: XML 1.0, productions 40 and 44
 abbrev pub meets_tag : Tag → Bool
@@ -223,7 +227,8 @@ is_nil (c ∷ cs) = false
 -- no data without it
 abbrev pub meets_instruction : Instruction → Bool
 meets_instruction i =
-    is_name i.target && not (bytes_eq (map to_ascii_lowercase i.target) (codes "xml")) && is_blank i.space && list_all is_char i.content && lacks (codes "?>") i.content
+    is_name i.target && not (bytes_eq (map to_ascii_lowercase i.target) (codes "xml")) && is_blank i.space
+        && list_all is_char i.content && lacks (codes "?>") i.content
     && not (begins_with_space i.content) && (not (is_nil i.space) || is_nil i.content)
 
 -- an ASCII letter
@@ -233,7 +238,8 @@ is_letter c = in_ranges ((65, 90) ∷ (97, 122) ∷ []) c
 -- EncName: XML 1.0, production 81
 abbrev pub is_encoding_name : List ℕ → Bool
 is_encoding_name [] = false
-is_encoding_name (c ∷ cs) = is_letter c && list_all (λ d. is_letter d || in_ranges ((48, 57) ∷ (45, 46) ∷ (95, 95) ∷ []) d) cs
+is_encoding_name (c ∷ cs) =
+    is_letter c && list_all (λ d. is_letter d || in_ranges ((48, 57) ∷ (45, 46) ∷ (95, 95) ∷ []) d) cs
 
 -- VersionNum: XML 1.0, production 26
 abbrev pub is_version : List ℕ → Bool
@@ -255,7 +261,8 @@ meets_part_if_there name test (Some a) = meets_part name test a
 -- XMLDecl: XML 1.0, productions 23 to 26, 32 and 80
 abbrev pub meets_declaration : Declaration → Bool
 meets_declaration d =
-    meets_part (codes "version") is_version d.version && meets_part_if_there (codes "encoding") is_encoding_name d.encoding
+    meets_part (codes "version") is_version d.version
+        && meets_part_if_there (codes "encoding") is_encoding_name d.encoding
     && meets_part_if_there (codes "standalone") is_yes_or_no d.standalone && is_blank d.space
 
 -- a quoted literal: Chars other than its quote
@@ -269,7 +276,9 @@ meets_inner (SubsetUnit.comment cs ∷ us) = is_comment_text cs && meets_inner u
 meets_inner (SubsetUnit.instruction cs ∷ us) = list_all is_char cs && lacks (codes "?>") cs && meets_inner us
 meets_inner (SubsetUnit.quoted q cs ∷ us) = meets_quoted q cs && meets_inner us
 meets_inner (SubsetUnit.char c ∷ us) =
-    is_char c && list_all (λ d. not (c == d)) (codes "\"']") && not (begins (codes "<!--") (c ∷ flat_map written_inner us)) && not (begins (codes "<?") (c ∷ flat_map written_inner us))
+    is_char c && list_all (λ d. not (c == d)) (codes "\"']")
+    && not (begins (codes "<!--") (c ∷ flat_map written_inner us))
+    && not (begins (codes "<?") (c ∷ flat_map written_inner us))
     && meets_inner us
 
 -- whether a unit is a subset
@@ -295,12 +304,16 @@ begins_with_name_char (c ∷ cs) = is_name_char c
 
 -- a DOCTYPE: S, a Name that is as long as it can be, and units. This project's own scan of XML 1.0, production 28
 abbrev pub meets_doctype : Doctype → Bool
-meets_doctype d = is_white d.space && is_name d.name && not (begins_with_name_char (written_units d.units)) && list_all meets_unit d.units && has_one_subset d.units
+meets_doctype d =
+    is_white d.space && is_name d.name && not (begins_with_name_char (written_units d.units))
+    && list_all meets_unit d.units && has_one_subset d.units
 
 -- whether a leaf meets the productions of its kind: a text is not empty and has no ]]> (XML 1.0, section 2.4), and so
 -- on
 abbrev pub meets_leaf : Leaf → Bool
-meets_leaf (text ps) = not (is_nil (written_pieces ps)) && list_all (meets_piece (λ c. false)) ps && lacks (codes "]]>") (written_pieces ps)
+meets_leaf (text ps) =
+    not (is_nil (written_pieces ps)) && list_all (meets_piece (λ c. false)) ps
+    && lacks (codes "]]>") (written_pieces ps)
 meets_leaf (cdata cs) = list_all is_char cs && lacks (codes "]]>") cs
 meets_leaf (Leaf.comment cs) = is_comment_text cs
 meets_leaf (Leaf.instruction i) = meets_instruction i
@@ -337,7 +350,9 @@ may_begin_at _ first p = true
 
 -- an item begins at a place: it meets the productions of its kind, its spelling is there, and it ends well
 unfoldable pub begins_at : List ℕ → ℕ → Item → Bool
-begins_at bytes p i = meets i && begins (spelling i) (drop p bytes) && ends_well i (drop (p + length (spelling i)) bytes) && may_begin_at i (first_place bytes) p
+begins_at bytes p i =
+    meets i && begins (spelling i) (drop p bytes) && ends_well i (drop (p + length (spelling i)) bytes)
+    && may_begin_at i (first_place bytes) p
 
 -- where items that begin at a place end
 abbrev pub end_of_items : ℕ → List Item → ℕ

@@ -57,7 +57,9 @@ child_from k n (r ∷ rs) = child_here k n r (child_from k (suc n) rs)
 
 -- the position of the first child element of the starting tag with index r among those one deeper
 abbrev pub child_position : ℕ → List Record → ℕ → ℕ
-child_position k rs r = unwrap_or (option_and_then (λ j. position (λ m. m == j) (tags_from (suc k) 0 rs)) (child_from k (suc r) (drop (suc r) rs))) no_child
+child_position k rs r =
+    unwrap_or (option_and_then (λ j. position (λ m. m == j) (tags_from (suc k) 0 rs))
+    (child_from k (suc r) (drop (suc r) rs))) no_child
 
 -- level 1 or 2 by the records
 unfoldable pub record_level : ℕ → List Record → List (ℕ × ℕ)

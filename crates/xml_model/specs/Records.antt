@@ -41,7 +41,8 @@ plain token depth cs offset = record { token = token; depth = depth; prefix = 0;
 
 -- the record of a name, with the length of its prefix
 abbrev pub named : ℕ → ℕ → List ℕ → ℕ → Record
-named token depth cs offset = record { token = token; depth = depth; prefix = size (prefix_of cs); len = size cs; offset = offset }
+named token depth cs offset =
+    record { token = token; depth = depth; prefix = size (prefix_of cs); len = size cs; offset = offset }
 
 -- a declaration of a namespace: `xmlns`, or a name that begins with `xmlns:` (Namespaces in XML 1.0, productions 1 to
 -- 3)
@@ -54,12 +55,15 @@ name_token name = cond (declares name) (kind_number token.NamespaceName) (kind_n
 
 -- the two records of an attribute whose name begins at a place: its name and its value
 abbrev pub attribute_records : ℕ → ℕ → Attribute → List Record
-attribute_records depth at a = named (name_token a.name) depth a.name at ∷ plain (kind_number token.Value) depth (written_pieces a.value) (at + size (before_value a)) ∷ []
+attribute_records depth at a =
+    named (name_token a.name) depth a.name at
+    ∷ plain (kind_number token.Value) depth (written_pieces a.value) (at + size (before_value a)) ∷ []
 
 -- the records of attributes from a place on, the white space before each included
 abbrev pub attributes_records : ℕ → ℕ → List Attribute → List Record
 attributes_records depth at [] = []
-attributes_records depth at (a ∷ others) = attribute_records depth (at + size a.space) a ++ attributes_records depth (at + size (written_attribute a)) others
+attributes_records depth at (a ∷ others) =
+    attribute_records depth (at + size a.space) a ++ attributes_records depth (at + size (written_attribute a)) others
 
 -- where the attributes of a tag begin, with the white space before them, if its < is at a place
 abbrev pub attributes_place : ℕ → Tag → ℕ
@@ -67,13 +71,17 @@ attributes_place at t = at + 1 + size t.name
 
 -- the records of a start tag or an empty tag: its name, and its attributes as they are
 abbrev pub tag_records : ℕ → ℕ → Tag → List Record
-tag_records depth at t = named (kind_number token.StartTag) depth t.name (at + 1) ∷ attributes_records depth (attributes_place at t) t.attributes
+tag_records depth at t =
+    named (kind_number token.StartTag) depth t.name (at + 1)
+    ∷ attributes_records depth (attributes_place at t) t.attributes
 
 -- the records of the parts of the XML declaration: a name and a value each
 abbrev pub declaration_part_records : ℕ → ℕ → List Attribute → List Record
 declaration_part_records depth at [] = []
 declaration_part_records depth at (a ∷ others) =
-    plain (kind_number token.PartName) depth a.name (at + size a.space) ∷ plain (kind_number token.PartValue) depth (written_pieces a.value) (at + size a.space + size (before_value a)) ∷ declaration_part_records depth (at + size (written_attribute a)) others
+    plain (kind_number token.PartName) depth a.name (at + size a.space)
+        ∷ plain (kind_number token.PartValue) depth (written_pieces a.value) (at + size a.space + size (before_value a))
+        ∷ declaration_part_records depth (at + size (written_attribute a)) others
 
 -- the parts that an XML declaration has
 abbrev pub declaration_attributes : Declaration → List Attribute
@@ -94,9 +102,12 @@ abbrev pub leaf_records : ℕ → ℕ → Leaf → List Record
 leaf_records l at (text ps) = text_records l (plain (kind_number token.Text) (depth_at l) (written_pieces ps) at)
 leaf_records l at (cdata cs) = plain (kind_number token.Cdata) (depth_at l) cs (at + 9) ∷ []
 leaf_records l at (Leaf.comment cs) = plain (kind_number token.Comment) (depth_at l) cs (at + 4) ∷ []
-leaf_records l at (Leaf.instruction i) = plain (kind_number token.Target) (depth_at l) i.target (at + 2) ∷ plain (kind_number token.Data) (depth_at l) i.content (at + 2 + size i.target + size i.space) ∷ []
+leaf_records l at (Leaf.instruction i) =
+    plain (kind_number token.Target) (depth_at l) i.target (at + 2)
+    ∷ plain (kind_number token.Data) (depth_at l) i.content (at + 2 + size i.target + size i.space) ∷ []
 leaf_records l at (declaration d) = declaration_part_records (depth_at l) (at + 5) (declaration_attributes d)
-leaf_records l at (doctype d) = plain (kind_number token.Doctype) (depth_at l) (d.space ++ d.name ++ written_units d.units) (at + 9) ∷ []
+leaf_records l at (doctype d) =
+    plain (kind_number token.Doctype) (depth_at l) (d.space ++ d.name ++ written_units d.units) (at + 9) ∷ []
 
 -- where a leaf that begins at a place ends
 abbrev pub past_leaf : ℕ → Leaf → ℕ
@@ -125,7 +136,8 @@ abbrev pub past_forest : ℕ → Forest → ℕ
 past_forest at done = at
 past_forest at (single x f) = past_forest (past_leaf at x) f
 past_forest at (empty t f) = past_forest (past_empty at t) f
-past_forest at (element t inside space f) = past_forest (past_forest (past_start at t) inside + size (written_end t.name space)) f
+past_forest at (element t inside space f) =
+    past_forest (past_forest (past_start at t) inside + size (written_end t.name space)) f
 
 -- where an element that begins at a place ends
 abbrev pub past_element : ℕ → Tag → Forest → List ℕ → ℕ
@@ -136,7 +148,9 @@ abbrev pub forest_records : ℕ → ℕ → Forest → List Record
 forest_records l at done = []
 forest_records l at (single x f) = leaf_records l at x ++ forest_records l (past_leaf at x) f
 forest_records l at (empty t f) = tag_records l at t ++ forest_records l (past_empty at t) f
-forest_records l at (element t inside space f) = tag_records l at t ++ forest_records (suc l) (past_start at t) inside ++ forest_records l (past_element at t inside space) f
+forest_records l at (element t inside space f) =
+    tag_records l at t ++ forest_records (suc l) (past_start at t) inside
+    ++ forest_records l (past_element at t inside space) f
 
 -- the record of the document, which comes first
 abbrev pub document : Record

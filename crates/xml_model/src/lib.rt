@@ -151,7 +151,8 @@ pub struct Span {
     pub end: u32,
 }
 
-/// How many words each list of a document has, or is to have room for: its records, and the elements of depth 1, 2 and 3.
+/// How many words each list of a document has, or is to have room for: its records, and the elements of depth 1, 2 and
+/// 3.
 #[derive(Clone, Copy, Debug, PartialEq)]
 pub struct Counts {
     pub records: u32,
