@@ -21,13 +21,23 @@ pub record IsWithin (bytes : List ℕ) (span : Span) : Type 0 where
 
 -- the record of a span that is no name
 abbrev pub plain_span : ℕ → ℕ → Span → Record
-plain_span token depth span = record { token = token; depth = depth; prefix = 0; len = span.end - span.start;
-    offset = span.start }
+plain_span token depth span = record {
+  token = token;
+  depth = depth;
+  prefix = 0;
+  len = span.end - span.start;
+  offset = span.start;
+}
 
 -- the record of a name. A colon is one byte, so the bytes before the first one are those of the prefix
 abbrev pub named_span : List ℕ → ℕ → ℕ → Span → Record
-named_span bytes token depth span = record { token = token; depth = depth;
-    prefix = length (prefix_of (bytes_of bytes span)); len = span.end - span.start; offset = span.start }
+named_span bytes token depth span = record {
+  token = token;
+  depth = depth;
+  prefix = length (prefix_of (bytes_of bytes span));
+  len = span.end - span.start;
+  offset = span.start;
+}
 
 abbrev pub attribute_found : List ℕ → ℕ → AttributeItem → List Record
 attribute_found bytes depth a =

@@ -27,7 +27,7 @@ fn offer_records<R: RecordSink>(bytes: &[u8], into: &mut R) -> Result<u32, u32>
     requires accepted { (nest : Forest) × Accepted 6 bytes.now nest }
     ensures outcome { (nest : Forest) → Accepted 6 bytes.now nest →
         outcome (R.taken into.new) result
-            ≡ offer (R.refuses into.old) (R.taken into.old) 0 (record_words bytes.now nest) }
+        ≡ offer (R.refuses into.old) (R.taken into.old) 0 (record_words bytes.now nest) }
     ensures rest { R.rest into.new ≡ R.rest into.old }
     ensures test { R.refuses into.new ≡ R.refuses into.old }
 {
@@ -53,7 +53,7 @@ pub fn emit<R: RecordSink>(bytes: &[u8], into: &mut R) -> Result<(), u32>
     requires accepted { (nest : Forest) × Accepted 6 bytes.now nest }
     ensures refused { (nest : Forest) → Accepted 6 bytes.now nest →
         (k : ℕ) → (result ≡ Err k)
-            ↔ IsFirstRefused (R.refuses into.old) (R.taken into.old) (record_words bytes.now nest) k }
+        ↔ IsFirstRefused (R.refuses into.old) (R.taken into.old) (record_words bytes.now nest) k }
     ensures taken_before { (nest : Forest) → Accepted 6 bytes.now nest →
         IfErr result (λ k. R.taken into.new ≡ R.taken into.old ++ take k (record_words bytes.now nest)) }
     ensures taken { (nest : Forest) → Accepted 6 bytes.now nest →

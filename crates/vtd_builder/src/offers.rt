@@ -105,7 +105,11 @@ fn offer_attribute<R: RecordSink>(
     let token = name_token(bytes_of(bytes, attribute.name));
     let name = name_parts(bytes, token, depth, attribute.name);
     let count = offer(name, count, into)?;
-    offer(plain_parts(TokenKind::Value as u8, depth, attribute.value), count, into)
+    offer(
+        plain_parts(TokenKind::Value as u8, depth, attribute.value),
+        count,
+        into,
+    )
 }
 
 /// What an item is by its first bytes.
@@ -157,7 +161,7 @@ fn offer_attributes<R: RecordSink>(
     ensures outcome { (xs : List Attribute) (space close : List ℕ) → AttributesAt bytes.now at xs space close →
         CanOffer count (attributes_records depth at xs) →
         outcome (R.taken into.new) (counted result)
-            ≡ offer (R.refuses into.old) (R.taken into.old) count (map word (attributes_records depth at xs)) }
+        ≡ offer (R.refuses into.old) (R.taken into.old) count (map word (attributes_records depth at xs)) }
     ensures reached { (xs : List Attribute) (space close : List ℕ) → AttributesAt bytes.now at xs space close →
         CanOffer count (attributes_records depth at xs) →
         IfOk result (λ r. r.at ≡ at + size (written_attributes xs) + size space) }
@@ -189,8 +193,16 @@ fn offer_part<R: RecordSink>(
     ensures rest { R.rest into.new ≡ R.rest into.old }
     ensures test { R.refuses into.new ≡ R.refuses into.old }
 {
-    let count = offer(plain_parts(TokenKind::PartName as u8, depth, part.name), count, into)?;
-    offer(plain_parts(TokenKind::PartValue as u8, depth, part.value), count, into)
+    let count = offer(
+        plain_parts(TokenKind::PartName as u8, depth, part.name),
+        count,
+        into,
+    )?;
+    offer(
+        plain_parts(TokenKind::PartValue as u8, depth, part.value),
+        count,
+        into,
+    )
 }
 
 /// Offers the records of the parts of the XML declaration that are left, in order.
@@ -204,7 +216,7 @@ fn offer_parts<R: RecordSink>(
     requires room { CanOffer count (parts_found depth (attributes_left parts)) }
     ensures outcome { outcome (R.taken into.new) result
         ≡ offer (R.refuses into.old) (R.taken into.old) count
-            (map word (parts_found depth (attributes_left parts.entry))) }
+        (map word (parts_found depth (attributes_left parts.entry))) }
     ensures rest { R.rest into.new ≡ R.rest into.old }
     ensures test { R.refuses into.new ≡ R.refuses into.old }
 {
@@ -228,13 +240,21 @@ fn offer_instruction<R: RecordSink>(
         ∷ plain_span (kind_number TokenKind.Data) depth item.content ∷ []) }
     ensures outcome { outcome (R.taken into.new) result
         ≡ offer (R.refuses into.old) (R.taken into.old) count
-            (map word (plain_span (kind_number TokenKind.Target) depth item.name
-            ∷ plain_span (kind_number TokenKind.Data) depth item.content ∷ [])) }
+        (map word (plain_span (kind_number TokenKind.Target) depth item.name
+        ∷ plain_span (kind_number TokenKind.Data) depth item.content ∷ [])) }
     ensures rest { R.rest into.new ≡ R.rest into.old }
     ensures test { R.refuses into.new ≡ R.refuses into.old }
 {
-    let count = offer(plain_parts(TokenKind::Target as u8, depth, item.name), count, into)?;
-    offer(plain_parts(TokenKind::Data as u8, depth, item.content), count, into)
+    let count = offer(
+        plain_parts(TokenKind::Target as u8, depth, item.name),
+        count,
+        into,
+    )?;
+    offer(
+        plain_parts(TokenKind::Data as u8, depth, item.content),
+        count,
+        into,
+    )
 }
 
 /// The depth in the record of what is no tag, with so many elements open round it: 255 outside of all elements.
@@ -262,7 +282,7 @@ pub fn offer_tag<R: RecordSink>(
     requires tag { (i : ModelItem) × BeginsAs bytes.now at level count Beginning.Tag i }
     ensures outcome { (i : ModelItem) → BeginsAs bytes.now at level count Beginning.Tag i →
         outcome (R.taken into.new) (passed_count result)
-            ≡ offer (R.refuses into.old) (R.taken into.old) count (map word (item_records level at i)) }
+        ≡ offer (R.refuses into.old) (R.taken into.old) count (map word (item_records level at i)) }
     ensures passed { (i : ModelItem) → BeginsAs bytes.now at level count Beginning.Tag i →
         IfOk result (IsPast at level i) }
     ensures rest { R.rest into.new ≡ R.rest into.old }
@@ -305,7 +325,7 @@ fn offer_text<R: RecordSink>(
     requires text { (i : ModelItem) × BeginsAs bytes.now at level count Beginning.Text i }
     ensures outcome { (i : ModelItem) → BeginsAs bytes.now at level count Beginning.Text i →
         outcome (R.taken into.new) (passed_count result)
-            ≡ offer (R.refuses into.old) (R.taken into.old) count (map word (item_records level at i)) }
+        ≡ offer (R.refuses into.old) (R.taken into.old) count (map word (item_records level at i)) }
     ensures passed { (i : ModelItem) → BeginsAs bytes.now at level count Beginning.Text i →
         IfOk result (IsPast at level i) }
     ensures rest { R.rest into.new ≡ R.rest into.old }
@@ -319,7 +339,11 @@ fn offer_text<R: RecordSink>(
             level,
         });
     }
-    let text = plain_parts(TokenKind::Text as u8, depth_of(level), Span { start: at, end });
+    let text = plain_parts(
+        TokenKind::Text as u8,
+        depth_of(level),
+        Span { start: at, end },
+    );
     let count = offer(text, count, into)?;
     Ok(Passed {
         count,
@@ -363,7 +387,7 @@ fn offer_marked<R: RecordSink>(
         × CanOffer count (item_records level item.span.start i) }
     ensures outcome { (i : ModelItem) → ShowsItem bytes.now item i →
         outcome (R.taken into.new) result
-            ≡ offer (R.refuses into.old) (R.taken into.old) count (map word (item_records level item.span.start i)) }
+        ≡ offer (R.refuses into.old) (R.taken into.old) count (map word (item_records level item.span.start i)) }
     ensures rest { R.rest into.new ≡ R.rest into.old }
     ensures test { R.refuses into.new ≡ R.refuses into.old }
 {
@@ -372,9 +396,21 @@ fn offer_marked<R: RecordSink>(
         ItemKind::Text | ItemKind::StartTag | ItemKind::EmptyTag | ItemKind::EndTag => {
             unreachable!()
         }
-        ItemKind::Comment => offer(plain_parts(TokenKind::Comment as u8, depth, item.content), count, into),
-        ItemKind::Cdata => offer(plain_parts(TokenKind::Cdata as u8, depth, item.content), count, into),
-        ItemKind::Doctype => offer(plain_parts(TokenKind::Doctype as u8, depth, item.content), count, into),
+        ItemKind::Comment => offer(
+            plain_parts(TokenKind::Comment as u8, depth, item.content),
+            count,
+            into,
+        ),
+        ItemKind::Cdata => offer(
+            plain_parts(TokenKind::Cdata as u8, depth, item.content),
+            count,
+            into,
+        ),
+        ItemKind::Doctype => offer(
+            plain_parts(TokenKind::Doctype as u8, depth, item.content),
+            count,
+            into,
+        ),
         ItemKind::Instruction => offer_instruction(item, depth, count, into),
         ItemKind::Declaration => offer_parts(Attributes::of(bytes, item), depth, count, into),
     }
@@ -398,7 +434,7 @@ fn offer_mark<R: RecordSink>(
     requires item { (i : ModelItem) × BeginsAs bytes.now at level count Beginning.Mark i }
     ensures outcome { (i : ModelItem) → BeginsAs bytes.now at level count Beginning.Mark i →
         outcome (R.taken into.new) (passed_count result)
-            ≡ offer (R.refuses into.old) (R.taken into.old) count (map word (item_records level at i)) }
+        ≡ offer (R.refuses into.old) (R.taken into.old) count (map word (item_records level at i)) }
     ensures passed { (i : ModelItem) → BeginsAs bytes.now at level count Beginning.Mark i →
         IfOk result (IsPast at level i) }
     ensures rest { R.rest into.new ≡ R.rest into.old }
@@ -463,7 +499,7 @@ pub fn offer_item<R: RecordSink>(
     requires item { (i : ModelItem) × (begins_at bytes.now at i ≡ true) × CanOffer count (item_records level at i) }
     ensures outcome { (i : ModelItem) → begins_at bytes.now at i ≡ true → CanOffer count (item_records level at i) →
         outcome (R.taken into.new) (passed_count result)
-            ≡ offer (R.refuses into.old) (R.taken into.old) count (map word (item_records level at i)) }
+        ≡ offer (R.refuses into.old) (R.taken into.old) count (map word (item_records level at i)) }
     ensures passed { (i : ModelItem) → begins_at bytes.now at i ≡ true → CanOffer count (item_records level at i) →
         IfOk result (IsPast at level i) }
     ensures rest { R.rest into.new ≡ R.rest into.old }

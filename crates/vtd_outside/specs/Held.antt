@@ -40,8 +40,10 @@ IsSlot (file ∷ files) name (suc index) = (bytes_eq file.name name ≡ false) �
 
 -- the file being read, from its place on
 abbrev pub opened_place : List NamedFile → Option Place → Option OpenFile
-opened_place files = option_map (λ place. record { name = name_at files place.file;
-    rest = drop place.at (held_at files place.file) })
+opened_place files = option_map (λ place. record {
+  name = name_at files place.file;
+  rest = drop place.at (held_at files place.file);
+})
 
 -- the place is in a file that is there, or at its end
 abbrev pub IsPlace : List NamedFile → Option Place → Type 0

@@ -47,10 +47,13 @@ impl Model for MemoryFiles {
 
     ghost Value = { FilesState };
 
-    ghost view = { λ s. record { files = map shown s.files.items;
-        opened = opened_place (map shown s.files.items) s.reading;
-        calls = record { failing = s.plan.failing.items; piece = s.plan.piece; next = s.plan.next };
-        missed = s.missed; proper = s.proper } };
+    ghost view = { λ s. record {
+      files = map shown s.files.items;
+      opened = opened_place (map shown s.files.items) s.reading;
+      calls = record { failing = s.plan.failing.items; piece = s.plan.piece; next = s.plan.next };
+      missed = s.missed;
+      proper = s.proper;
+    } };
 
     ghost invariant = { λ s. IsPlace (map shown s.files.items) s.reading × (0 < s.plan.piece) };
 }
@@ -60,8 +63,13 @@ impl MemoryFiles {
     /// numbered from 0, and those whose numbers are in `failing` fail. The counts of faults start at 0.
     pub fn new(alloc: Global, failing: Vec<u32>, piece: usize) -> MemoryFiles
         requires { 0 < piece }
-        ensures { result ≡ record { files = []; opened = None;
-            calls = record { failing = failing.items; piece = piece; next = 0 }; missed = 0; proper = 0 } }
+        ensures { result ≡ record {
+          files = [];
+          opened = None;
+          calls = record { failing = failing.items; piece = piece; next = 0 };
+          missed = 0;
+          proper = 0;
+        } }
     {
         MemoryFiles {
             alloc,

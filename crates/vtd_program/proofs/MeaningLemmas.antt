@@ -208,9 +208,9 @@ some_document : (bytes script : List ℕ) → (m : Outcome) × MeansDocument byt
 some_document bytes script = elim (cases_lt document_limit (length bytes)) [
   | inl h ↦ (refused (codes "file-long") false script, too_long bytes script h)
   | inr h ↦ elim (some_answer bytes) [
-      | inl a ↦ (scripted bytes a.0 script, accepted bytes script h a.0 a.1)
-      | inr r ↦ (refused (fault_words r.0) false script, unfit bytes script h r.0 r.1)
-    ]
+    | inl a ↦ (scripted bytes a.0 script, accepted bytes script h a.0 a.1)
+    | inr r ↦ (refused (fault_words r.0) false script, unfit bytes script h r.0 r.1)
+  ]
 ]
 
 some_file : (file : Option (List ℕ)) (script : List ℕ) → (m : Outcome) × MeansFile file script m

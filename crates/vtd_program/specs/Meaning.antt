@@ -229,13 +229,13 @@ SendsPrefix (Some before) None piece = ⊥
 abbrev pub SendsAs : Option (List ℕ) → Option (List ℕ) → List ℕ → ℕ → ℕ → Status → Status → Type 0
 SendsAs before after piece faults_before faults status result =
     ((result ≡ status) × SendsAll before after piece × (faults ≡ faults_before))
-        ⊎ ((result ≡ statuses.WriteFault) × SendsPrefix before after piece × Rose faults_before faults)
+    ⊎ ((result ≡ statuses.WriteFault) × SendsPrefix before after piece × Rose faults_before faults)
 
 -- The line of a refused document was sent, or there was no memory for it and nothing was sent.
 abbrev pub EndsUnfit : Option (List ℕ) → Option (List ℕ) → DocFault → ℕ → ℕ → Status → Type 0
 EndsUnfit before after fault faults_before faults result =
     ((result ≡ statuses.NoMemory) × (after ≡ before) × (faults ≡ faults_before))
-        ⊎ SendsAs before after (refused_line (fault_words fault)) faults_before faults statuses.Refused result
+    ⊎ SendsAs before after (refused_line (fault_words fault)) faults_before faults statuses.Refused result
 
 -- how the carrying out of a script may end
 abbrev pub EndsInScript : Status → Type 0
@@ -260,7 +260,7 @@ CarriesLine before after faults_before faults listing Unknown (Ok x) = ⊥
 CarriesLine before after faults_before faults listing Skip (Err status) = ⊥
 CarriesLine before after faults_before faults listing Elements (Err status) =
     ((status ≡ statuses.NoMemory) × (after ≡ before) × (faults ≡ faults_before))
-        ⊎ ((status ≡ statuses.WriteFault) × SendsPrefix before after listing × Rose faults_before faults)
+    ⊎ ((status ≡ statuses.WriteFault) × SendsPrefix before after listing × Rose faults_before faults)
 CarriesLine before after faults_before faults listing Unknown (Err status) =
     SendsAs before after (refused_line (codes "command")) faults_before faults statuses.Refused status
 

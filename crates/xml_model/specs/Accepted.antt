@@ -228,7 +228,7 @@ abbrev pub declaration_offends : List ℕ → List ℕ → Bool
 declaration_offends name uri =
     cond (bytes_eq name (codes "xmlns")) (is_reserved uri)
     (cond (bytes_eq name (codes "xmlns:xml")) (not (bytes_eq uri xml_uri)) (bytes_eq name (codes "xmlns:xmlns")
-        || is_nil uri || is_reserved uri))
+    || is_nil uri || is_reserved uri))
 
 -- whether an attribute offends: by no qualified name, a bad declaration, an unbound prefix, or an expanded name that
 -- an earlier attribute has (Namespaces in XML 1.0, section 6.3, constraint 'Attributes Unique')
@@ -236,7 +236,7 @@ abbrev pub attribute_offends : List Tag → List Expanded → Attribute → Bool
 attribute_offends tags seen a =
     not (is_qname a.name)
     || cond (declares a.name) (declaration_offends a.name (value_content a.value))
-        (not (is_bound (prefix_of a.name) tags) || list_any (same_expanded (expanded_of tags a)) seen)
+    (not (is_bound (prefix_of a.name) tags) || list_any (same_expanded (expanded_of tags a)) seen)
 
 -- the expanded names seen, with that of an attribute
 abbrev pub seen_with : List Tag → Attribute → List Expanded → List Expanded

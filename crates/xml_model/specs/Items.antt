@@ -228,7 +228,7 @@ is_nil (c ∷ cs) = false
 abbrev pub meets_instruction : Instruction → Bool
 meets_instruction i =
     is_name i.target && not (bytes_eq (map to_ascii_lowercase i.target) (codes "xml")) && is_blank i.space
-        && list_all is_char i.content && lacks (codes "?>") i.content
+    && list_all is_char i.content && lacks (codes "?>") i.content
     && not (begins_with_space i.content) && (not (is_nil i.space) || is_nil i.content)
 
 -- an ASCII letter
@@ -262,7 +262,7 @@ meets_part_if_there name test (Some a) = meets_part name test a
 abbrev pub meets_declaration : Declaration → Bool
 meets_declaration d =
     meets_part (codes "version") is_version d.version
-        && meets_part_if_there (codes "encoding") is_encoding_name d.encoding
+    && meets_part_if_there (codes "encoding") is_encoding_name d.encoding
     && meets_part_if_there (codes "standalone") is_yes_or_no d.standalone && is_blank d.space
 
 -- a quoted literal: Chars other than its quote

@@ -80,8 +80,8 @@ abbrev pub declaration_part_records : ℕ → ℕ → List Attribute → List Re
 declaration_part_records depth at [] = []
 declaration_part_records depth at (a ∷ others) =
     plain (kind_number token.PartName) depth a.name (at + size a.space)
-        ∷ plain (kind_number token.PartValue) depth (written_pieces a.value) (at + size a.space + size (before_value a))
-        ∷ declaration_part_records depth (at + size (written_attribute a)) others
+    ∷ plain (kind_number token.PartValue) depth (written_pieces a.value) (at + size a.space + size (before_value a))
+    ∷ declaration_part_records depth (at + size (written_attribute a)) others
 
 -- the parts that an XML declaration has
 abbrev pub declaration_attributes : Declaration → List Attribute

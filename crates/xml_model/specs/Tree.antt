@@ -173,8 +173,13 @@ abbrev pub attribute_entry : List Holder → ℕ → ℕ → ℕ → Attribute �
 attribute_entry holders at index i a =
     cond (declares a.name) None
     (Some (record {
-      path = Step.attribute i ∷ []; what = Thing.attribute a; holders = holders; start = at + size a.space;
-      stop = at + size (written_attribute a); index = index; past = index + 2
+      path = Step.attribute i ∷ [];
+      what = Thing.attribute a;
+      holders = holders;
+      start = at + size a.space;
+      stop = at + size (written_attribute a);
+      index = index;
+      past = index + 2;
     }))
 
 -- the attribute nodes of a tag, as they are
@@ -182,7 +187,7 @@ abbrev pub attributes : List Holder → ℕ → ℕ → ℕ → List Attribute �
 attributes holders at index i [] = []
 attributes holders at index i (a ∷ others) =
     cons_option (attribute_entry holders at index i a)
-        (attributes holders (at + size (written_attribute a)) (index + 2) (i + one_if (not (declares a.name))) others)
+    (attributes holders (at + size (written_attribute a)) (index + 2) (i + one_if (not (declares a.name))) others)
 
 -- where the next piece of a list of pieces is: in which elements, from which place and record place on, as which
 -- child, and whether the piece before it is a text or a CDATA section
@@ -226,26 +231,52 @@ begins_run (t ∷ holders) false xs = list_any has_content xs
 abbrev pub text_node : Here → List Leaf → Option Entry
 text_node h xs =
     cond (begins_run h.holders h.joins xs)
-    (Some (record { path = child h.number ∷ []; what = Thing.text xs; holders = h.holders; start = h.at;
-        stop = past_run h.at xs; index = h.index; past = h.index + length (run_records (length h.holders) h.at xs) })) None
+    (Some (record {
+      path = child h.number ∷ [];
+      what = Thing.text xs;
+      holders = h.holders;
+      start = h.at;
+      stop = past_run h.at xs;
+      index = h.index;
+      past = h.index + length (run_records (length h.holders) h.at xs);
+    })) None
 
 -- the node that begins at a leaf. An XML declaration and a DOCTYPE are none: XPath 1.0, section 5
 abbrev pub leaf_node : Here → Leaf → Forest → Option Entry
 leaf_node h (Leaf.text ps) f = text_node h (Leaf.text ps ∷ run f)
 leaf_node h (Leaf.cdata cs) f = text_node h (Leaf.cdata cs ∷ run f)
 leaf_node h (Leaf.comment cs) f =
-    Some (record { path = child h.number ∷ []; what = Thing.comment cs; holders = h.holders; start = h.at;
-    stop = past_leaf h.at (Leaf.comment cs); index = h.index; past = h.index + 1 })
+    Some (record {
+      path = child h.number ∷ [];
+      what = Thing.comment cs;
+      holders = h.holders;
+      start = h.at;
+      stop = past_leaf h.at (Leaf.comment cs);
+      index = h.index;
+      past = h.index + 1;
+    })
 leaf_node h (Leaf.instruction i) f =
-    Some (record { path = child h.number ∷ []; what = Thing.instruction i; holders = h.holders; start = h.at;
-    stop = past_leaf h.at (Leaf.instruction i); index = h.index; past = h.index + 2 })
+    Some (record {
+      path = child h.number ∷ [];
+      what = Thing.instruction i;
+      holders = h.holders;
+      start = h.at;
+      stop = past_leaf h.at (Leaf.instruction i);
+      index = h.index;
+      past = h.index + 2;
+    })
 leaf_node h _ f = None
 
 -- where the piece after a leaf is
 abbrev pub after_leaf : Here → Leaf → Forest → Here
 after_leaf h x f =
-    record { holders = h.holders; at = past_leaf h.at x; index = h.index + length (leaf_records (length h.holders) h.at x);
-        number = h.number + one_if (is_some (leaf_node h x f)); joins = is_text x }
+    record {
+      holders = h.holders;
+      at = past_leaf h.at x;
+      index = h.index + length (leaf_records (length h.holders) h.at x);
+      number = h.number + one_if (is_some (leaf_node h x f));
+      joins = is_text x;
+    }
 
 -- the holders of what is in an element
 abbrev pub held : Here → Tag → List Holder
@@ -254,8 +285,13 @@ held h t = record { tag = t; index = h.index } ∷ h.holders
 -- where the first piece in an element is
 abbrev pub inside_of : Here → Tag → Here
 inside_of h t =
-    record { holders = held h t; at = past_start h.at t;
-    index = h.index + length (tag_records (length h.holders) h.at t); number = 0; joins = false }
+    record {
+      holders = held h t;
+      at = past_start h.at t;
+      index = h.index + length (tag_records (length h.holders) h.at t);
+      number = 0;
+      joins = false;
+    }
 
 -- the first record past an element and what is in it
 abbrev pub element_past : Here → Tag → Forest → ℕ
@@ -271,8 +307,15 @@ after_element h t inside stop =
 -- the node of an element, from itself: it spans its first tag to its last
 abbrev pub element_entry : Here → Tag → Forest → ℕ → Entry
 element_entry h t inside stop =
-    record { path = []; what = Thing.element t inside; holders = h.holders; start = h.at; stop = stop; index = h.index;
-        past = element_past h t inside }
+    record {
+      path = [];
+      what = Thing.element t inside;
+      holders = h.holders;
+      start = h.at;
+      stop = stop;
+      index = h.index;
+      past = element_past h t inside;
+    }
 
 -- the attribute nodes of a tag
 abbrev pub tag_attributes : Here → Tag → List Entry
@@ -287,7 +330,7 @@ nodes h (empty t f) =
     ++ nodes (after_element h t done (past_empty h.at t)) f
 nodes h (Forest.element t inside space f) =
     map (under (child h.number)) (element_entry h t inside (past_element h.at t inside space) ∷ tag_attributes h t
-        ++ nodes (inside_of h t) inside)
+    ++ nodes (inside_of h t) inside)
     ++ nodes (after_element h t inside (past_element h.at t inside space)) f
 
 -- where the first piece of a document is
@@ -297,8 +340,15 @@ at_first first = record { holders = []; at = first; index = 1; number = 0; joins
 -- the root, which spans the document from its first byte on, a byte order mark included
 abbrev pub root_entry : Forest → ℕ → Entry
 root_entry nest first =
-    record { path = []; what = root first nest; holders = []; start = 0; stop = past_forest first nest; index = 0;
-    past = suc (length (forest_records 0 first nest)) }
+    record {
+      path = [];
+      what = root first nest;
+      holders = [];
+      start = 0;
+      stop = past_forest first nest;
+      index = 0;
+      past = suc (length (forest_records 0 first nest));
+    }
 
 -- all nodes of a nest whose first item is at a place, in document order
 unfoldable pub all : Forest → ℕ → List Entry
