@@ -1,5 +1,5 @@
-//! The fields of a row, in which a backslash begins an escape: `\n`, `\r` and `\t`, a character by its number as `\u{e9}`, a byte
-//! as `\x{ff}`, and a repeated text as `\*{255 <a>}`.
+//! The fields of a row, in which a backslash begins an escape: `\n`, `\r` and `\t`, a character by its number as
+//! `\u{e9}`, a byte as `\x{ff}`, and a repeated text as `\*{255 <a>}`.
 
 use std::alloc::{AllocError, Global};
 

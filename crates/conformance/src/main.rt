@@ -1,6 +1,6 @@
-//! Documents, names and expressions with what they are to answer, as tables in files: inputs and answers are those of the
-//! standards, worked out by hand. The program reads each file that its words name, asks every row, and prints the rows that
-//! answer otherwise and how many rows there were.
+//! Documents, names and expressions with what they are to answer, as tables in files: inputs and answers are those of
+//! the standards, worked out by hand. The program reads each file that its words name, asks every row, and prints the
+//! rows that answer otherwise and how many rows there were.
 #![tactic(auto)]
 
 mod characters;

@@ -1,7 +1,7 @@
 //! The lines of a file of tables.
 //!
-//! `table: characters names` names what the rows after it ask, `given: <a/>` is what they are asked of, and a row is an input,
-//! ` => ` and the answer. Every other line says what the rows are for.
+//! `table: characters names` names what the rows after it ask, `given: <a/>` is what they are asked of, and a row is an
+//! input, ` => ` and the answer. Every other line says what the rows are for.
 
 use crate::doors::answer;
 use crate::fields::bytes_of;

@@ -18,8 +18,8 @@ pub fn push_chars<W: Words>(out: &mut String, chars: Chars<'_, W>) -> Result<(),
     Ok(())
 }
 
-/// What does not agree with the string-value of a node: its text as `append_to` makes it after a prefix, the comparison with it
-/// or with another text, or the bytes that hold it as they are.
+/// What does not agree with the string-value of a node: its text as `append_to` makes it after a prefix, the comparison
+/// with it or with another text, or the bytes that hold it as they are.
 fn other_way<W: Words>(
     alloc: Global,
     table: &Table<'_, W>,
