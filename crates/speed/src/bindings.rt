@@ -1,4 +1,5 @@
-//! Binding prefixes and looking them up: so many calls of `Bindings::set` with a prefix of its own each, and as many of `uri_of`.
+//! Binding prefixes and looking them up: so many calls of `Bindings::set` with a prefix of its own each, and as many of
+//! `uri_of`.
 
 use std::alloc::{AllocError, Global};
 use std::io;

@@ -1,5 +1,5 @@
-//! Reading items and checking documents: one pass over a document each, beside a plain sum of its bytes, a count of its `<` and a
-//! check of UTF-8.
+//! Reading items and checking documents: one pass over a document each, beside a plain sum of its bytes, a count of its
+//! `<` and a check of UTF-8.
 
 ghost use Rattle.std.specs.Prelude.{◌<◌, ◌^◌, length};
 ghost use Rattle.std.specs.Str.{IsUtf8};

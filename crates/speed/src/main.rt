@@ -23,6 +23,8 @@ fn main(rt: HostRuntime) -> io::Result<()> {
             texts::time(&rt, fs::read(&rt, *file)?)?;
             bindings::time(&rt, count)
         }
-        _ => eprintln!(rt; "usage: speed items FILE | texts FILE | bindings COUNT | all FILE COUNT"),
+        _ => eprintln!(rt;
+            "usage: speed items FILE | texts FILE | bindings COUNT | all FILE COUNT"
+        ),
     }
 }

@@ -1,5 +1,5 @@
-//! Appending resolved texts: `append_to` of all texts of a document beside a plain copy of as many bytes, first into new memory and
-//! then into memory that was written before.
+//! Appending resolved texts: `append_to` of all texts of a document beside a plain copy of as many bytes, first into
+//! new memory and then into memory that was written before.
 
 ghost use Rattle.vtd_words.specs.Table.{IsNodeOf};
 
