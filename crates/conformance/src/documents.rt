@@ -124,8 +124,8 @@ impl<'a> RecordSink for Comparer<'a> {
 
     ghost rest = { λ s. [] };
 
-    ghost refuses = { λ s. λ taken word. not (nat_lt (length taken) (length s.wanted.now)
-        && slice_index s.wanted.now (length taken) == word) };
+    ghost refuses = { λ s. λ taken word.
+        not (nat_lt (length taken) (length s.wanted.now) && slice_index s.wanted.now (length taken) == word) };
 
     fn take(&mut self, word: u64) -> bool {
         if self.at < self.wanted.len() && self.wanted[self.at] == word {
