@@ -21,7 +21,7 @@ use Rattle.vtd_program.specs.declared.commands.Command.TheVariants.{Skip, Elemen
 use Rattle.vtd_program.specs.declared.running.Status.{Status}
 use Rattle.vtd_program.specs.declared.running.Status.TheVariants as statuses
 use Rattle.vtd_program.specs.Lines.{lines, command}
-use Rattle.vtd_program.specs.Meaning.{Outcome, Means, MeansName, MeansFile, MeansDocument, too_long, unfit, accepted, document_name, document_limit, script_limit, listed_in, fault_words, scripted, carried_out, step, refused, refused_line, usage_line, SendsAll, SendsPrefix, SendsAs, EndsUnfit, EndsAs, Ran, RanScript, Carries, CarriesTo, IsBuilt, ReadsDocument, IsPrefix, IsKnown, IsMeant, RanExactly, DocumentCause}
+use Rattle.vtd_program.specs.Meaning.{Outcome, Means, MeansName, MeansFile, MeansDocument, too_long, unfit, accepted, document_name, document_limit, script_limit, listed_in, fault_words, scripted, carried_out, step, refused, refused_line, usage_line, SendsAll, SendsPrefix, SendsAs, EndsUnfit, EndsAs, Ran, RanScript, Carries, CarriesTo, IsBuilt, ReadsDocument, IsPrefix, IsMeant, RanExactly, DocumentCause}
 use Rattle.vtd_program.specs.declared.running.NoDocument.{NoDocument}
 use Rattle.vtd_program.specs.declared.running.NoDocument.TheVariants as no
 
