@@ -2,8 +2,9 @@
 
 ghost use Rattle.std.specs.Prelude.{◌<◌, ◌^◌, length};
 
-use crate::{characters, documents, expressions, items, moves, names, nodes, outside, texts};
+use crate::{characters, documents, items, moves, names, nodes, texts};
 use std::alloc::{AllocError, Global};
+use tables::Answers;
 
 /// The answer to a text that is asked of another.
 fn answer_text(
@@ -26,28 +27,31 @@ fn answer_text(
         "texts" => texts::answer(alloc, out, name, given, input),
         "names" => names::answer(alloc, out, name, given, input),
         "moves" => moves::answer(alloc, out, given, input),
-        "outside" => outside::answer(alloc, out, name, input),
-        "expressions" => expressions::answer(alloc, out, name, given, input),
         _ => out.push_str("no such table"),
     }
 }
 
-/// The answer to an input, by its table and what it is asked of.
-pub fn answer(
-    alloc: Global,
-    table: &str,
-    given: &[u8],
-    input: &[u8],
-) -> Result<String, AllocError> {
-    let mut out = String::new(alloc);
-    if given.len() >= 1 << 30 || input.len() >= 1 << 30 {
-        out.push_str("too long")?;
-    } else if let Some(name) = table.strip_prefix("documents ") {
-        documents::answer(alloc, &mut out, name, given, input)?;
-    } else if let Ok(text) = str::from_utf8(input) {
-        answer_text(alloc, &mut out, table, given, text)?;
-    } else {
-        out.push_str("no text")?;
+/// What the rows are asked of.
+pub struct Doors;
+
+impl Answers for Doors {
+    fn answer(
+        &self,
+        alloc: Global,
+        table: &str,
+        given: &[u8],
+        input: &[u8],
+    ) -> Result<String, AllocError> {
+        let mut out = String::new(alloc);
+        if given.len() >= 1 << 30 || input.len() >= 1 << 30 {
+            out.push_str("too long")?;
+        } else if let Some(name) = table.strip_prefix("documents ") {
+            documents::answer(alloc, &mut out, name, given, input)?;
+        } else if let Ok(text) = str::from_utf8(input) {
+            answer_text(alloc, &mut out, table, given, text)?;
+        } else {
+            out.push_str("no text")?;
+        }
+        Ok(out)
     }
-    Ok(out)
 }

@@ -1,5 +1,5 @@
 use Rattle.std.proofs.Common.{◌≡◌, None}
-use Rattle.conformance.proofs.outside.write_files.Given as goal
+use Rattle.conformance_calls.proofs.outside.write_files.Given as goal
 
 abbrev pub invariant-loop-word : goal.invariant-loop-word
 invariant-loop-word l =
