@@ -1,0 +1,4 @@
+pub mod FitLemmas
+pub mod NumberExamples
+pub mod ProductLemmas
+pub mod QuotientLemmas

@@ -1,0 +1,22 @@
+-- Answers: something, or the first fault.
+use Rattle.std.specs.Prelude.{List, [], ◌∷◌, Result, Ok, Err}
+use Rattle.xpath_values.specs.declared.ValueFault.{ValueFault}
+
+-- something, or a fault
+abbrev pub Answer : Type 0 → Type 0
+Answer X = Result X ValueFault
+
+-- what comes of an answer; a fault stays
+abbrev pub and_then : {X Y : Type 0} → Answer X → (X → Answer Y) → Answer Y
+and_then (Ok x) f = f x
+and_then (Err e) f = Err e
+
+-- the same, where what comes of it has no fault
+abbrev pub with : {X Y : Type 0} → Answer X → (X → Y) → Answer Y
+with (Ok x) f = Ok (f x)
+with (Err e) f = Err e
+
+-- an answer for each of a list, in order
+abbrev pub each : {X Y : Type 0} → (X → Answer Y) → List X → Answer (List Y)
+each f [] = Ok []
+each f (x ∷ xs) = and_then (f x) (λ y. with (each f xs) (λ ys. y ∷ ys))

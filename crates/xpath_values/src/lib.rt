@@ -1,0 +1,51 @@
+//! The values of XPath 1.0: node-sets, booleans, numbers and strings, with their conversions, comparisons, arithmetic
+//! and text functions. Numbers are whole counts of millionths in place of floating point.
+#![tactic(auto)]
+
+mod numbers;
+mod products;
+
+ghost use Rattle.std.specs.Prelude.{◌≡◌};
+ghost use Rattle.xpath_values.specs.declared.ValueFault.TheVariants.{NoMemory};
+
+pub use numbers::{arithmetic, ceiling, compare_numbers, floor, negative, round};
+use std::alloc::{AllocError, AllocFailed};
+
+/// A number, in place of that of XPath 1.0, section 3.5: not a number, or so many millionths, of an absolute value of
+/// at most 9007199254740991. Contracts that take a number ask for that range by `IsNumber`.
+#[derive(Clone, Copy, Debug, PartialEq)]
+pub enum Number {
+    /// Not a number.
+    Nan,
+    /// So many millionths.
+    Millionths(i128),
+}
+
+/// Why there is no value.
+#[derive(Clone, Copy, Debug, PartialEq)]
+pub enum ValueFault {
+    /// A number is no whole number of millionths.
+    Fraction,
+    /// A number is infinite: one that is not 0 was divided by 0.
+    Infinite,
+    /// A number is out of range: its absolute value is above 9007199254740991.
+    Range,
+    /// Memory was not to be had.
+    NoMemory,
+}
+
+impl From<AllocError> for ValueFault {
+    ghost from_gives = { λ _ e. e ≡ NoMemory };
+
+    fn from(_e: AllocError) -> ValueFault {
+        ValueFault::NoMemory
+    }
+}
+
+impl<T: Drop> From<AllocFailed<T>> for ValueFault {
+    ghost from_gives = { λ _ e. e ≡ NoMemory };
+
+    fn from(_e: AllocFailed<T>) -> ValueFault {
+        ValueFault::NoMemory
+    }
+}
