@@ -1,4 +1,11 @@
 pub mod FitLemmas
+pub mod NormalLemmas
 pub mod NumberExamples
 pub mod ProductLemmas
 pub mod QuotientLemmas
+pub mod ReadLemmas
+pub mod SubstringLemmas
+pub mod SumLemmas
+pub mod TextExamples
+pub mod TextLemmas
+pub mod ValueLemmas

@@ -2,14 +2,30 @@
 //! and text functions. Numbers are whole counts of millionths in place of floating point.
 #![tactic(auto)]
 
+mod building;
+pub mod laws;
+mod normal;
 mod numbers;
+mod positions;
 mod products;
+mod reading;
+mod sums;
+mod texts;
+mod values;
 
 ghost use Rattle.std.specs.Prelude.{◌≡◌};
 ghost use Rattle.xpath_values.specs.declared.ValueFault.TheVariants.{NoMemory};
 
+pub use building::{concat, substring_after, substring_before};
+pub use normal::normalize_space;
 pub use numbers::{arithmetic, ceiling, compare_numbers, floor, negative, round};
+pub use positions::substring;
+pub use reading::{NumberReader, Phase, number_of_text, read_next, read_start, read_value};
 use std::alloc::{AllocError, AllocFailed};
+pub use sums::{Sum, sum_next, sum_start, sum_value};
+pub use texts::{contains, starts_with, string_length};
+pub use values::{number_at, truth_of};
+use xml_model::{NodeList, Text};
 
 /// A number, in place of that of XPath 1.0, section 3.5: not a number, or so many millionths, of an absolute value of
 /// at most 9007199254740991. Contracts that take a number ask for that range by `IsNumber`.
@@ -19,6 +35,19 @@ pub enum Number {
     Nan,
     /// So many millionths.
     Millionths(i128),
+}
+
+/// A value (XPath 1.0, section 1).
+#[derive(Drop)]
+pub enum Value {
+    /// A node-set, in document order.
+    Nodes(NodeList),
+    /// A boolean.
+    Truth(bool),
+    /// A number.
+    Number(Number),
+    /// A string.
+    Text(Text),
 }
 
 /// Why there is no value.

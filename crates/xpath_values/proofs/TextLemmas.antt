@@ -1,0 +1,135 @@
+-- Where a text is cut, from what a search of its bytes finds.
+use Rattle.std.proofs.Common.{◌≡◌, ℕ, zero, suc, ◌+◌, ◌<◌, ◌≤◌, Bool, true, false, cond, ◌&&◌, ◌==◌, List, [], ◌∷◌, ◌++◌, Option, Some, None}
+use Rattle.std.proofs.Common.{length, take, drop, refl, sym, ◌∙◌, ap, subst, arith, append_assoc, length-append, length-drop}
+use lib.Utf8.{encodes}
+use denote.Bor.{Bor}
+use Rattle.std.specs.Prelude.{nat_eq, MatchOption, IfOk, Result, Ok, Err, is_some}
+use Rattle.std.specs.List.{starts_with}
+use Rattle.std.specs.Str.{chars, IsUtf8, IsCharBoundary}
+use Rattle.std.specs.Str.Pattern.{FindsText, LacksTextAt, HasTextAt}
+use Rattle.std.proofs.lemmas.Bool.{false_from_ne_true, true≢false, false≢true}
+use Rattle.std.proofs.lemmas.Str.{chars-nil, encodes-append, encodes-chars, chars-append, length-le-encodes, IsCharBoundary-at_seam}
+use Rattle.std.proofs.lemmas.Str.{IsUtf8-append, IsUtf8-drop, IsUtf8-take}
+use Rattle.std.proofs.lemmas.Str.Pattern.{split_text_parts}
+use Rattle.xml_chars.proofs.TextLemmas.{pointwise-begins}
+use Rattle.xml_chars.proofs.HoldLemmas.{encodes_prefix, holds_prefix}
+use Rattle.xml_model.specs.Chars.{begins}
+use Rattle.xml_chars.proofs.Readers.{begins_split, begins_append}
+use Rattle.xpath_values.specs.Texts.{Cut, cut_at, longer}
+
+drop_own : (a b : List ℕ) → drop (length a) (a ++ b) ≡ b
+drop_own [] b = refl
+drop_own (c ∷ a) b = drop_own a b
+
+-- one of two, and a cut
+abbrev choose : Bool → Option Cut → Option Cut → Option Cut
+choose b x y = cond b x y
+
+abbrev cut : List ℕ → List ℕ → Option Cut
+cut a b = Some (a, b)
+
+-- at its start
+cut_here : (piece rest : List ℕ) → cut_at piece (piece ++ rest) ≡ cut [] rest
+cut_here [] [] = refl
+cut_here [] (c ∷ cs) = refl
+cut_here (p ∷ ps) rest =
+    ap (λ b. choose b (cut [] (drop (length (p ∷ ps)) ((p ∷ ps) ++ rest))) (longer p (cut_at (p ∷ ps) (ps ++ rest)))) (begins_append (p ∷ ps) rest)
+    ∙ ap (λ (l : List ℕ). cut [] l) (drop_own (p ∷ ps) rest)
+
+-- at the first place: the piece is at no place before it
+cut_first : (piece a rest : List ℕ)
+    → ((u d : List ℕ) → a ≡ u ++ d → 0 < length d → begins piece (d ++ (piece ++ rest)) ≡ false)
+    → cut_at piece (a ++ (piece ++ rest)) ≡ cut a rest
+cut_first piece [] rest none = cut_here piece rest
+cut_first piece (c ∷ a) rest none =
+    let more : 0 < length (c ∷ a) = omega arith in
+    ap (λ b. choose b (cut [] (drop (length piece) (c ∷ (a ++ (piece ++ rest))))) (longer c (cut_at piece (a ++ (piece ++ rest))))) (none []
+        (c ∷ a) refl more)
+    ∙ ap (longer c) (cut_first piece a rest (λ u d e h. none (c ∷ u) d (ap (λ (l : List ℕ). c ∷ l) e) h))
+
+-- nowhere
+cut_nowhere : (piece t : List ℕ) → ((u v : List ℕ) → t ≡ u ++ v → begins piece v ≡ false) → cut_at piece t ≡ None
+cut_nowhere piece [] none = ap (λ b. choose b (cut [] []) None) (none [] [] refl)
+cut_nowhere piece (c ∷ t) none =
+    ap (λ b. choose b (cut [] (drop (length piece) (c ∷ t))) (longer c (cut_at piece t))) (none [] (c ∷ t) refl)
+    ∙ ap (longer c) (cut_nowhere piece t (λ u v e. none (c ∷ u) v (ap (λ (l : List ℕ). c ∷ l) e)))
+
+-- a piece at a place among the characters is at one among the bytes
+bytes_there : (s p u v : List ℕ) → IsUtf8 s → IsUtf8 p → chars s ≡ u ++ v → begins (chars p) v ≡ true
+    → drop (length (encodes u)) s ≡ p ++ encodes (drop (length (chars p)) v)
+bytes_there s p u v f g e b =
+    let w = drop (length (chars p)) v in
+    let i : s ≡ encodes u ++ encodes v = sym (encodes-chars s f) ∙ ap encodes e ∙ encodes-append u v in
+    let j : encodes v ≡ p ++ encodes w =
+        ap encodes (begins_split (chars p) v b) ∙ encodes-append (chars p) w
+        ∙ ap (λ (l : List ℕ). l ++ encodes w) (encodes-chars p g) in
+    ap (λ (l : List ℕ). drop (length (encodes u)) l) i ∙ drop_own (encodes u) (encodes v) ∙ j
+
+place_fits : (s u v : List ℕ) → IsUtf8 s → chars s ≡ u ++ v → length (encodes u) + length (encodes v) ≡ length s
+place_fits s u v f e =
+    sym (ap (λ (l : List ℕ). length l) (sym (encodes-chars s f) ∙ ap encodes e ∙ encodes-append u v) ∙ length-append (encodes u) (encodes v))
+
+-- a search of bytes that finds nothing
+cut_none : (s p : List ℕ) → IsUtf8 s → IsUtf8 p → ((i : ℕ) → i ≤ length s → LacksTextAt p s i) → cut_at (chars p) (chars s) ≡ None
+cut_none s p f g none = cut_nowhere (chars p) (chars s) (λ u v e. false_from_ne_true _ (λ b.
+    let k = place_fits s u v f e in
+    none (length (encodes u)) (omega arith) _ (bytes_there s p u v f g e b)))
+
+-- a search of bytes that finds a place
+cut_some : (s p a b : List ℕ) (i : ℕ) → IsUtf8 s → IsUtf8 p → IsUtf8 a → s ≡ a ++ (p ++ b) → length a ≡ i
+    → ((k : ℕ) → k < i → LacksTextAt p s k) → cut_at (chars p) (chars s) ≡ Some (chars a, chars b)
+cut_some s p a b i f g h e l none =
+    let parts : chars s ≡ chars a ++ (chars p ++ chars b) =
+        ap chars e ∙ chars-append a (p ++ b) h ∙ ap (λ (x : List ℕ). chars a ++ x) (chars-append p b g) in
+    let first : (u d : List ℕ) → chars a ≡ u ++ d → 0 < length d → begins (chars p) (d ++ (chars p ++ chars b)) ≡ false =
+        λ u d q m. false_from_ne_true _ (λ t.
+            let c : chars s ≡ u ++ (d ++ (chars p ++ chars b)) =
+                parts ∙ ap (λ (x : List ℕ). x ++ (chars p ++ chars b)) q ∙ append_assoc u d (chars p ++ chars b) in
+            let k : length (encodes u) + length (encodes d) ≡ length a = place_fits a u d h q in
+            let n : length d ≤ length (encodes d) = length-le-encodes d in
+            none (length (encodes u)) (omega arith) _ (bytes_there s p u (d ++ (chars p ++ chars b)) f g c t)) in
+    ap (cut_at (chars p)) parts ∙ cut_first (chars p) (chars a) (chars b) first
+
+-- what the library's search of a text finds
+pub split_cut : (p s : List ℕ) (r : Option (Bor (List ℕ) × Bor (List ℕ))) → IsUtf8 s → IsUtf8 p
+    → MatchOption r (FindsText p s None) (λ x. (i : ℕ) × (j : ℕ) × FindsText p s (Some (i, j)) × (x.0.now ≡ take i s)
+        × (x.1.now ≡ drop j s) × (i ≤ j) × (length x.0.now ≡ i) × (length x.1.now + j ≡ length s))
+    → MatchOption r (cut_at (chars p) (chars s) ≡ None) (λ x. cut_at (chars p) (chars s) ≡ Some (chars x.0.now, chars x.1.now))
+split_cut p s None f g h = cut_none s p f g h
+split_cut p s (Some x) f g h =
+    let e : s ≡ x.0.now ++ (p ++ x.1.now) = split_text_parts p s (Some x) h in
+    let d : IsUtf8 (drop h.1 s) = subst (λ k. IsUtf8 (drop k s)) (sym h.2.1.ends) (IsUtf8-drop s (h.0 + length p) f h.2.1.after) in
+    let b : IsUtf8 x.1.now = subst IsUtf8 (sym h.4) d in
+    let m : IsCharBoundary s (length x.0.now) = IsCharBoundary-at_seam s x.0.now (p ++ x.1.now) e (IsUtf8-append p x.1.now g b) in
+    let t : IsUtf8 (take (length x.0.now) s) = IsUtf8-take s (length x.0.now) f m in
+    let a : IsUtf8 x.0.now = subst IsUtf8 (ap (λ k. take k s) h.6 ∙ sym h.3) t in
+    cut_some s p x.0.now x.1.now h.0 f g a e h.6 h.2.0
+
+pub cut_found : (r : Option (Bor (List ℕ) × Bor (List ℕ))) (q t : List ℕ)
+    → MatchOption r (cut_at q t ≡ None) (λ x. cut_at q t ≡ Some (chars x.0.now, chars x.1.now)) → is_some r ≡ is_some (cut_at q t)
+cut_found None q t h = sym (ap (λ (o : Option Cut). is_some o) h)
+cut_found (Some x) q t h = sym (ap (λ (o : Option Cut). is_some o) h)
+
+-- a text begins with another one where its bytes do
+pub begins_same : (bs w : List ℕ) → IsUtf8 bs → IsUtf8 w → starts_with nat_eq bs w ≡ begins (chars w) (chars bs)
+begins_same bs w u v = this (starts_with nat_eq bs w) (begins (chars w) (chars bs)) refl refl
+  where
+    this : (x y : Bool) → starts_with nat_eq bs w ≡ x → begins (chars w) (chars bs) ≡ y → x ≡ y
+    this true true h k = refl
+    this false false h k = refl
+    this true false h k =
+        let split : bs ≡ w ++ drop (length w) bs = begins_split w bs (sym (pointwise-begins w bs) ∙ h) in
+        let coded : encodes (chars bs) ≡ encodes (chars w) ++ drop (length w) bs =
+            encodes-chars bs u ∙ split ∙ ap (λ (l : List ℕ). l ++ drop (length w) bs) (sym (encodes-chars w v)) in
+        let f = encodes_prefix (chars w) (chars bs) (drop (length w) bs) coded in
+        let q : begins (chars w) (chars bs) ≡ true = ap (begins (chars w)) f.1 ∙ begins_append (chars w) f.0 in
+        absurd (true≢false (sym q ∙ k))
+    this false true h k =
+        let b : begins (encodes (chars w)) bs ≡ true =
+            holds_prefix bs (chars w) (drop (length (chars w)) (chars bs)) u (begins_split (chars w) (chars bs) k) in
+        absurd (false≢true (sym h ∙ pointwise-begins w bs ∙ ap (λ (l : List ℕ). begins l bs) (sym (encodes-chars w v)) ∙ b))
+
+-- the text of no bytes
+pub nothing_made : {E : Type 0} (r : Result (List ℕ) E) → IfOk r (λ t. t ≡ chars []) → IfOk r (λ t. t ≡ [])
+nothing_made (Ok t) h = h ∙ chars-nil
+nothing_made (Err e) h = h
