@@ -4,7 +4,7 @@ use Rattle.std.specs.Prelude.{filter}
 use lib.Utf8.{encode, encodes}
 use Rattle.std.proofs.lemmas.Str.{encodes-append, encode_ascii}
 use Rattle.xml_model.specs.Chars.{is_space}
-use Rattle.xpath_values.specs.Texts.{parts, words, joined, spaced, put, is_some_text}
+use Rattle.xpath_values.specs.Texts.{parts, joined, spaced, put, is_some_text}
 use Rattle.xpath_values.specs.Normal.{in_word, left, due}
 
 -- the parts after a character, by whether it is white space
@@ -50,8 +50,8 @@ char_taken old mid now d some gap c e f g h t =
     let w : List ℕ = left true false t in
     let n : now ≡ (old ++ due some gap) ++ encode c = h ∙ ap (λ (l : List ℕ). l ++ encode c) (g ∙ ap (λ (l : List ℕ). old ++ l) f) in
     let r : encodes (left some gap (c ∷ t)) ≡ due some gap ++ (encode c ++ encodes w) =
-        ap encodes (char_left some gap c t e) ∙ encodes-append (due some gap) (c ∷ w)
-        ∙ ap (λ (l : List ℕ). l ++ (encode c ++ encodes w)) (due_bytes some gap) in
+    ap encodes (char_left some gap c t e) ∙ encodes-append (due some gap) (c ∷ w)
+    ∙ ap (λ (l : List ℕ). l ++ (encode c ++ encodes w)) (due_bytes some gap) in
     ap (λ (l : List ℕ). l ++ encodes w) n ∙ append_assoc (old ++ due some gap) (encode c) (encodes w)
     ∙ append_assoc old (due some gap) (encode c ++ encodes w) ∙ sym (ap (λ (l : List ℕ). old ++ l) r)
 

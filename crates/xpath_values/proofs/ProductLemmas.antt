@@ -1,10 +1,10 @@
 -- A product of millionths by magnitudes, one of them cut at its point.
-use Rattle.std.proofs.Common.{◌≡◌, ℕ, zero, suc, ◌+◌, ◌*◌, ◌/◌, ◌%◌, ◌≤◌, Bool, true, false, cond, not, ◌==◌, refl, sym, ◌∙◌, ap, arith}
+use Rattle.std.proofs.Common.{◌≡◌, ℕ, zero, suc, ◌+◌, ◌*◌, ◌/◌, ◌%◌, ◌≤◌, Bool, true, false, cond, ◌==◌, refl, sym, ◌∙◌, ap, arith}
 use Rattle.std.proofs.Common.{Ok, Err, ◌<◌}
 use Rattle.std.proofs.lemmas.Bool.Decides.{nat_tests}
 use Rattle.std.specs.Int.{is_negative}
 use borrow.Author.Differences.{false_is_lt}
-use Rattle.std.specs.Prelude.{ℤ, pos, negsuc, neg_ℤ, ◌*ℤ◌, nat_abs, nat_le}
+use Rattle.std.specs.Prelude.{ℤ, pos, negsuc, neg_ℤ, nat_abs, nat_le}
 use Rattle.xpath_tokens.specs.Numbers.{greatest}
 use Rattle.xpath_values.specs.declared.Number.{Number}
 use Rattle.xpath_values.specs.declared.Number.TheVariants.{Millionths}
@@ -94,9 +94,9 @@ pub product_ok : (x y z : ℤ) (n a b : ℕ) (s t d : Bool) → a ≡ nat_abs x 
     → d ≡ differ s t → Ok n ≡ magnitude (a * b) → z ≡ with_sign d n → Ok (Millionths z) ≡ product x y
 product_ok x y z n a b s t d ea eb es et ed e ez =
     let m : Ok n ≡ magnitude (nat_abs x * nat_abs y) =
-        e ∙ ap (λ k. magnitude (k * b)) ea ∙ ap (λ k. magnitude (nat_abs x * k)) eb in
+    e ∙ ap (λ k. magnitude (k * b)) ea ∙ ap (λ k. magnitude (nat_abs x * k)) eb in
     let g : d ≡ differ (is_below x) (is_below y) =
-        ed ∙ ap (λ k. differ k t) (es ∙ below_is x) ∙ ap (λ k. differ (is_below x) k) (et ∙ below_is y) in
+    ed ∙ ap (λ k. differ k t) (es ∙ below_is x) ∙ ap (λ k. differ (is_below x) k) (et ∙ below_is y) in
     ap (λ k. Ok (Millionths k)) (ez ∙ ap (λ k. with_sign k n) g)
     ∙ ap (λ v. with v (λ k. Millionths (with_sign (differ (is_below x) (is_below y)) k))) m
     ∙ sym (product_by_magnitudes x y)
@@ -104,5 +104,5 @@ product_ok x y z n a b s t d ea eb es et ed e ez =
 pub product_err : (x y : ℤ) (f : ValueFault) (a b : ℕ) → a ≡ nat_abs x → b ≡ nat_abs y → Err f ≡ magnitude (a * b) → Err f ≡ product x y
 product_err x y f a b ea eb e =
     let m : Err f ≡ magnitude (nat_abs x * nat_abs y) =
-        e ∙ ap (λ k. magnitude (k * b)) ea ∙ ap (λ k. magnitude (nat_abs x * k)) eb in
+    e ∙ ap (λ k. magnitude (k * b)) ea ∙ ap (λ k. magnitude (nat_abs x * k)) eb in
     ap (λ v. with v (λ k. Millionths (with_sign (differ (is_below x) (is_below y)) k))) m ∙ sym (product_by_magnitudes x y)

@@ -1,12 +1,12 @@
 -- A reader of a text's characters finds the text's number.
-use Rattle.std.proofs.Common.{◌≡◌, ℕ, Bool, true, false, cond, ◌&&◌, ◌==◌, List, [], ◌∷◌, Ok, Err, refl, sym, ◌∙◌, ap, subst, arith}
+use Rattle.std.proofs.Common.{◌≡◌, ℕ, Bool, true, false, cond, ◌&&◌, ◌==◌, List, [], ◌∷◌, Ok, Err, refl, sym, ◌∙◌, ap, subst}
 use Rattle.std.proofs.Common.{◌||◌, ◌≤◌, Result, nat_lt}
 use Rattle.std.specs.Prelude.{fold, codes, IfOk, ℤ}
 use Rattle.std.specs.List.{list_all, list_any}
 use Rattle.std.proofs.lemmas.Bool.{eqb-true, ltb-false, true≢false, false≢true}
 use Rattle.xml_model.specs.Chars.{is_space, in_ranges}
 use Rattle.xpath_tokens.specs.Tokens.{is_decimal_digit, are_digits}
-use Rattle.xpath_tokens.specs.Numbers.{greatest, number_value}
+use Rattle.xpath_tokens.specs.Numbers.{greatest}
 use Rattle.xpath_tokens.specs.declared.numbers.NumberFault.{NumberFault}
 use Rattle.xpath_tokens.specs.declared.numbers.NumberFault.TheVariants as spelling
 use Rattle.xpath_tokens.specs.Scanning.{scan_next, scan_start, scan_value}
@@ -115,18 +115,18 @@ whole_from b s (c ∷ cs) = this (whole_from b (scan_next s c) cs) (is_decimal_d
   where
     turn : (x p : Bool) → is_decimal_digit c ≡ x → (c == 46) ≡ p
         → worth b s (cond p (list_all is_decimal_digit (without_last_spaces cs)) (x && is_after_digit (without_last_spaces cs)))
-            (c ∷ without_last_spaces cs)
+        (c ∷ without_last_spaces cs)
         ≡ worth b s (is_after_digit (c ∷ without_last_spaces cs)) (c ∷ without_last_spaces cs)
     turn x p e h =
         ap (λ v. worth b s (cond p (list_all is_decimal_digit (without_last_spaces cs)) (v && is_after_digit (without_last_spaces cs)))
-            (c ∷ without_last_spaces cs)) (sym e)
+        (c ∷ without_last_spaces cs)) (sym e)
         ∙ ap (λ v. worth b s (cond v (list_all is_decimal_digit (without_last_spaces cs)) (is_decimal_digit c && is_after_digit
-            (without_last_spaces cs))) (c ∷ without_last_spaces cs)) (sym h)
+        (without_last_spaces cs))) (c ∷ without_last_spaces cs)) (sym h)
 
     this : from (state Whole b (scan_next s c)) cs ≡ worth b (scan_next s c) (is_after_digit (without_last_spaces cs)) (without_last_spaces cs)
         → (x p y z : Bool) → is_decimal_digit c ≡ x → (c == 46) ≡ p → is_space c ≡ y → list_all is_space cs ≡ z
         → from (moved (cond x Whole (cond p Places (cond y After Bad))) (state Whole b s) c) cs
-            ≡ worth b s (is_after_digit (trimmed c cs y z)) (trimmed c cs y z)
+        ≡ worth b s (is_after_digit (trimmed c cs y z)) (trimmed c cs y z)
     this i true true y z e h f g = absurd (digit_no_point c e h)
     this i true false true z e h f g = absurd (digit_no_space c e f)
     this i true false false z e h f g = i ∙ turn true false e h
@@ -146,9 +146,9 @@ begun_from b s (c ∷ cs) = this (is_decimal_digit c) (c == 46) (is_space c) (li
         ≡ worth b s (is_number (c ∷ without_last_spaces cs)) (c ∷ without_last_spaces cs)
     turn x p e h =
         ap (λ v. worth b s (cond p (are_digits (without_last_spaces cs)) (v && is_after_digit (without_last_spaces cs)))
-            (c ∷ without_last_spaces cs)) (sym e)
+        (c ∷ without_last_spaces cs)) (sym e)
         ∙ ap (λ v. worth b s (cond v (are_digits (without_last_spaces cs)) (is_decimal_digit c && is_after_digit (without_last_spaces cs)))
-            (c ∷ without_last_spaces cs)) (sym h)
+        (c ∷ without_last_spaces cs)) (sym h)
 
     this : (x p y z : Bool) → is_decimal_digit c ≡ x → (c == 46) ≡ p → is_space c ≡ y → list_all is_space cs ≡ z
         → from (moved (cond x Whole (cond p Lone Bad)) (state Signed b s) c) cs ≡ worth b s (is_number (trimmed c cs y z)) (trimmed c cs y z)

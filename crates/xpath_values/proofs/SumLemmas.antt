@@ -1,9 +1,8 @@
 -- A sum step by step is the sum of the numbers.
-use Rattle.std.proofs.Common.{◌≡◌, Bool, true, false, cond, ◌||◌, List, [], ◌∷◌, Ok, refl, sym, ◌∙◌, ap}
+use Rattle.std.proofs.Common.{◌≡◌, Bool, true, false, ◌||◌, List, [], ◌∷◌, Ok, refl, ◌∙◌, ap}
 use Rattle.std.specs.Prelude.{fold}
 use Rattle.std.specs.List.{list_any}
 use Rattle.xpath_values.specs.declared.Number.{Number}
-use Rattle.xpath_values.specs.declared.Number.TheVariants.{Nan}
 use Rattle.xpath_values.specs.declared.sums.Sum.{Sum}
 use Rattle.xpath_values.specs.Answers.{Answer}
 use Rattle.xpath_values.specs.Numbers.{is_nan, plus, add_all, sum_of, counted}

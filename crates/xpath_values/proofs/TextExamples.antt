@@ -1,6 +1,6 @@
 -- Texts that compute.
-use Rattle.std.proofs.Common.{◌≡◌, [], Some, None, true, false, refl}
-use Rattle.std.specs.Prelude.{pos, negsuc, codes}
+use Rattle.std.proofs.Common.{◌≡◌, [], Some, None, true, refl}
+use Rattle.std.specs.Prelude.{pos, codes}
 use Rattle.xml_model.specs.Chars.{is_space, in_ranges}
 use Rattle.xpath_values.specs.declared.Number.TheVariants.{Nan, Millionths}
 use Rattle.xpath_values.specs.Texts.{contains, normalize_space, substring, substring_after, substring_before, translate}

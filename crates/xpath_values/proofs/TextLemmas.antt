@@ -1,12 +1,12 @@
 -- Where a text is cut, from what a search of its bytes finds.
-use Rattle.std.proofs.Common.{◌≡◌, ℕ, zero, suc, ◌+◌, ◌<◌, ◌≤◌, Bool, true, false, cond, ◌&&◌, ◌==◌, List, [], ◌∷◌, ◌++◌, Option, Some, None}
-use Rattle.std.proofs.Common.{length, take, drop, refl, sym, ◌∙◌, ap, subst, arith, append_assoc, length-append, length-drop}
+use Rattle.std.proofs.Common.{◌≡◌, ℕ, ◌+◌, ◌<◌, ◌≤◌, Bool, true, false, cond, List, [], ◌∷◌, ◌++◌, Option, Some, None}
+use Rattle.std.proofs.Common.{length, take, drop, refl, sym, ◌∙◌, ap, subst, arith, append_assoc, length-append}
 use lib.Utf8.{encodes}
 use denote.Bor.{Bor}
 use Rattle.std.specs.Prelude.{nat_eq, MatchOption, IfOk, Result, Ok, Err, is_some}
 use Rattle.std.specs.List.{starts_with}
 use Rattle.std.specs.Str.{chars, IsUtf8, IsCharBoundary}
-use Rattle.std.specs.Str.Pattern.{FindsText, LacksTextAt, HasTextAt}
+use Rattle.std.specs.Str.Pattern.{FindsText, LacksTextAt}
 use Rattle.std.proofs.lemmas.Bool.{false_from_ne_true, true≢false, false≢true}
 use Rattle.std.proofs.lemmas.Str.{chars-nil, encodes-append, encodes-chars, chars-append, length-le-encodes, IsCharBoundary-at_seam}
 use Rattle.std.proofs.lemmas.Str.{IsUtf8-append, IsUtf8-drop, IsUtf8-take}
@@ -44,7 +44,7 @@ cut_first piece [] rest none = cut_here piece rest
 cut_first piece (c ∷ a) rest none =
     let more : 0 < length (c ∷ a) = omega arith in
     ap (λ b. choose b (cut [] (drop (length piece) (c ∷ (a ++ (piece ++ rest))))) (longer c (cut_at piece (a ++ (piece ++ rest))))) (none []
-        (c ∷ a) refl more)
+    (c ∷ a) refl more)
     ∙ ap (longer c) (cut_first piece a rest (λ u d e h. none (c ∷ u) d (ap (λ (l : List ℕ). c ∷ l) e) h))
 
 -- nowhere
@@ -61,8 +61,8 @@ bytes_there s p u v f g e b =
     let w = drop (length (chars p)) v in
     let i : s ≡ encodes u ++ encodes v = sym (encodes-chars s f) ∙ ap encodes e ∙ encodes-append u v in
     let j : encodes v ≡ p ++ encodes w =
-        ap encodes (begins_split (chars p) v b) ∙ encodes-append (chars p) w
-        ∙ ap (λ (l : List ℕ). l ++ encodes w) (encodes-chars p g) in
+    ap encodes (begins_split (chars p) v b) ∙ encodes-append (chars p) w
+    ∙ ap (λ (l : List ℕ). l ++ encodes w) (encodes-chars p g) in
     ap (λ (l : List ℕ). drop (length (encodes u)) l) i ∙ drop_own (encodes u) (encodes v) ∙ j
 
 place_fits : (s u v : List ℕ) → IsUtf8 s → chars s ≡ u ++ v → length (encodes u) + length (encodes v) ≡ length s
@@ -80,20 +80,20 @@ cut_some : (s p a b : List ℕ) (i : ℕ) → IsUtf8 s → IsUtf8 p → IsUtf8 a
     → ((k : ℕ) → k < i → LacksTextAt p s k) → cut_at (chars p) (chars s) ≡ Some (chars a, chars b)
 cut_some s p a b i f g h e l none =
     let parts : chars s ≡ chars a ++ (chars p ++ chars b) =
-        ap chars e ∙ chars-append a (p ++ b) h ∙ ap (λ (x : List ℕ). chars a ++ x) (chars-append p b g) in
+    ap chars e ∙ chars-append a (p ++ b) h ∙ ap (λ (x : List ℕ). chars a ++ x) (chars-append p b g) in
     let first : (u d : List ℕ) → chars a ≡ u ++ d → 0 < length d → begins (chars p) (d ++ (chars p ++ chars b)) ≡ false =
-        λ u d q m. false_from_ne_true _ (λ t.
-            let c : chars s ≡ u ++ (d ++ (chars p ++ chars b)) =
-                parts ∙ ap (λ (x : List ℕ). x ++ (chars p ++ chars b)) q ∙ append_assoc u d (chars p ++ chars b) in
-            let k : length (encodes u) + length (encodes d) ≡ length a = place_fits a u d h q in
-            let n : length d ≤ length (encodes d) = length-le-encodes d in
-            none (length (encodes u)) (omega arith) _ (bytes_there s p u (d ++ (chars p ++ chars b)) f g c t)) in
+    λ u d q m. false_from_ne_true _ (λ t.
+    let c : chars s ≡ u ++ (d ++ (chars p ++ chars b)) =
+    parts ∙ ap (λ (x : List ℕ). x ++ (chars p ++ chars b)) q ∙ append_assoc u d (chars p ++ chars b) in
+    let k : length (encodes u) + length (encodes d) ≡ length a = place_fits a u d h q in
+    let n : length d ≤ length (encodes d) = length-le-encodes d in
+    none (length (encodes u)) (omega arith) _ (bytes_there s p u (d ++ (chars p ++ chars b)) f g c t)) in
     ap (cut_at (chars p)) parts ∙ cut_first (chars p) (chars a) (chars b) first
 
 -- what the library's search of a text finds
 pub split_cut : (p s : List ℕ) (r : Option (Bor (List ℕ) × Bor (List ℕ))) → IsUtf8 s → IsUtf8 p
     → MatchOption r (FindsText p s None) (λ x. (i : ℕ) × (j : ℕ) × FindsText p s (Some (i, j)) × (x.0.now ≡ take i s)
-        × (x.1.now ≡ drop j s) × (i ≤ j) × (length x.0.now ≡ i) × (length x.1.now + j ≡ length s))
+    × (x.1.now ≡ drop j s) × (i ≤ j) × (length x.0.now ≡ i) × (length x.1.now + j ≡ length s))
     → MatchOption r (cut_at (chars p) (chars s) ≡ None) (λ x. cut_at (chars p) (chars s) ≡ Some (chars x.0.now, chars x.1.now))
 split_cut p s None f g h = cut_none s p f g h
 split_cut p s (Some x) f g h =
@@ -120,13 +120,13 @@ begins_same bs w u v = this (starts_with nat_eq bs w) (begins (chars w) (chars b
     this true false h k =
         let split : bs ≡ w ++ drop (length w) bs = begins_split w bs (sym (pointwise-begins w bs) ∙ h) in
         let coded : encodes (chars bs) ≡ encodes (chars w) ++ drop (length w) bs =
-            encodes-chars bs u ∙ split ∙ ap (λ (l : List ℕ). l ++ drop (length w) bs) (sym (encodes-chars w v)) in
+        encodes-chars bs u ∙ split ∙ ap (λ (l : List ℕ). l ++ drop (length w) bs) (sym (encodes-chars w v)) in
         let f = encodes_prefix (chars w) (chars bs) (drop (length w) bs) coded in
         let q : begins (chars w) (chars bs) ≡ true = ap (begins (chars w)) f.1 ∙ begins_append (chars w) f.0 in
         absurd (true≢false (sym q ∙ k))
     this false true h k =
         let b : begins (encodes (chars w)) bs ≡ true =
-            holds_prefix bs (chars w) (drop (length (chars w)) (chars bs)) u (begins_split (chars w) (chars bs) k) in
+        holds_prefix bs (chars w) (drop (length (chars w)) (chars bs)) u (begins_split (chars w) (chars bs) k) in
         absurd (false≢true (sym h ∙ pointwise-begins w bs ∙ ap (λ (l : List ℕ). begins l bs) (sym (encodes-chars w v)) ∙ b))
 
 -- the text of no bytes

@@ -1,9 +1,6 @@
 -- What a program holds for a value, and what is meant by it.
-use Rattle.std.proofs.Common.{◌≡◌, ℕ, Bool, true, false, List, [], ◌∷◌, Option, refl, sym, ◌∙◌, ap}
-use Rattle.std.specs.Prelude.{map}
+use Rattle.std.proofs.Common.{◌≡◌, ℕ, Bool, List, [], ◌∷◌, refl, ◌∙◌, ap}
 use Rattle.xml_model.specs.declared.Node.{Node}
-use Rattle.xml_model.specs.Tree.{Entry}
-use Rattle.vtd_words.specs.Table.{node_of}
 use Rattle.xpath_values.specs.declared.Number.{Number}
 use Rattle.xpath_values.specs.declared.Value.{Value}
 use Rattle.xpath_values.specs.declared.Value.TheVariants as held

@@ -1,5 +1,5 @@
 -- A product as it is formed: by magnitudes, then the sign.
-use Rattle.std.specs.Prelude.{ℕ, ℤ, pos, negsuc, neg_ℤ, ◌*◌, ◌/◌, ◌%◌, ◌==◌, Bool, true, false, cond, not, nat_le}
+use Rattle.std.specs.Prelude.{ℕ, ℤ, pos, neg_ℤ, ◌/◌, ◌%◌, ◌==◌, Bool, true, false, cond, not, nat_le}
 use Rattle.std.specs.Prelude.{Ok, Err}
 use Rattle.xpath_tokens.specs.Numbers.{greatest}
 use Rattle.xpath_values.specs.declared.ValueFault.TheVariants as fault

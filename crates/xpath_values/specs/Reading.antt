@@ -1,5 +1,5 @@
 -- How the number of a text is read, from its first character on.
-use Rattle.std.specs.Prelude.{ℕ, ◌==◌, Bool, true, false, cond, Result, Ok}
+use Rattle.std.specs.Prelude.{ℕ, ◌==◌, Bool, true, false, cond, Ok}
 use Rattle.xml_model.specs.Chars.{is_space}
 use Rattle.xpath_tokens.specs.Tokens.{is_decimal_digit}
 use Rattle.xpath_tokens.specs.Scanning.{scan_next, scan_start, scan_value}

@@ -1,5 +1,5 @@
 -- A sum step by step.
-use Rattle.std.specs.Prelude.{Bool, false, cond, ◌||◌, Ok}
+use Rattle.std.specs.Prelude.{false, cond, ◌||◌, Ok}
 use Rattle.xpath_values.specs.declared.Number.{Number}
 use Rattle.xpath_values.specs.declared.Number.TheVariants.{Nan}
 use Rattle.xpath_values.specs.declared.sums.Sum.{Sum}

@@ -1,5 +1,5 @@
 -- Texts, as lists of code points: XPath 1.0, section 4.2.
-use Rattle.std.specs.Prelude.{ℕ, suc, Bool, true, false, cond, not, ◌&&◌, ◌==◌, List, [], ◌∷◌, ◌++◌, Option, Some}
+use Rattle.std.specs.Prelude.{ℕ, suc, Bool, true, false, cond, ◌&&◌, ◌==◌, List, [], ◌∷◌, ◌++◌, Option, Some}
 use Rattle.std.specs.Prelude.{None, length, drop, filter, position, option_map, option_to_list, is_some}
 use Rattle.std.specs.List.{flat_map, slice_get}
 use Rattle.xml_model.specs.Chars.{is_space, begins}

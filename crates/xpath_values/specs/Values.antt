@@ -1,12 +1,12 @@
 -- Values, conversions and comparisons: XPath 1.0, sections 3.2, 3.4, 4.2, 4.3 and 4.4. A node is an entry of the tree.
-use Rattle.std.specs.Prelude.{◌≡◌, ℕ, Bool, true, false, cond, not, ◌&&◌, ◌||◌, List, [], ◌∷◌, map, codes, bytes_eq}
+use Rattle.std.specs.Prelude.{◌≡◌, ℕ, Bool, true, false, cond, not, ◌||◌, List, [], ◌∷◌, map, codes, bytes_eq}
 use Rattle.std.specs.Prelude.{Ok}
 use Rattle.std.specs.List.{list_any, AllByRecursion, Contains}
 use Rattle.xml_model.specs.Content.{content}
 use Rattle.xml_model.specs.Tree.{Entry}
 use Rattle.vtd_words.specs.Table.{node_of}
 use Rattle.xpath_tokens.specs.declared.Comparison.{Comparison}
-use Rattle.xpath_tokens.specs.declared.Comparison.TheVariants.{Equal, Unequal, Less, Greater, AtMost, AtLeast}
+use Rattle.xpath_tokens.specs.declared.Comparison.TheVariants.{Equal, Unequal}
 use Rattle.xpath_values.specs.declared.Number.{Number}
 use Rattle.xpath_values.specs.declared.Value.{Value}
 use Rattle.xpath_values.specs.declared.Value.TheVariants as held

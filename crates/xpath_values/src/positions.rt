@@ -18,7 +18,11 @@ use xpath_tokens::Comparison;
 fn reaches(first: Number, position: u64) -> bool
     ensures { result ≡ reaches first position }
 {
-    compare_numbers(Comparison::AtMost, first, Number::Millionths(ONE * position as i128))
+    compare_numbers(
+        Comparison::AtMost,
+        first,
+        Number::Millionths(ONE * position as i128),
+    )
 }
 
 /// Whether a position is before the sum of two numbers.
@@ -58,7 +62,12 @@ fn keep(held: &mut String, kept: bool, c: char) -> Result<(), AllocError>
 }
 
 /// The characters of a text at the positions within two numbers.
-fn kept(alloc: Global, text: &str, first: Number, count: Option<Number>) -> Result<String, AllocError>
+fn kept(
+    alloc: Global,
+    text: &str,
+    first: Number,
+    count: Option<Number>,
+) -> Result<String, AllocError>
     requires first { IsNumber first }
     requires count { IfSome count IsNumber }
     ensures { IfOk result (λ s. string_bytes s
@@ -76,7 +85,12 @@ fn kept(alloc: Global, text: &str, first: Number, count: Option<Number>) -> Resu
 }
 
 /// The same as a text.
-fn kept_text(alloc: Global, text: &str, first: Number, count: Option<Number>) -> Result<Text, AllocError>
+fn kept_text(
+    alloc: Global,
+    text: &str,
+    first: Number,
+    count: Option<Number>,
+) -> Result<Text, AllocError>
     requires first { IsNumber first }
     requires count { IfSome count IsNumber }
     ensures { IfOk result (λ t. t ≡ at_positions (is_within first count) 1 (chars text.now)) }

@@ -76,7 +76,11 @@ fn begun(c: char) -> Phase
 fn ended(c: char) -> Phase
     ensures { result ≡ ended c }
 {
-    if is_space(c) { Phase::After } else { Phase::Bad }
+    if is_space(c) {
+        Phase::After
+    } else {
+        Phase::Bad
+    }
 }
 
 /// The phase after a character before the spelling.
@@ -113,7 +117,13 @@ fn next_phase(phase: Phase, c: char) -> Phase
         Phase::Before => after_space(c),
         Phase::Signed => begun(c),
         Phase::Whole => after_whole(c),
-        Phase::Lone => { if is_digit(c) { Phase::Places } else { Phase::Bad } }
+        Phase::Lone => {
+            if is_digit(c) {
+                Phase::Places
+            } else {
+                Phase::Bad
+            }
+        }
         Phase::Places => { if is_digit(c) { Phase::Places } else { ended(c) } }
         Phase::After => ended(c),
         Phase::Bad => Phase::Bad,

@@ -16,14 +16,14 @@ loop-c-init c = record {
 pub loop-c-preserved : goal.loop-c-preserved
 loop-c-preserved c = record {
   same =
-    c.in_ok-passed.ensures (chars c.in-Some.after.now)
-    ∙ ap (λ (l : List ℕ). string_bytes c.loop-c.held ++ encode_utf8_all (left c.loop-c.passed.some c.loop-c.passed.gap l)) (sym (char_some
-        (chars c.loop-c.rest.now) (chars c.in-Some.after.now) c.in-Some.c c.in-Some.ensures.read))
-    ∙ c.loop-c.invariant.same;
+      c.in_ok-passed.ensures (chars c.in-Some.after.now)
+      ∙ ap (λ (l : List ℕ). string_bytes c.loop-c.held ++ encode_utf8_all (left c.loop-c.passed.some c.loop-c.passed.gap l)) (sym (char_some
+      (chars c.loop-c.rest.now) (chars c.in-Some.after.now) c.in-Some.c c.in-Some.ensures.read))
+      ∙ c.loop-c.invariant.same;
   text = search rules;
 }
 
 pub returns : goal.returns
 returns c =
     at_end (string_bytes c.loop-c.held) _ (chars c.loop-c.rest.now) c.loop-c.passed.some c.loop-c.passed.gap (char_none
-        (chars c.loop-c.rest.now) c.in_default.ensures.read) c.loop-c.invariant.same
+    (chars c.loop-c.rest.now) c.in_default.ensures.read) c.loop-c.invariant.same

@@ -9,5 +9,5 @@ returns-then-is_space c =
 pub returns : goal.returns
 returns c =
     char_taken (string_bytes c.args.held.now) _ _ c.due.result.now c.args.passed.some c.args.passed.gap c.args.c (sym c.is_space.ensures
-        ∙ c.if-is_space.false)
+    ∙ c.if-is_space.false)
     c.due.ensures c.in_ok-push_str.ensures.bytes c.in_ok-push.ensures.bytes

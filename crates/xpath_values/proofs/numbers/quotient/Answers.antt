@@ -12,6 +12,6 @@ returns c =
     let f : SFits w128 c.scaled.result = search rules in
     let b : SFits w128 c.args.y = c.ranges.y in
     let v : c.exactly.result ≡ exactly c.scaled.result c.args.y =
-        simp to_z-of_z at c.exactly.ensures in
+    simp to_z-of_z at c.exactly.ensures in
     quotient_ok c.args.x c.args.y c.scaled.result c.exactly.result (λ e. c.if-y-eq0.false (ap (of_z w128) e)) (c.scaled.ensures
-        ∙ ap (λ k. pos one *ℤ k) (to_z-of_z w128 c.args.x c.ranges.x)) v
+    ∙ ap (λ k. pos one *ℤ k) (to_z-of_z w128 c.args.x c.ranges.x)) v

@@ -18,12 +18,12 @@ loop-c-preserved c =
     let test : ℕ → Bool = is_within c.args.first c.args.count in
     record {
       same =
-        c.in_ok-keep.ensures (at_positions test (c.loop-c.position + 1) (chars c.in-Some.after.now))
-        ∙ ap (λ (l : List ℕ). string_bytes c.loop-c.held ++ encode_utf8_all l)
-            (position_taken test c.loop-c.position c.in-Some.c c.is_within.result (chars c.in-Some.after.now) c.is_within.ensures
-             ∙ ap (at_positions test c.loop-c.position) (sym (char_some (chars c.loop-c.rest.now)
-                 (chars c.in-Some.after.now) c.in-Some.c c.in-Some.ensures.read)))
-        ∙ c.loop-c.invariant.same;
+          c.in_ok-keep.ensures (at_positions test (c.loop-c.position + 1) (chars c.in-Some.after.now))
+          ∙ ap (λ (l : List ℕ). string_bytes c.loop-c.held ++ encode_utf8_all l)
+          (position_taken test c.loop-c.position c.in-Some.c c.is_within.result (chars c.in-Some.after.now) c.is_within.ensures
+          ∙ ap (at_positions test c.loop-c.position) (sym (char_some (chars c.loop-c.rest.now)
+          (chars c.in-Some.after.now) c.in-Some.c c.in-Some.ensures.read)))
+          ∙ c.loop-c.invariant.same;
       room = omega (arith, c.in-Some.ensures.shorter);
       text = search rules;
     }

@@ -14,10 +14,10 @@ returns-in-Ok c =
     let ey = to_z-of_z w128 c.args.y c.ranges.y in
     rw (to_z-of_z w128 c.with_sign.result f)
     (product_ok c.args.x c.args.y c.with_sign.result c.in-Ok.n c.unsigned_abs.result c.unsigned_abs-2.result
-        c.is_negative.result c.is_negative-2.result c.differ-negative.result
-        (c.unsigned_abs.ensures.value ∙ ap nat_abs ex) (c.unsigned_abs-2.ensures.value ∙ ap nat_abs ey)
-        (c.is_negative.ensures ∙ ap is_negative ex) (c.is_negative-2.ensures ∙ ap is_negative ey)
-        c.differ-negative.ensures c.in-Ok.ensures.value c.with_sign.ensures)
+    c.is_negative.result c.is_negative-2.result c.differ-negative.result
+    (c.unsigned_abs.ensures.value ∙ ap nat_abs ex) (c.unsigned_abs-2.ensures.value ∙ ap nat_abs ey)
+    (c.is_negative.ensures ∙ ap is_negative ex) (c.is_negative-2.ensures ∙ ap is_negative ey)
+    c.differ-negative.ensures c.in-Ok.ensures.value c.with_sign.ensures)
 
 pub returns-in-Err : goal.returns-in-Err
 returns-in-Err c =
