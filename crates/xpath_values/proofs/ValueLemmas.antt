@@ -32,3 +32,6 @@ number_truth x r e v h = e ∙ ap held_truth h ∙ truth_meant v
 
 pub text_truth : (t : List ℕ) (r : Bool) → r ≡ is_some_list t → (v : Meant) → held.Text t ≡ held_as v → r ≡ truth_of v
 text_truth t r e v h = e ∙ ap held_truth h ∙ truth_meant v
+
+-- what is held of each kind
+pub ruleset truths = (nodes_truth, plain_truth, number_truth, text_truth)

@@ -45,7 +45,7 @@ fn nodes_of(list: &NodeList) -> &[Node]
 }
 
 /// A value as a boolean (XPath 1.0, section 4.3), in constant time.
-#[tactic(auto, using(crate::proofs::ValueLemmas::nodes_truth, crate::proofs::ValueLemmas::plain_truth, crate::proofs::ValueLemmas::number_truth, crate::proofs::ValueLemmas::text_truth))]
+#[tactic(auto, using(crate::proofs::ValueLemmas::truths))]
 pub fn truth_of(value: &Value) -> bool
     ensures { (v : Meant) → value.now ≡ held_as v → result ≡ truth_of v }
 {
