@@ -1,0 +1,69 @@
+-- Scripts with their lines, and lines with what they ask for.
+use Rattle.std.proofs.Common.{◌≡◌, [], ◌∷◌, codes, Some, None, Ok, Err, refl}
+use Rattle.std.specs.Str.{chars, is_utf8}
+use Rattle.vtd_script.specs.Lines.{lines}
+use Rattle.vtd_script.specs.Fields.{fields, unescaped}
+use Rattle.vtd_script.specs.Commands.{read}
+use Rattle.vtd_script.specs.declared.commands.Command.TheVariants.{Elements, Ns}
+use Rattle.vtd_script.specs.declared.refusals.Refusal.TheVariants as no
+
+no_lines : lines [] ≡ []
+unfolding lines
+no_lines = refl
+
+-- each line feed ends a line, the last line may lack it, and one return before it belongs to it
+ends : lines (codes "a\r\n\nb\rc\r\r\n") ≡ codes "a" ∷ [] ∷ codes "b\rc\r" ∷ []
+unfolding lines
+ends = refl
+
+unended : lines (codes "a\nb\r") ≡ codes "a" ∷ codes "b\r" ∷ []
+unfolding lines
+unended = refl
+
+separate : fields (codes "ns\t\tu") ≡ codes "ns" ∷ [] ∷ codes "u" ∷ []
+separate = refl
+
+one_alone : fields [] ≡ [] ∷ []
+one_alone = refl
+
+escapes : unescaped (codes "a\\tb\\n\\r\\\\t") ≡ Some (codes "a\tb\n\r\\t")
+escapes = refl
+
+none_begins : unescaped (codes "a\\q") ≡ None
+none_begins = refl
+
+none_ends : unescaped (codes "a\\") ≡ None
+none_ends = refl
+
+elements : read (codes "elements") ≡ Some (Ok Elements)
+unfolding read is_utf8 chars lib.Utf8.encode
+elements = refl
+
+binds : read (codes "ns\ta\\tb\tc\\\\n") ≡ Some (Ok (Ns (codes "a\tb") (codes "c\\n")))
+unfolding read is_utf8 chars lib.Utf8.encode
+binds = refl
+
+empty_fields : read (codes "ns\t\t") ≡ Some (Ok (Ns [] []))
+unfolding read is_utf8 chars lib.Utf8.encode
+empty_fields = refl
+
+nothing : read [] ≡ None
+unfolding read
+nothing = refl
+
+-- a wrong number of fields comes before a wrong escape, and an empty field is a field
+too_many : read (codes "ns\ta\tb\\q\tc") ≡ Some (Err no.Command)
+unfolding read is_utf8 chars lib.Utf8.encode
+too_many = refl
+
+one_too_many : read (codes "elements\t") ≡ Some (Err no.Command)
+unfolding read is_utf8 chars lib.Utf8.encode
+one_too_many = refl
+
+wrong_escape : read (codes "ns\ta\\q\tb") ≡ Some (Err no.Escape)
+unfolding read is_utf8 chars lib.Utf8.encode
+wrong_escape = refl
+
+no_text : read (255 ∷ []) ≡ Some (Err no.LineUtf8)
+unfolding read is_utf8 chars lib.Utf8.encode
+no_text = refl

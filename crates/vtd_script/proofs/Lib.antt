@@ -1,0 +1,9 @@
+pub mod LineLemmas
+pub mod FieldLemmas
+pub mod ReadLemmas
+mod Examples
+mod Elements
+pub mod StepLaws
+pub mod RunLaws
+pub mod Parts
+pub mod Loop

@@ -1,0 +1,21 @@
+use Rattle.std.proofs.Common.{◌≡◌, ◌-◌, ◌≤◌, length, drop, List, ℕ, Some, false}
+use Rattle.vtd_outside.specs.Known.{NameMap}
+use Rattle.vtd_script.specs.Lines.{lines}
+use Rattle.vtd_script.specs.States.{state_of}
+use Rattle.vtd_script.specs.Runs.{Carrying}
+use Rattle.vtd_script.proofs.carrying.carry_out.Given as goal
+
+abbrev pub invariant-loop-line : goal.invariant-loop-line
+invariant-loop-line g l = record {
+  within : l.at ≤ length l.script;
+  so_far : (map : NameMap) (sent : List ℕ) → g.F.Files.contents l.fn.files ≡ Some map → g.K.Sink.taken l.fn.out ≡ Some sent
+      → Carrying l.keep (state_of l.fn.session map) (lines l.script) (lines (drop l.at l.script)) l.session (g.F.Files.contents l.files) sent
+      (g.K.Sink.taken l.out) l.refused;
+  not_writing : g.F.Files.is_writing l.files ≡ false;
+  missed_kept : g.F.Files.missed l.files ≡ g.F.Files.missed l.fn.files;
+  proper_kept : g.F.Files.proper l.files ≡ g.F.Files.proper l.fn.files;
+  faults_kept : g.K.Sink.faults l.out ≡ g.K.Sink.faults l.fn.out;
+}
+
+abbrev pub decreases-loop-line : goal.decreases-loop-line
+decreases-loop-line g l = length l.script - l.at

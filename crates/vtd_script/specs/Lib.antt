@@ -1,0 +1,10 @@
+pub mod Lines
+pub mod Fields
+pub mod Commands
+pub mod Readings
+pub mod Listing
+pub mod Spans
+pub mod States
+pub mod Steps
+pub mod Runs
+pub mod Changes

@@ -1,0 +1,65 @@
+-- What a script works on, and what one of its lines answers (this project's own).
+use Rattle.std.specs.Prelude.{ℕ, Bool, true, false, List, [], ◌++◌, codes}
+use Rattle.vtd_outside.specs.Known.{NameMap}
+use Rattle.vtd_script.specs.Listing.{line_feed}
+use Rattle.vtd_script.specs.declared.refusals.Refusal.{Refusal}
+use Rattle.vtd_script.specs.declared.refusals.Refusal.TheVariants as no
+
+-- what a session holds: the document's bytes, and the prefixes that were set with their URIs
+pub record Work : Type 0 where
+  pub bytes : List ℕ
+  pub bound : List (List ℕ × List ℕ)
+
+-- a session, and the files beside it
+pub record State : Type 0 where
+  pub work : Work
+  pub files : NameMap
+
+abbrev pub state_of : Work → NameMap → State
+state_of work files = record { work = work; files = files }
+
+-- What a line answers: nothing, for an empty line; lines with the state after them; a refusal; or that a file is not
+-- there.
+pub data Answer : Type 0 where
+  skipped : Answer
+  printed : List ℕ → State → Answer
+  refused : Refusal → Answer
+  missing : Answer
+
+-- the words of a refusal
+abbrev pub refusal_words : Refusal → List ℕ
+refusal_words no.LineLong = codes "line-long"
+refusal_words no.LineUtf8 = codes "line-utf8"
+refusal_words no.Command = codes "command"
+refusal_words no.Escape = codes "escape"
+refusal_words no.Name = codes "name"
+
+unfoldable pub refused_line : Refusal → List ℕ
+refused_line refusal = codes "refused " ++ refusal_words refusal ++ line_feed
+
+-- the lines of an answer, and the state after it
+abbrev pub lines_of : Answer → List ℕ
+lines_of skipped = []
+lines_of (printed lines after) = lines
+lines_of (refused refusal) = refused_line refusal
+lines_of missing = []
+
+abbrev pub state_after : State → Answer → State
+state_after s skipped = s
+state_after s (printed lines after) = after
+state_after s (refused refusal) = s
+state_after s missing = s
+
+abbrev pub is_refused : Answer → Bool
+is_refused skipped = false
+is_refused (printed lines after) = false
+is_refused (refused refusal) = true
+is_refused missing = false
+
+-- Whether the next line is carried out after one with this answer: where refused commands are passed over, or none was
+-- refused.
+abbrev pub goes_on : Bool → Answer → Bool
+goes_on keep skipped = true
+goes_on keep (printed lines after) = true
+goes_on keep (refused refusal) = keep
+goes_on keep missing = false

@@ -1,0 +1,20 @@
+//! The lines of a script, what each asks for, sessions that carry them out, and what scripts mean.
+#![tactic(auto)]
+
+mod carrying;
+mod commands;
+mod endings;
+mod fields;
+pub mod laws;
+mod lines;
+mod listing;
+mod refusals;
+mod session;
+mod spans;
+
+pub use carrying::carry_out;
+pub use commands::{Command, LineFault, read_line};
+pub use endings::{End, Ending, StepFault};
+pub use lines::{Line, next_line};
+pub use refusals::Refusal;
+pub use session::Session;
