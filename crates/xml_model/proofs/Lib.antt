@@ -1,4 +1,5 @@
 pub mod Each
+pub mod Cuts
 pub mod Levels
 pub mod Rise
 pub mod Fits
