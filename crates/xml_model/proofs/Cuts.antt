@@ -1,9 +1,10 @@
 -- The records of a text or a CDATA section: its bytes in cuts.
-use Rattle.std.proofs.Common.{◌≡◌, ℕ, zero, suc, ◌+◌, ◌-◌, ◌*◌, ◌/◌, ◌<◌, ◌≤◌, Bool, true, false, List, [], ◌∷◌, ◌++◌, refl, ap, sym, ◌∙◌, arith, length, subst, ⊎_elim}
+use Rattle.std.proofs.Common.{◌≡◌, ℕ, zero, suc, ◌+◌, ◌-◌, ◌*◌, ◌/◌, ◌<◌, ◌≤◌, true, false, cond, List, [], ◌∷◌, refl, ap, ap₂, ◌∙◌, arith, length, Some, None, nat_lt, le-ltb}
 use Rattle.std.proofs.Math.Nat.{div-eq_of_lt, div-mul-le_self, lt-div-mul-add, div-eq-sub-div}
-use Rattle.std.specs.Prelude.{⊤}
 use Rattle.std.specs.List.{AllByRecursion as Each}
-use Rattle.xml_model.specs.Records.{Record, cut_limit, cut, cuts, full_cuts, cut_records}
+use Rattle.xml_model.specs.declared.Field.TheVariants as fields
+use Rattle.xml_model.specs.Records.{Record, cut, cuts, full_cuts, cut_records}
+use Rattle.xml_model.specs.Accepted.{is_name_token, too_wide, first_wide, wide_here}
 
 -- so many full cuts leave 1 to 1,048,575 bytes, or nothing of nothing
 pub record Cut (k n : ℕ) : Type 0 where
@@ -87,3 +88,25 @@ more_cuts token depth at n h =
     let less : n - 1 - 1_048_575 ≡ n - 1_048_575 - 1 = omega arith in
     let one : full_cuts n ≡ suc (full_cuts (n - 1_048_575)) = div-eq-sub-div {m = 1_048_575} {n = n - 1} (omega arith) (omega arith) ∙ ap (λ m. m / 1_048_575 + 1) less ∙ omega arith in
     ap (λ k. cuts k token depth at n) one
+
+-- twice their number is at most one more than the bytes
+pub half_cuts : (token depth at n : ℕ) → 0 < n → 2 * length (cut_records token depth at n) ≤ n + 1
+half_cuts token depth at n h = omega (arith, length_cuts token depth at n, (full_cut n).least, (full_cut n).some)
+
+-- and of none it is two
+pub empty_cuts : (token depth at n : ℕ) → 2 * length (cut_records token depth at n) ≤ n + 2
+empty_cuts token depth at n = omega (arith, length_cuts token depth at n, (full_cut n).least, (full_cut n).some)
+
+-- none is too wide for its record
+pub narrow_cuts : (token depth at n : ℕ) → is_name_token token ≡ false → first_wide (cut_records token depth at n) ≡ None
+unfolding first_wide
+narrow_cuts token depth at n h = none (cut_records token depth at n) (each_cut (λ r. too_wide r ≡ None) token depth at n one)
+  where
+    one : (m o : ℕ) → IsCut at n m o → too_wide (cut token depth m o) ≡ None
+    one m o i =
+        ap (λ b. cond b (cond (nat_lt 2047 m) (Some fields.Name) (cond (nat_lt 511 0) (Some fields.Prefix) None)) (cond (nat_lt 1_048_575 m) (Some fields.Token) None)) h
+        ∙ ap (λ b. cond b (Some fields.Token) None) (le-ltb 1_048_575 m i.most)
+
+    none : (rs : List Record) → Each (λ r. too_wide r ≡ None) rs → first_wide rs ≡ None
+    none [] k = refl
+    none (r ∷ rs) k = ap₂ (λ a b. wide_here a r.offset b) k.0 (none rs k.1)
