@@ -20,7 +20,7 @@ use Rattle.xml_model.specs.Accepted.{IsDocument}
 use Rattle.xml_model.proofs.Cuts.{half_cuts, empty_cuts}
 use Rattle.xml_model.proofs.Proper.{walk_to_end_meets}
 use Rattle.xml_chars.proofs.HoldLemmas.{size-append}
-use Rattle.xml_acceptance.proofs.Apart.{is_text, begins_text, apart, apart-append, document_apart}
+use Rattle.xml_model.proofs.TextsApart.{is_text, begins_text, apart, apart-append, document_apart}
 use Rattle.xml_acceptance.proofs.Placement.{long, written_pos}
 use Rattle.xml_acceptance.proofs.RecordLaws.{attributes_count, parts_count}
 
