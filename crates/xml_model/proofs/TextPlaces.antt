@@ -18,7 +18,7 @@ use Rattle.xml_model.proofs.Each.{each_at, each_append, each_more, each_left, ea
 use Rattle.xml_model.proofs.Cuts.{each_cut}
 use Rattle.xml_model.proofs.Fits.{run_split, after_run}
 use Rattle.xml_model.proofs.TextsApart.{is_text, begins_text, Separate, document_separate}
-use Rattle.xml_model.proofs.Wholes.{EndsBy, BeginsPast, NoText, seam, silent_wholes, wholes_cuts}
+use Rattle.xml_model.proofs.Wholes.{EndsBy, BeginsPast, NoText, seam, silent_wholes, none_wholes, wholes_cuts}
 
 -- ---- sizes
 
@@ -55,7 +55,7 @@ forest_grows (element t inside space f) at = omega (arith, forest_grows inside (
 
 -- ---- what is of no text
 
-attributes_none : (others : List Attribute) (d at : ℕ) → Each NoText (attributes_records d at others)
+pub attributes_none : (others : List Attribute) (d at : ℕ) → Each NoText (attributes_records d at others)
 attributes_none [] d at = tt
 attributes_none (a ∷ others) d at = (by (declares a.name), (refl, attributes_none others d (at + size (written_attribute a))))
   where
@@ -66,7 +66,7 @@ attributes_none (a ∷ others) d at = (by (declares a.name), (refl, attributes_n
 pub tag_none : (l at : ℕ) (t : Tag) → Each NoText (tag_records l at t)
 tag_none l at t = (refl, attributes_none t.attributes l (attributes_place at t))
 
-parts_none : (others : List Attribute) (d at : ℕ) → Each NoText (declaration_part_records d at others)
+pub parts_none : (others : List Attribute) (d at : ℕ) → Each NoText (declaration_part_records d at others)
 parts_none [] d at = tt
 parts_none (a ∷ others) d at = (refl, (refl, parts_none others d (at + size (written_attribute a))))
 
@@ -189,10 +189,7 @@ leaf_none (Leaf.comment cs) l at h ys k = silent_wholes (leaf_records l at (Leaf
 leaf_none (Leaf.instruction i) l at h ys k = silent_wholes (leaf_records l at (Leaf.instruction i)) ys (refl, (refl, tt))
 leaf_none (Leaf.declaration d) l at h ys k =
     let n = parts_none (declaration_attributes d) (depth_at l) (at + 5) in
-    silent_wholes (leaf_records l at (Leaf.declaration d)) ys n ∙ ap (λ zs. zs ++ wholes ys) (sym (own (leaf_records l at (Leaf.declaration d)) n))
-  where
-    own : (rs : List Record) → Each NoText rs → wholes rs ≡ rs
-    own rs n = ap wholes (sym (append-nil rs)) ∙ silent_wholes rs [] n ∙ append-nil rs
+    silent_wholes (leaf_records l at (Leaf.declaration d)) ys n ∙ ap (λ zs. zs ++ wholes ys) (sym (none_wholes (leaf_records l at (Leaf.declaration d)) n))
 leaf_none (Leaf.doctype d) l at h ys k = silent_wholes (leaf_records l at (Leaf.doctype d)) ys (refl, tt)
 
 -- a leaf, and what begins where it ends; if it is a text, what begins later
@@ -247,7 +244,7 @@ text_whole d at (Leaf.doctype v) h = absurd (false≢true h)
 
 -- ---- the law, of each node
 
-run_are : (f : Forest) (d at : ℕ) → Separate f → wholes (run_records (suc d) at (run f)) ≡ run_wholes (suc d) at (run f)
+pub run_are : (f : Forest) (d at : ℕ) → Separate f → wholes (run_records (suc d) at (run f)) ≡ run_wholes (suc d) at (run f)
 run_are done d at s = refl
 run_are (empty t f) d at s = refl
 run_are (element t inside space f) d at s = refl

@@ -1,5 +1,5 @@
 -- The records of one text or CDATA section are told from those of two by their places.
-use Rattle.std.proofs.Common.{◌≡◌, ℕ, zero, suc, ◌+◌, ◌-◌, ◌*◌, ◌<◌, ◌≤◌, Bool, true, false, inl, inr, cond, ◌&&◌, ◌==◌, List, [], ◌∷◌, ◌++◌, refl, ap, ap₂, sym, ◌∙◌, arith, subst, eq-eqb, eqb-true, ne_eqb}
+use Rattle.std.proofs.Common.{◌≡◌, ℕ, zero, suc, ◌+◌, ◌-◌, ◌*◌, ◌<◌, ◌≤◌, Bool, true, false, inl, inr, cond, ◌&&◌, ◌==◌, List, [], ◌∷◌, ◌++◌, refl, ap, ap₂, sym, ◌∙◌, arith, append-nil, eq-eqb, eqb-true, ne_eqb}
 use Rattle.std.specs.List.{AllByRecursion as Each}
 use Rattle.std.proofs.lemmas.Bool.{and_parts, and_right, false≢true, cases_Bool}
 use Rattle.xml_model.specs.Records.{Record, cut, cuts, full_cuts, cut_records}
@@ -98,3 +98,6 @@ silent_wholes (r ∷ []) [] h = refl
 silent_wholes (r ∷ []) (s ∷ ys) h = ap (λ b. cond b (wholes_from (joined_with r s) ys) (r ∷ wholes_from s ys)) (no_text_goes r s h.0)
 silent_wholes (r ∷ s ∷ xs) ys h =
     ap (λ b. cond b (wholes_from (joined_with r s) (xs ++ ys)) (r ∷ wholes_from s (xs ++ ys))) (no_text_goes r s h.0) ∙ ap (λ zs. r ∷ zs) (silent_wholes (s ∷ xs) ys h.1)
+
+pub none_wholes : (rs : List Record) → Each NoText rs → wholes rs ≡ rs
+none_wholes rs h = ap wholes (sym (append-nil rs)) ∙ silent_wholes rs [] h ∙ append-nil rs
