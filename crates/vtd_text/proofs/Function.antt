@@ -8,18 +8,20 @@ use Rattle.std.proofs.lemmas.Bool.{and_parts, and_from, false≢true, cases_Bool
 use Rattle.xml_model.specs.Chars.{is_char}
 use Rattle.xml_model.specs.Items.{Piece, literal, entity, decimal, hexadecimal, written_piece, written_pieces, meets_piece}
 use Rattle.xml_model.specs.Records.{Record, word}
+use Rattle.xml_model.specs.Wholes.{wholes}
 use Rattle.xml_model.specs.Accepted.{is_name_token}
 use Rattle.xml_chars.specs.Readers.{many_by}
 use Rattle.xml_chars.specs.Places.{is_reference}
 use Rattle.xml_chars.proofs.NameLaws.{reference_reads}
 use Rattle.vtd_words.specs.declared.packing.Parts.{Parts}
-use Rattle.vtd_words.specs.Packed.{fits}
+use Rattle.vtd_words.specs.Packed.{fits, record_of}
 use Rattle.vtd_words.specs.Table.{Shows, parts_of_record}
 use Rattle.vtd_words.proofs.Unpacked.{name_unpacked, other_unpacked}
+use Rattle.vtd_text.specs.declared.row.RowEnd.{RowEnd}
 use Rattle.vtd_text.specs.declared.token.Rule.{Rule}
 use Rattle.vtd_text.specs.declared.token.Rule.TheVariants.{Text, Literal, Value}
 use Rattle.vtd_text.specs.Tokens.{HasContent, may_begin_at, content_by, begins_reference, begins_with_reference, some_left, read_piece, read_piece_by, pieces_read, pieces_of, resolved}
-use Rattle.vtd_text.specs.Joined.{rule_of, slice_of, Gives, Joined, IsLeft, resolved_by, word_content, left_of}
+use Rattle.vtd_text.specs.Joined.{rule_of, slice_of, Gives, Joined, IsLeft, row, resolved_by, record_content, record_of_word, left_of}
 
 -- ---- one piece
 
@@ -104,76 +106,32 @@ content_is rule cs content h = ap (λ (l : List ℕ). content_by rule (pieces_of
 
 -- ---- a row of records
 
--- the fields of a word that the content takes
-record Fields (r : Record) (w : ℕ) : Type 0 where
-  pub token : w / 2 ^ 60 ≡ r.token
-  pub rest : is_name_token r.token ≡ false → ((w / 2 ^ 32) % 2 ^ 20 ≡ r.len) × (w % 2 ^ 30 ≡ r.offset)
-
-fields_of : (r : Record) (w : ℕ) → fits (parts_of_record r) ≡ true → word r ≡ w → Fields r w
-fields_of r w f e = elim (cases_Bool (is_name_token (w / 2 ^ 60))) [
-  | inl n ↦
-      let same = name_unpacked w (parts_of_record r) n f e in
-      let token : w / 2 ^ 60 ≡ r.token = ap (λ (p : Parts). p.token) same in
-      record { token = token; rest = λ k. absurd (false≢true (sym k ∙ ap is_name_token (sym token) ∙ n)) }
-  | inr n ↦
-      let same = other_unpacked w (parts_of_record r) n f e in
-      record {
-        token = ap (λ (p : Parts). p.token) same;
-        rest = λ k. (sym (and_mask (w / 2 ^ 32) 20) ∙ ap (λ (p : Parts). p.length) same, sym (and_mask w 30) ∙ ap (λ (p : Parts). p.offset) same);
-      }
+-- the record that a word packs
+word_record : (r : Record) → fits (parts_of_record r) ≡ true → record_of_word (word r) ≡ r
+unfolding record_of_word
+word_record r f = elim (cases_Bool (is_name_token (word r / 2 ^ 60))) [
+  | inl n ↦ rw n (ap record_of (name_unpacked (word r) (parts_of_record r) n f refl))
+  | inr n ↦ rw n (ap record_of (other_unpacked (word r) (parts_of_record r) n f refl))
 ]
 
-no_name : (n : ℕ) (rule : Rule) → rule_of n ≡ Some rule → is_name_token n ≡ false
-no_name n rule e = elim (cases_Bool (n == 5)) [
-  | inl t ↦ rw (eqb-true n 5 t) refl
-  | inr f ↦ elim (cases_Bool (n == 11)) [
-    | inl t ↦ rw (eqb-true n 11 t) refl
-    | inr g ↦ absurd (let no : ◌≡◌ {A = Option Rule} None (Some rule) = rw (f, g) at e in cc)
-  ]
-]
+words_records : (rs : List Record) → Each (λ r. fits (parts_of_record r) ≡ true) rs → map record_of_word (map word rs) ≡ rs
+words_records [] f = refl
+words_records (r ∷ rs) f = ap₂ (λ (x : Record) (xs : List Record). x ∷ xs) (word_record r f.0) (words_records rs f.1)
 
--- the content of a word is that of the record that it packs
-pub word_is : (bytes : List ℕ) (r : Record) (content : List ℕ) → fits (parts_of_record r) ≡ true → Gives (rule_of r.token) (slice_of bytes r) content → word_content bytes (word r) ≡ content
-unfolding word_content
-word_is bytes r content f g =
-    let k = fields_of r (word r) f refl in
-    ap (λ (n : ℕ). resolved_by (rule_of n) (take ((word r / 2 ^ 32) % 2 ^ 20) (drop (word r % 2 ^ 30) bytes))) k.token ∙ by (rule_of r.token) refl g
+content_of : (bytes : List ℕ) (r : Record) (content : List ℕ) → Gives (rule_of r.token) (slice_of bytes r) content → record_content bytes r ≡ content
+content_of bytes r content = by (rule_of r.token)
   where
-    by : (o : Option Rule) → rule_of r.token ≡ o → Gives o (slice_of bytes r) content → resolved_by o (take ((word r / 2 ^ 32) % 2 ^ 20) (drop (word r % 2 ^ 30) bytes)) ≡ content
-    by None e h = sym h
-    by (Some rule) e h =
-        let k = (fields_of r (word r) f refl).rest (no_name r.token rule e) in
-        ap₂ (λ (n o : ℕ). resolved rule (chars (take n (drop o bytes)))) k.0 k.1 ∙ content_is rule (chars (slice_of bytes r)) content h
+    by : (o : Option Rule) → Gives o (slice_of bytes r) content → resolved_by o (slice_of bytes r) ≡ content
+    by None h = sym h
+    by (Some rule) h = content_is rule (chars (slice_of bytes r)) content h
 
-pub joined_is : (bytes : List ℕ) (rs : List Record) (content : List ℕ) → Each (λ r. fits (parts_of_record r) ≡ true) rs → Joined bytes rs content → flat_map (word_content bytes) (map word rs) ≡ content
-joined_is bytes [] content f j = sym j
-joined_is bytes (r ∷ rs) content f j = ap₂ (λ (a b : List ℕ). a ++ b) (word_is bytes r j.head f.0 j.first) (joined_is bytes rs j.tail f.1 j.rest) ∙ sym j.whole
-
-each_drop : (P : Record → Type 0) (n : ℕ) (rs : List Record) → Each P rs → Each P (drop n rs)
-each_drop P zero rs h = h
-each_drop P (suc n) [] h = h
-each_drop P (suc n) (r ∷ rs) h = each_drop P n rs h.1
-
-each_take : (P : Record → Type 0) (n : ℕ) (rs : List Record) → Each P rs → Each P (take n rs)
-each_take P zero rs h = tt
-each_take P (suc n) [] h = h
-each_take P (suc n) (r ∷ rs) h = (h.0, each_take P n rs h.1)
-
-map_take : (n : ℕ) (rs : List Record) → map word (take n rs) ≡ take n (map word rs)
-map_take zero rs = refl
-map_take (suc n) [] = refl
-map_take (suc n) (r ∷ rs) = ap (λ (l : List ℕ). word r ∷ l) (map_take n rs)
-
-map_drop : (n : ℕ) (rs : List Record) → map word (drop n rs) ≡ drop n (map word rs)
-map_drop zero rs = refl
-map_drop (suc n) [] = refl
-map_drop (suc n) (r ∷ rs) = map_drop n rs
+joined_is : (bytes : List ℕ) (rs : List Record) (content : List ℕ) → Joined bytes rs content → flat_map (record_content bytes) rs ≡ content
+joined_is bytes [] content j = sym j
+joined_is bytes (r ∷ rs) content j = ap₂ (λ (a b : List ℕ). a ++ b) (content_of bytes r j.head j.first) (joined_is bytes rs j.tail j.rest) ∙ sym j.whole
 
 -- what is left, where the words show records
-pub left_is : (bytes words : List ℕ) (rs : List Record) (rule : Rule) (text : List ℕ) (at past : ℕ) (content : List ℕ) → Shows words rs → IsLeft bytes rs rule text at past content → left_of bytes words rule text at past ≡ content
+pub left_is : (bytes words : List ℕ) (rs : List Record) (rule : Rule) (text : List ℕ) (at : ℕ) (end : RowEnd) (content : List ℕ) → Shows words rs → IsLeft bytes rs rule text at end content → left_of bytes words rule text at end ≡ content
 unfolding left_of
-left_is bytes words rs rule text at past content s h =
-    let part = take (past - at) (drop at rs) in
-    let fit : Each (λ r. fits (parts_of_record r) ≡ true) part = each_take (λ r. fits (parts_of_record r) ≡ true) (past - at) (drop at rs) (each_drop (λ r. fits (parts_of_record r) ≡ true) at rs s.fit) in
-    let same : take (past - at) (drop at words) ≡ map word part = ap (λ (l : List ℕ). take (past - at) (drop at l)) s.are ∙ ap (take (past - at)) (sym (map_drop at rs)) ∙ sym (map_take (past - at) (drop at rs)) in
-    ap₂ (λ (a b : List ℕ). a ++ b) (content_is rule (chars text) h.head h.first) (ap (flat_map (word_content bytes)) same ∙ joined_is bytes part h.tail fit h.rest) ∙ sym h.whole
+left_is bytes words rs rule text at end content s h =
+    let same : map record_of_word words ≡ rs = ap (map record_of_word) s.are ∙ words_records rs s.fit in
+    ap₂ (λ (a b : List ℕ). a ++ b) (content_is rule (chars text) h.head h.first) (ap (λ (l : List Record). flat_map (record_content bytes) (wholes (row at end l))) same ∙ joined_is bytes (wholes (row at end rs)) h.tail h.rest) ∙ sym h.whole

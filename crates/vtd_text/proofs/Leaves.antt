@@ -8,12 +8,15 @@ use Rattle.xml_model.specs.Items.{Piece, literal, entity, decimal, hexadecimal, 
 use Rattle.xml_model.specs.Records.{Record, plain, declares, attributes_records, attributes_place, tag_records, declaration_part_records, declaration_attributes, depth_at, leaf_records}
 use Rattle.xml_model.specs.Content.{text_content, value_content, literal_content, leaf_content}
 use Rattle.xml_model.specs.Scan.{is_text_token}
-use Rattle.xml_model.proofs.Each.{each_more}
+use Rattle.xml_model.specs.Wholes.{wholes}
+use Rattle.xml_model.proofs.Each.{each_more, each_append}
+use Rattle.xml_model.proofs.Wholes.{NoText, none_wholes}
+use Rattle.xml_model.proofs.TextPlaces.{parts_none, text_whole}
 use Rattle.xml_model.proofs.Starts.{ProperLeaf}
 use Rattle.vtd_text.specs.declared.token.Rule.{Rule}
 use Rattle.vtd_text.specs.declared.token.Rule.TheVariants.{Text, Literal, Value}
 use Rattle.vtd_text.specs.Tokens.{may_begin_at, content_by}
-use Rattle.vtd_text.specs.Joined.{rule_of, slice_of, Gives, Joined, IsText}
+use Rattle.vtd_text.specs.Joined.{rule_of, slice_of, Gives, Joined, IsText, Fine}
 use Rattle.vtd_text.specs.Resolved.{IsResolved}
 use Rattle.vtd_text.proofs.Holding.{HasNameRecord, slice_is, holds_left, holds_right, holds_middle}
 use Rattle.vtd_text.proofs.SliceLemmas.{slice_content}
@@ -145,27 +148,56 @@ text_resolved bytes depth at ps m s =
     let p = and_parts (not (is_nil (written_pieces ps)) && list_all (meets_piece (λ c. false)) ps) (lacks (codes "]]>") (written_pieces ps)) m in
     resolved_at bytes Text 5 depth at ps (and_parts (not (is_nil (written_pieces ps))) (list_all (meets_piece (λ c. false)) ps) p.0).1 s
 
-parts_silent : (depth at : ℕ) (others : List Attribute) → Each Silent (declaration_part_records depth at others)
-parts_silent depth at [] = tt
-parts_silent depth at (a ∷ others) = (refl, (refl, parts_silent depth (at + size (written_attribute a)) others))
+-- ---- records with their content, each of a text
 
--- the records of a leaf that an element holds
-pub leaf_joined : (bytes : List ℕ) (x : Leaf) (d at : ℕ) → meets_leaf x ≡ true → HasNameRecord bytes at (written_leaf x) → Joined bytes (leaf_records (suc d) at x) (leaf_content x)
-leaf_joined bytes (text ps) d at m s = one_joined bytes Text _ (text_content ps) refl (text_resolved bytes d at ps m s)
-leaf_joined bytes (cdata cs) d at m s = one_joined bytes Literal _ (literal_content cs) refl (literal_at bytes 11 d (at + 9) cs (cdata_holds bytes at cs s))
-leaf_joined bytes (Leaf.comment cs) d at m s = silent_joined bytes (leaf_records (suc d) at (Leaf.comment cs)) (refl, tt)
-leaf_joined bytes (Leaf.instruction i) d at m s = silent_joined bytes (leaf_records (suc d) at (Leaf.instruction i)) (refl, (refl, tt))
-leaf_joined bytes (declaration v) d at m s = silent_joined bytes (leaf_records (suc d) at (declaration v)) (parts_silent d (at + 5) (declaration_attributes v))
-leaf_joined bytes (doctype v) d at m s = silent_joined bytes (leaf_records (suc d) at (doctype v)) (refl, tt)
+pub record Told (bytes : List ℕ) (rs : List Record) (content : List ℕ) : Type 0 where
+  pub joined : Joined bytes rs content
+  pub fine : Each (Fine bytes) rs
+
+pub told_append : (bytes : List ℕ) (rs ss : List Record) (a b : List ℕ) → Told bytes rs a → Told bytes ss b → Told bytes (rs ++ ss) (a ++ b)
+told_append bytes rs ss a b h k = record { joined = joined_append bytes rs ss a b h.joined k.joined; fine = each_append (Fine bytes) rs ss h.fine k.fine }
+
+no_rule : (n : ℕ) → is_text_token n ≡ false → rule_of n ≡ None
+no_rule n = by (n == 5) (n == 11)
+  where
+    by : (a b : Bool) → (a || b) ≡ false → ◌≡◌ {A = Option Rule} (cond a (Some Text) (cond b (Some Literal) None)) None
+    by true b h = absurd (false≢true (sym h))
+    by false true h = absurd (false≢true (sym h))
+    by false false h = refl
+
+-- of no text
+pub told_none : (bytes : List ℕ) (rs : List Record) → Each NoText rs → Told bytes rs []
+told_none bytes rs h = record {
+  joined = silent_joined bytes rs (each_more NoText Silent (λ r n. no_rule r.token n) rs h);
+  fine = each_more NoText (Fine bytes) (λ r n t. absurd (false≢true (sym n ∙ t))) rs h;
+}
+
+pub told_wholes : (bytes : List ℕ) (rs : List Record) → Each NoText rs → Told bytes (wholes rs) []
+told_wholes bytes rs h = subst (λ (xs : List Record). Told bytes xs []) (sym (none_wholes rs h)) (told_none bytes rs h)
+
+-- one token
+told_one : (bytes : List ℕ) (rule : Rule) (r : Record) (content : List ℕ) → rule_of r.token ≡ Some rule → IsResolved bytes rule r content → Told bytes (r ∷ []) content
+told_one bytes rule r content e k = record { joined = one_joined bytes rule r content e k; fine = (λ t. k.text, tt) }
+
+-- the tokens of a leaf that an element holds
+pub leaf_told : (bytes : List ℕ) (x : Leaf) (d at : ℕ) → meets_leaf x ≡ true → HasNameRecord bytes at (written_leaf x) → Told bytes (wholes (leaf_records (suc d) at x)) (leaf_content x)
+leaf_told bytes (text ps) d at m s =
+    subst (λ (rs : List Record). Told bytes rs (text_content ps)) (sym (text_whole d at (text ps) refl)) (told_one bytes Text _ (text_content ps) refl (text_resolved bytes d at ps m s))
+leaf_told bytes (cdata cs) d at m s =
+    subst (λ (rs : List Record). Told bytes rs (literal_content cs)) (sym (text_whole d at (cdata cs) refl)) (told_one bytes Literal _ (literal_content cs) refl (literal_at bytes 11 d (at + 9) cs (cdata_holds bytes at cs s)))
+leaf_told bytes (Leaf.comment cs) d at m s = told_wholes bytes (leaf_records (suc d) at (Leaf.comment cs)) (refl, tt)
+leaf_told bytes (Leaf.instruction i) d at m s = told_wholes bytes (leaf_records (suc d) at (Leaf.instruction i)) (refl, (refl, tt))
+leaf_told bytes (declaration v) d at m s = told_wholes bytes (leaf_records (suc d) at (declaration v)) (parts_none (declaration_attributes v) d (at + 5))
+leaf_told bytes (doctype v) d at m s = told_wholes bytes (leaf_records (suc d) at (doctype v)) (refl, tt)
 
 -- and of one outside the root element
-pub outside_joined : (bytes : List ℕ) (x : Leaf) (at : ℕ) → ProperLeaf 0 x → Joined bytes (leaf_records 0 at x) []
-outside_joined bytes (text ps) at p = refl
-outside_joined bytes (cdata cs) at p = absurd p
-outside_joined bytes (Leaf.comment cs) at p = silent_joined bytes (leaf_records 0 at (Leaf.comment cs)) (refl, tt)
-outside_joined bytes (Leaf.instruction i) at p = silent_joined bytes (leaf_records 0 at (Leaf.instruction i)) (refl, (refl, tt))
-outside_joined bytes (declaration v) at p = silent_joined bytes (leaf_records 0 at (declaration v)) (parts_silent 255 (at + 5) (declaration_attributes v))
-outside_joined bytes (doctype v) at p = silent_joined bytes (leaf_records 0 at (doctype v)) (refl, tt)
+pub outside_told : (bytes : List ℕ) (x : Leaf) (at : ℕ) → ProperLeaf 0 x → Told bytes (wholes (leaf_records 0 at x)) []
+outside_told bytes (text ps) at p = told_wholes bytes [] tt
+outside_told bytes (cdata cs) at p = absurd p
+outside_told bytes (Leaf.comment cs) at p = told_wholes bytes (leaf_records 0 at (Leaf.comment cs)) (refl, tt)
+outside_told bytes (Leaf.instruction i) at p = told_wholes bytes (leaf_records 0 at (Leaf.instruction i)) (refl, (refl, tt))
+outside_told bytes (declaration v) at p = told_wholes bytes (leaf_records 0 at (declaration v)) (parts_none (declaration_attributes v) 255 (at + 5))
+outside_told bytes (doctype v) at p = told_wholes bytes (leaf_records 0 at (doctype v)) (refl, tt)
 
 pub comment_resolved : (bytes : List ℕ) (depth at : ℕ) (cs : List ℕ) → HasNameRecord bytes at (written_leaf (Leaf.comment cs)) →
     IsResolved bytes Literal (plain 6 depth cs (at + 4)) (literal_content cs) × WrittenIs bytes (plain 6 depth cs (at + 4)) cs
@@ -234,43 +266,3 @@ tag_values bytes depth at t m s =
   where
     four : (a b c d : List ℕ) → a ++ b ++ c ++ d ≡ a ++ (b ++ (c ++ d))
     four a b c d = simp append_assoc
-
-attributes_silent : (depth at : ℕ) (others : List Attribute) → Each Silent (attributes_records depth at others)
-attributes_silent depth at [] = tt
-attributes_silent depth at (a ∷ others) = (name_silent (declares a.name), (refl, attributes_silent depth (at + size (written_attribute a)) others))
-  where
-    name_silent : (b : Bool) → rule_of (cond b 3 2) ≡ None
-    name_silent true = refl
-    name_silent false = refl
-
-pub tag_silent : (l at : ℕ) (t : Tag) → Each Silent (tag_records l at t)
-tag_silent l at t = (refl, attributes_silent l (attributes_place at t) t.attributes)
-
--- ---- which records are of texts
-
--- a record, if it is of a text or a CDATA section, is of bytes that are a text
-abbrev pub Fine : List ℕ → Record → Type 0
-Fine bytes r = is_text_token r.token ≡ true → IsText bytes r
-
-silent_text : (bytes : List ℕ) (r : Record) → Silent r → Fine bytes r
-silent_text bytes r h t = absurd (no r.token h t)
-  where
-    by : (a b : Bool) → ◌≡◌ {A = Option Rule} (cond a (Some Text) (cond b (Some Literal) None)) None → (a || b) ≡ true → ⊥
-    by true b e k = let n : ◌≡◌ {A = Option Rule} (Some Text) None = e in cc
-    by false true e k = let n : ◌≡◌ {A = Option Rule} (Some Literal) None = e in cc
-    by false false e k = false≢true k
-
-    no : (n : ℕ) → rule_of n ≡ None → is_text_token n ≡ true → ⊥
-    no n = by (n == 5) (n == 11)
-
-pub silent_fine : (bytes : List ℕ) (rs : List Record) → Each Silent rs → Each (Fine bytes) rs
-silent_fine bytes rs h = each_more Silent (Fine bytes) (silent_text bytes) rs h
-
-pub leaf_fine : (bytes : List ℕ) (x : Leaf) (l at : ℕ) → meets_leaf x ≡ true → HasNameRecord bytes at (written_leaf x) → Each (Fine bytes) (leaf_records l at x)
-leaf_fine bytes (text ps) zero at m s = tt
-leaf_fine bytes (text ps) (suc d) at m s = (λ _. (text_resolved bytes d at ps m s).text, tt)
-leaf_fine bytes (cdata cs) l at m s = (λ _. (literal_at bytes 11 (depth_at l) (at + 9) cs (cdata_holds bytes at cs s)).text, tt)
-leaf_fine bytes (Leaf.comment cs) l at m s = silent_fine bytes (leaf_records l at (Leaf.comment cs)) (refl, tt)
-leaf_fine bytes (Leaf.instruction i) l at m s = silent_fine bytes (leaf_records l at (Leaf.instruction i)) (refl, (refl, tt))
-leaf_fine bytes (declaration v) l at m s = silent_fine bytes (leaf_records l at (declaration v)) (parts_silent (depth_at l) (at + 5) (declaration_attributes v))
-leaf_fine bytes (doctype v) l at m s = silent_fine bytes (leaf_records l at (doctype v)) (refl, tt)

@@ -4,13 +4,14 @@ use Rattle.std.specs.Prelude.{slice_get}
 use Rattle.std.specs.List.{AllByRecursion as Each, Contains, cons_option}
 use Rattle.std.proofs.lemmas.Bool.{false≢true}
 use Rattle.xml_model.specs.Chars.{size}
-use Rattle.xml_model.specs.Items.{Attribute, Tag, Leaf, first_place, written_attribute}
+use Rattle.xml_model.specs.Items.{Attribute, Tag, Leaf, first_place, written_attribute, written_pieces}
 use Rattle.xml_model.specs.Nest.{Forest, done, single, empty, element}
 use Rattle.xml_model.specs.Records.{Record, named, records, attributes_records, attributes_place, tag_records, leaf_records, forest_records, declaration_part_records, declaration_attributes, depth_at, past_leaf, past_empty, past_start, past_element, name_token}
 use Rattle.xml_model.specs.Tree.{Thing, Entry, Here, child, under, leaf_node, after_leaf, inside_of, after_element, element_entry, tag_attributes, nodes, at_first, root_entry, all}
 use Rattle.xml_model.specs.Scan.{record_at}
 use Rattle.xml_model.specs.Content.{value_content}
 use Rattle.xml_model.specs.Laws.{HasRecords, records_of}
+use Rattle.xml_model.proofs.Cuts.{each_cut}
 use Rattle.xml_model.proofs.Each.{each_at, contains_here, contains_next, contains_map}
 use Rattle.xml_model.proofs.NodeLaws.{records_of_node}
 use Rattle.vtd_words.specs.Lists.{Lists}
@@ -190,8 +191,8 @@ parts_other depth at (a ∷ others) = (refl, (refl, parts_other depth (at + size
 
 leaf_other : (x : Leaf) (l at : ℕ) → Each Other (leaf_records l at x)
 leaf_other (Leaf.text ps) zero at = tt
-leaf_other (Leaf.text ps) (suc d) at = (refl, tt)
-leaf_other (Leaf.cdata cs) l at = (refl, tt)
+leaf_other (Leaf.text ps) (suc d) at = each_cut Other 5 d at (size (written_pieces ps)) (λ m o i. refl)
+leaf_other (Leaf.cdata cs) l at = each_cut Other 11 (depth_at l) (at + 9) (size cs) (λ m o i. refl)
 leaf_other (Leaf.comment cs) l at = (refl, tt)
 leaf_other (Leaf.instruction i) l at = (refl, (refl, tt))
 leaf_other (Leaf.declaration v) l at = parts_other (depth_at l) (at + 5) (declaration_attributes v)

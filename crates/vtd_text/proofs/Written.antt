@@ -1,12 +1,12 @@
 -- The pieces of a nest where they are in the bytes, and what the nodes' records say.
-use Rattle.std.proofs.Common.{◌≡◌, ℕ, suc, ◌+◌, Bool, true, not, ◌==◌, List, [], ◌∷◌, ◌++◌, length, map, refl, sym, ap, ◌∙◌, append_assoc, append-nil, IfSome}
+use Rattle.std.proofs.Common.{subst, ◌≡◌, ℕ, suc, ◌+◌, Bool, true, not, ◌==◌, List, [], ◌∷◌, ◌++◌, length, map, refl, sym, ap, ◌∙◌, append_assoc, append-nil, IfSome}
 use Rattle.std.specs.List.{AllByRecursion as Each, flat_map}
 use Rattle.std.specs.Str.{IsUtf8}
 use Rattle.std.proofs.lemmas.Bool.{and_parts, false≢true}
 use Rattle.xml_model.specs.Chars.{size}
 use Rattle.xml_model.specs.Items.{Attribute, Tag, Leaf, Item, leaf, start_tag, empty_tag, end_tag, meets, meets_leaf, meets_tag, written, written_leaf, written_tag, written_pieces, written_attribute, before_value, spelling, begins_at, walk, walk_from, walk_to_end, end_of_items, first_place}
 use Rattle.xml_model.specs.Nest.{Forest, done, single, empty, element, flat}
-use Rattle.xml_model.specs.Records.{declares, plain, document, records, attributes_place, depth_at, leaf_records, run_records, tag_records, forest_records, past_leaf, past_empty, past_start, past_element, past_forest}
+use Rattle.xml_model.specs.Records.{Record, declares, plain, document, attributes_records, attributes_place, depth_at, run_records, tag_records, forest_records, past_leaf, past_empty, past_start, past_element, past_forest}
 use Rattle.xml_model.specs.Tree.{Thing, Entry, child, Holder, Here, under, attributes, attribute_entry, tag_attributes, element_entry, leaf_node, text_node, begins_run, run, after_leaf, inside_of, after_element, nodes, at_first, all, one_if}
 use Rattle.xml_model.specs.Content.{value_content, literal_content, leaf_content, inner_content, top_content}
 use Rattle.xml_model.specs.Accepted.{IsDocument}
@@ -14,11 +14,14 @@ use Rattle.xml_model.specs.Laws.{records_of}
 use Rattle.xml_model.proofs.Each.{each_append, each_map, each_option, if_some_cond, if_some_second}
 use Rattle.xml_model.proofs.Starts.{Proper}
 use Rattle.xml_model.proofs.Proper.{document_proper}
+use Rattle.xml_model.specs.Wholes.{wholes, run_wholes}
+use Rattle.xml_model.proofs.TextsApart.{Separate, document_separate}
+use Rattle.xml_model.proofs.Wholes.{silent_wholes}
+use Rattle.xml_model.proofs.TextPlaces.{attributes_none, tag_none, single_wholes, empty_wholes, element_wholes, run_whole, run_are}
 use Rattle.vtd_text.specs.declared.token.Rule.TheVariants.{Literal, Value}
-use Rattle.vtd_text.specs.Joined.{Joined}
 use Rattle.vtd_text.specs.Resolved.{IsResolved}
 use Rattle.vtd_text.proofs.Holding.{HasNameRecord, ItemHolds, item_holds, holds_left, holds_past, first_holds}
-use Rattle.vtd_text.proofs.Leaves.{WrittenIs, LeafIs, text_is, cdata_is, ValuesAre, Fine, joined_append, silent_joined, leaf_joined, outside_joined, comment_resolved, instruction_resolved, tag_values, tag_silent, silent_fine, leaf_fine}
+use Rattle.vtd_text.proofs.Leaves.{WrittenIs, LeafIs, text_is, cdata_is, ValuesAre, Told, told_append, told_none, leaf_told, outside_told, comment_resolved, instruction_resolved, tag_values}
 
 -- a tag that is at a place
 pub record IsTagRecord (bytes : List ℕ) (at : ℕ) (t : Tag) : Type 0 where
@@ -101,43 +104,52 @@ written_nest bytes nest u d =
 
 -- ---- the content of lists of pieces
 
-tag_joined : (bytes : List ℕ) (l at : ℕ) (t : Tag) → Joined bytes (tag_records l at t) []
-tag_joined bytes l at t = silent_joined bytes (tag_records l at t) (tag_silent l at t)
+forest_told : (bytes : List ℕ) (f : Forest) (d at : ℕ) → Written bytes at f → Separate f → Told bytes (wholes (forest_records (suc d) at f)) (inner_content f)
+forest_told bytes done d at w s = told_none bytes [] tt
+forest_told bytes (single x f) d at w s =
+    subst (λ (rs : List Record). Told bytes rs (inner_content (single x f))) (sym (single_wholes x f (suc d) at s))
+    (told_append bytes _ _ (leaf_content x) (inner_content f) (leaf_told bytes x d at w.0.meet w.0.holds) (forest_told bytes f d (past_leaf at x) w.1 s.1))
+forest_told bytes (empty t f) d at w s =
+    subst (λ (rs : List Record). Told bytes rs (inner_content f)) (sym (empty_wholes t f (suc d) at))
+    (told_append bytes (tag_records (suc d) at t) _ [] (inner_content f) (told_none bytes _ (tag_none (suc d) at t)) (forest_told bytes f d (past_empty at t) w.1 s))
+forest_told bytes (element t inside space f) d at w s =
+    subst (λ (rs : List Record). Told bytes rs (inner_content inside ++ inner_content f)) (sym (element_wholes t inside space f (suc d) at))
+    (told_append bytes _ _ (inner_content inside) (inner_content f)
+    (told_append bytes (tag_records (suc d) at t) _ [] (inner_content inside) (told_none bytes _ (tag_none (suc d) at t)) (forest_told bytes inside (suc d) (past_start at t) w.1 s.0))
+    (forest_told bytes f d (past_element at t inside space) w.2 s.1))
 
-pub forest_joined : (bytes : List ℕ) (f : Forest) (d at : ℕ) → Written bytes at f → Joined bytes (forest_records (suc d) at f) (inner_content f)
-forest_joined bytes done d at w = refl
-forest_joined bytes (single x f) d at w = joined_append bytes (leaf_records (suc d) at x) _ (leaf_content x) _ (leaf_joined bytes x d at w.0.meet w.0.holds) (forest_joined bytes f d (past_leaf at x) w.1)
-forest_joined bytes (empty t f) d at w = joined_append bytes (tag_records (suc d) at t) _ [] _ (tag_joined bytes (suc d) at t) (forest_joined bytes f d (past_empty at t) w.1)
-forest_joined bytes (element t inside space f) d at w =
-    joined_append bytes (tag_records (suc d) at t ++ forest_records (suc (suc d)) (past_start at t) inside) _ (inner_content inside) _
-    (joined_append bytes (tag_records (suc d) at t) _ [] _ (tag_joined bytes (suc d) at t) (forest_joined bytes inside (suc d) (past_start at t) w.1))
-    (forest_joined bytes f d (past_element at t inside space) w.2)
-
-pub top_joined : (bytes : List ℕ) (f : Forest) (at : ℕ) → Proper 0 f → Written bytes at f → Joined bytes (forest_records 0 at f) (top_content f)
-top_joined bytes done at p w = refl
-top_joined bytes (single x f) at p w = joined_append bytes (leaf_records 0 at x) _ [] _ (outside_joined bytes x at p.0) (top_joined bytes f (past_leaf at x) p.1 w.1)
-top_joined bytes (empty t f) at p w = joined_append bytes (tag_records 0 at t) _ [] _ (tag_joined bytes 0 at t) (top_joined bytes f (past_empty at t) p w.1)
-top_joined bytes (element t inside space f) at p w =
-    joined_append bytes (tag_records 0 at t ++ forest_records 1 (past_start at t) inside) _ (inner_content inside) _
-    (joined_append bytes (tag_records 0 at t) _ [] _ (tag_joined bytes 0 at t) (forest_joined bytes inside 0 (past_start at t) w.1))
-    (top_joined bytes f (past_element at t inside space) p.1 w.2)
+top_told : (bytes : List ℕ) (f : Forest) (at : ℕ) → Proper 0 f → Written bytes at f → Separate f → Told bytes (wholes (forest_records 0 at f)) (top_content f)
+top_told bytes done at p w s = told_none bytes [] tt
+top_told bytes (single x f) at p w s =
+    subst (λ (rs : List Record). Told bytes rs (top_content f)) (sym (single_wholes x f 0 at s))
+    (told_append bytes _ _ [] (top_content f) (outside_told bytes x at p.0) (top_told bytes f (past_leaf at x) p.1 w.1 s.1))
+top_told bytes (empty t f) at p w s =
+    subst (λ (rs : List Record). Told bytes rs (top_content f)) (sym (empty_wholes t f 0 at))
+    (told_append bytes (tag_records 0 at t) _ [] (top_content f) (told_none bytes _ (tag_none 0 at t)) (top_told bytes f (past_empty at t) p w.1 s))
+top_told bytes (element t inside space f) at p w s =
+    subst (λ (rs : List Record). Told bytes rs (inner_content inside ++ top_content f)) (sym (element_wholes t inside space f 0 at))
+    (told_append bytes _ _ (inner_content inside) (top_content f)
+    (told_append bytes (tag_records 0 at t) _ [] (inner_content inside) (told_none bytes _ (tag_none 0 at t)) (forest_told bytes inside 0 (past_start at t) w.1 s.0))
+    (top_told bytes f (past_element at t inside space) p.1 w.2 s.1))
 
 -- one leaf more before a run
-more : (bytes : List ℕ) (x : Leaf) (f : Forest) (d at : ℕ) → Written bytes at (single x f) → Joined bytes (run_records (suc d) (past_leaf at x) (run f)) (flat_map leaf_content (run f)) →
-    Joined bytes (run_records (suc d) at (x ∷ run f)) (flat_map leaf_content (x ∷ run f))
-more bytes x f d at w k = joined_append bytes (leaf_records (suc d) at x) _ (leaf_content x) _ (leaf_joined bytes x d at w.0.meet w.0.holds) k
+more : (bytes : List ℕ) (x : Leaf) (f : Forest) (d at : ℕ) → Written bytes at (single x f) → Separate (single x f) → Told bytes (wholes (run_records (suc d) (past_leaf at x) (run f))) (flat_map leaf_content (run f)) →
+    Told bytes (wholes (run_records (suc d) at (x ∷ run f))) (flat_map leaf_content (x ∷ run f))
+more bytes x f d at w s k =
+    subst (λ (rs : List Record). Told bytes rs (flat_map leaf_content (x ∷ run f))) (sym (run_whole x f (suc d) at s))
+    (told_append bytes _ _ (leaf_content x) (flat_map leaf_content (run f)) (leaf_told bytes x d at w.0.meet w.0.holds) k)
 
 -- the texts and CDATA sections that a list of pieces begins with
-run_joined : (bytes : List ℕ) (f : Forest) (d at : ℕ) → Written bytes at f → Joined bytes (run_records (suc d) at (run f)) (flat_map leaf_content (run f))
-run_joined bytes done d at w = refl
-run_joined bytes (empty t f) d at w = refl
-run_joined bytes (element t inside space f) d at w = refl
-run_joined bytes (single (Leaf.text ps) f) d at w = more bytes (Leaf.text ps) f d at w (run_joined bytes f d (past_leaf at (Leaf.text ps)) w.1)
-run_joined bytes (single (Leaf.cdata cs) f) d at w = more bytes (Leaf.cdata cs) f d at w (run_joined bytes f d (past_leaf at (Leaf.cdata cs)) w.1)
-run_joined bytes (single (Leaf.comment cs) f) d at w = refl
-run_joined bytes (single (Leaf.instruction i) f) d at w = refl
-run_joined bytes (single (Leaf.declaration v) f) d at w = refl
-run_joined bytes (single (Leaf.doctype v) f) d at w = refl
+run_told : (bytes : List ℕ) (f : Forest) (d at : ℕ) → Written bytes at f → Separate f → Told bytes (wholes (run_records (suc d) at (run f))) (flat_map leaf_content (run f))
+run_told bytes done d at w s = told_none bytes [] tt
+run_told bytes (empty t f) d at w s = told_none bytes [] tt
+run_told bytes (element t inside space f) d at w s = told_none bytes [] tt
+run_told bytes (single (Leaf.text ps) f) d at w s = more bytes (Leaf.text ps) f d at w s (run_told bytes f d (past_leaf at (Leaf.text ps)) w.1 s.1)
+run_told bytes (single (Leaf.cdata cs) f) d at w s = more bytes (Leaf.cdata cs) f d at w s (run_told bytes f d (past_leaf at (Leaf.cdata cs)) w.1 s.1)
+run_told bytes (single (Leaf.comment cs) f) d at w s = told_none bytes [] tt
+run_told bytes (single (Leaf.instruction i) f) d at w s = told_none bytes [] tt
+run_told bytes (single (Leaf.declaration v) f) d at w s = told_none bytes [] tt
+run_told bytes (single (Leaf.doctype v) f) d at w s = told_none bytes [] tt
 
 -- ---- what the records of each node say
 
@@ -146,28 +158,32 @@ abbrev pub FirstIs : List ℕ → ℕ → ℕ → List Leaf → Type 0
 FirstIs bytes l at [] = ⊥
 FirstIs bytes l at (x ∷ xs) = LeafIs bytes l at x
 
--- texts and CDATA sections have a record each
+-- texts and CDATA sections have a token each
 abbrev pub RunIs : List ℕ → ℕ → ℕ → List Leaf → Type 0
-RunIs bytes l at xs = (length (run_records l at xs) ≡ length xs) × FirstIs bytes l at xs
+RunIs bytes l at xs = (wholes (run_records l at xs) ≡ run_wholes l at xs) × ((length (run_wholes l at xs) ≡ length xs) × FirstIs bytes l at xs)
 
-run_length : (f : Forest) (d at : ℕ) → length (run_records (suc d) at (run f)) ≡ length (run f)
-run_length done d at = refl
-run_length (empty t f) d at = refl
-run_length (element t inside space f) d at = refl
-run_length (single (Leaf.text ps) f) d at = ap suc (run_length f d (past_leaf at (Leaf.text ps)))
-run_length (single (Leaf.cdata cs) f) d at = ap suc (run_length f d (past_leaf at (Leaf.cdata cs)))
-run_length (single (Leaf.comment cs) f) d at = refl
-run_length (single (Leaf.instruction i) f) d at = refl
-run_length (single (Leaf.declaration v) f) d at = refl
-run_length (single (Leaf.doctype v) f) d at = refl
+run_length : (f : Forest) (l at : ℕ) → length (run_wholes l at (run f)) ≡ length (run f)
+run_length done l at = refl
+run_length (empty t f) l at = refl
+run_length (element t inside space f) l at = refl
+run_length (single (Leaf.text ps) f) l at = ap suc (run_length f l (past_leaf at (Leaf.text ps)))
+run_length (single (Leaf.cdata cs) f) l at = ap suc (run_length f l (past_leaf at (Leaf.cdata cs)))
+run_length (single (Leaf.comment cs) f) l at = refl
+run_length (single (Leaf.instruction i) f) l at = refl
+run_length (single (Leaf.declaration v) f) l at = refl
+run_length (single (Leaf.doctype v) f) l at = refl
+
+-- the records of an element but for the first, which is its tag's own
+abbrev pub inside_records : ℕ → ℕ → Tag → Forest → List Record
+inside_records l at t inside = attributes_records l (attributes_place at t) t.attributes ++ forest_records (suc l) (past_start at t) inside
 
 -- the content of what is at a level and at a place
 abbrev pub SaysOf : List ℕ → Thing → ℕ → ℕ → Type 0
-SaysOf bytes (Thing.root first f) l at = Joined bytes (records_of (Thing.root first f) l at) (top_content f)
-SaysOf bytes (Thing.element t inside) l at = Joined bytes (records_of (Thing.element t inside) l at) (inner_content inside) × ValuesAre bytes l (attributes_place at t) t.attributes
+SaysOf bytes (Thing.root first f) l at = Told bytes (wholes (records_of (Thing.root first f) l at)) (top_content f)
+SaysOf bytes (Thing.element t inside) l at = Told bytes (wholes (inside_records l at t inside)) (inner_content inside) × ValuesAre bytes l (attributes_place at t) t.attributes
 SaysOf bytes (Thing.attribute a) l at =
     IsResolved bytes Value (plain 4 (depth_at l) (written_pieces a.value) (at + size (before_value a))) (value_content a.value) × WrittenIs bytes (plain 4 (depth_at l) (written_pieces a.value) (at + size (before_value a))) (written_pieces a.value)
-SaysOf bytes (Thing.text xs) l at = Joined bytes (run_records l at xs) (flat_map leaf_content xs) × RunIs bytes l at xs
+SaysOf bytes (Thing.text xs) l at = Told bytes (wholes (run_records l at xs)) (flat_map leaf_content xs) × RunIs bytes l at xs
 SaysOf bytes (Thing.comment cs) l at = IsResolved bytes Literal (plain 6 (depth_at l) cs (at + 4)) (literal_content cs) × WrittenIs bytes (plain 6 (depth_at l) cs (at + 4)) cs
 SaysOf bytes (Thing.instruction i) l at =
     IsResolved bytes Literal (plain 8 (depth_at l) i.content (at + 2 + size i.target + size i.space)) (literal_content i.content) × WrittenIs bytes (plain 8 (depth_at l) i.content (at + 2 + size i.target + size i.space)) i.content
@@ -175,20 +191,20 @@ SaysOf bytes (Thing.instruction i) l at =
 abbrev pub Says : List ℕ → Entry → Type 0
 Says bytes e = SaysOf bytes e.what (length e.holders) e.start
 
-text_says : (bytes : List ℕ) (holders : List Holder) (at index number : ℕ) (joins : Bool) (xs : List Leaf) → ((d : ℕ) → length holders ≡ suc d → Joined bytes (run_records (suc d) at xs) (flat_map leaf_content xs) × RunIs bytes (suc d) at xs) →
+text_says : (bytes : List ℕ) (holders : List Holder) (at index number : ℕ) (joins : Bool) (xs : List Leaf) → ((d : ℕ) → length holders ≡ suc d → Told bytes (wholes (run_records (suc d) at xs)) (flat_map leaf_content xs) × RunIs bytes (suc d) at xs) →
     IfSome (text_node (record { holders = holders; at = at; index = index; number = number; joins = joins }) xs) (Says bytes)
 text_says bytes [] at index number joins xs k = tt
 text_says bytes (t ∷ hs) at index number joins xs k = if_some_cond (Says bytes) (begins_run (t ∷ hs) joins xs) _ (k (length hs) refl)
 
-leaf_says : (bytes : List ℕ) (h : Here) (x : Leaf) (f : Forest) → Written bytes h.at (single x f) → IfSome (leaf_node h x f) (Says bytes)
-leaf_says bytes h (Leaf.text ps) f w =
-    text_says bytes h.holders h.at h.index h.number h.joins (Leaf.text ps ∷ run f) (λ d e. (run_joined bytes (single (Leaf.text ps) f) d h.at w, (run_length (single (Leaf.text ps) f) d h.at, text_is bytes ps (suc d) h.at w.0.holds)))
-leaf_says bytes h (Leaf.cdata cs) f w =
-    text_says bytes h.holders h.at h.index h.number h.joins (Leaf.cdata cs ∷ run f) (λ d e. (run_joined bytes (single (Leaf.cdata cs) f) d h.at w, (run_length (single (Leaf.cdata cs) f) d h.at, cdata_is bytes cs (suc d) h.at w.0.holds)))
-leaf_says bytes h (Leaf.comment cs) f w = comment_resolved bytes (depth_at (length h.holders)) h.at cs w.0.holds
-leaf_says bytes h (Leaf.instruction i) f w = instruction_resolved bytes (depth_at (length h.holders)) h.at i w.0.holds
-leaf_says bytes h (Leaf.declaration v) f w = tt
-leaf_says bytes h (Leaf.doctype v) f w = tt
+leaf_says : (bytes : List ℕ) (h : Here) (x : Leaf) (f : Forest) → Written bytes h.at (single x f) → Separate (single x f) → IfSome (leaf_node h x f) (Says bytes)
+leaf_says bytes h (Leaf.text ps) f w s =
+    text_says bytes h.holders h.at h.index h.number h.joins (Leaf.text ps ∷ run f) (λ d e. (run_told bytes (single (Leaf.text ps) f) d h.at w s, (run_are (single (Leaf.text ps) f) d h.at s, (run_length (single (Leaf.text ps) f) (suc d) h.at, text_is bytes ps (suc d) h.at w.0.holds))))
+leaf_says bytes h (Leaf.cdata cs) f w s =
+    text_says bytes h.holders h.at h.index h.number h.joins (Leaf.cdata cs ∷ run f) (λ d e. (run_told bytes (single (Leaf.cdata cs) f) d h.at w s, (run_are (single (Leaf.cdata cs) f) d h.at s, (run_length (single (Leaf.cdata cs) f) (suc d) h.at, cdata_is bytes cs (suc d) h.at w.0.holds))))
+leaf_says bytes h (Leaf.comment cs) f w s = comment_resolved bytes (depth_at (length h.holders)) h.at cs w.0.holds
+leaf_says bytes h (Leaf.instruction i) f w s = instruction_resolved bytes (depth_at (length h.holders)) h.at i w.0.holds
+leaf_says bytes h (Leaf.declaration v) f w s = tt
+leaf_says bytes h (Leaf.doctype v) f w s = tt
 
 attributes_say : (bytes : List ℕ) (x : Holder) (hs : List Holder) (at index i : ℕ) (others : List Attribute) → ValuesAre bytes (length hs) at others → Each (Says bytes) (attributes (x ∷ hs) at index i others)
 attributes_say bytes x hs at index i [] v = tt
@@ -197,50 +213,43 @@ attributes_say bytes x hs at index i (a ∷ others) v =
     (attributes_say bytes x hs (at + size (written_attribute a)) (index + 2) (i + one_if (not (declares a.name))) others v.1)
 
 -- the records of an element, from those of what is in it
-element_joined : (bytes : List ℕ) (l at : ℕ) (t : Tag) (inside : Forest) → Joined bytes (forest_records (suc l) (past_start at t) inside) (inner_content inside) → Joined bytes (records_of (Thing.element t inside) l at) (inner_content inside)
-element_joined bytes l at t inside k = joined_append bytes (tag_records l at t) _ [] _ (tag_joined bytes l at t) k
+element_told : (bytes : List ℕ) (l at : ℕ) (t : Tag) (inside : Forest) → Told bytes (wholes (forest_records (suc l) (past_start at t) inside)) (inner_content inside) → Told bytes (wholes (inside_records l at t inside)) (inner_content inside)
+element_told bytes l at t inside k =
+    let own = attributes_records l (attributes_place at t) t.attributes in
+    let none = attributes_none t.attributes l (attributes_place at t) in
+    subst (λ (rs : List Record). Told bytes rs (inner_content inside)) (sym (silent_wholes own (forest_records (suc l) (past_start at t) inside) none))
+    (told_append bytes own _ [] (inner_content inside) (told_none bytes own none) k)
 
-pub nodes_say : (bytes : List ℕ) (f : Forest) (h : Here) → Written bytes h.at f → Each (Says bytes) (nodes h f)
-nodes_say bytes done h w = tt
-nodes_say bytes (single x f) h w = each_option (Says bytes) (leaf_node h x f) (nodes (after_leaf h x f) f) (leaf_says bytes h x f w) (nodes_say bytes f (after_leaf h x f) w.1)
-nodes_say bytes (empty t f) h w =
+pub nodes_say : (bytes : List ℕ) (f : Forest) (h : Here) → Written bytes h.at f → Separate f → Each (Says bytes) (nodes h f)
+nodes_say bytes done h w s = tt
+nodes_say bytes (single x f) h w s = each_option (Says bytes) (leaf_node h x f) (nodes (after_leaf h x f) f) (leaf_says bytes h x f w s) (nodes_say bytes f (after_leaf h x f) w.1 s.1)
+nodes_say bytes (empty t f) h w s =
     let l = length h.holders in
     let v = tag_values bytes l h.at t w.0.meet w.0.holds in
     let own : Each (Says bytes) (element_entry h t done (past_empty h.at t) ∷ tag_attributes h t) =
-    ((element_joined bytes l h.at t done (silent_joined bytes [] tt), v), attributes_say bytes (record { tag = t; index = h.index }) h.holders (attributes_place h.at t) (suc h.index) 0 t.attributes v) in
+    ((element_told bytes l h.at t done (told_none bytes [] tt), v), attributes_say bytes (record { tag = t; index = h.index }) h.holders (attributes_place h.at t) (suc h.index) 0 t.attributes v) in
     each_append (Says bytes) (map (under (child h.number)) (element_entry h t done (past_empty h.at t) ∷ tag_attributes h t)) _
     (each_map (Says bytes) (under (child h.number)) (element_entry h t done (past_empty h.at t) ∷ tag_attributes h t) own)
-    (nodes_say bytes f (after_element h t done (past_empty h.at t)) w.1)
-nodes_say bytes (element t inside space f) h w =
+    (nodes_say bytes f (after_element h t done (past_empty h.at t)) w.1 s)
+nodes_say bytes (element t inside space f) h w s =
     let l = length h.holders in
     let past = past_element h.at t inside space in
     let v = tag_values bytes l h.at t w.0.meet w.0.holds in
     let own : Each (Says bytes) (element_entry h t inside past ∷ tag_attributes h t) =
-    ((element_joined bytes l h.at t inside (forest_joined bytes inside l (past_start h.at t) w.1), v), attributes_say bytes (record { tag = t; index = h.index }) h.holders (attributes_place h.at t) (suc h.index) 0 t.attributes v) in
+    ((element_told bytes l h.at t inside (forest_told bytes inside l (past_start h.at t) w.1 s.0), v), attributes_say bytes (record { tag = t; index = h.index }) h.holders (attributes_place h.at t) (suc h.index) 0 t.attributes v) in
     each_append (Says bytes) (map (under (child h.number)) (element_entry h t inside past ∷ tag_attributes h t ++ nodes (inside_of h t) inside)) _
     (each_map (Says bytes) (under (child h.number)) (element_entry h t inside past ∷ tag_attributes h t ++ nodes (inside_of h t) inside)
-    (each_append (Says bytes) (element_entry h t inside past ∷ tag_attributes h t) (nodes (inside_of h t) inside) own (nodes_say bytes inside (inside_of h t) w.1)))
-    (nodes_say bytes f (after_element h t inside past) w.2)
+    (each_append (Says bytes) (element_entry h t inside past ∷ tag_attributes h t) (nodes (inside_of h t) inside) own (nodes_say bytes inside (inside_of h t) w.1 s.0)))
+    (nodes_say bytes f (after_element h t inside past) w.2 s.1)
 
 -- each node of a document
 pub all_say : (bytes : List ℕ) (nest : Forest) → IsUtf8 bytes → IsDocument bytes nest → Each (Says bytes) (all nest (first_place bytes))
 unfolding all
 all_say bytes nest u d =
     let w = written_nest bytes nest u d in
-    (joined_append bytes (document ∷ []) (forest_records 0 (first_place bytes) nest) [] (top_content nest) (silent_joined bytes (document ∷ []) (refl, tt)) (top_joined bytes nest (first_place bytes) (document_proper bytes nest d) w), nodes_say bytes nest (at_first (first_place bytes)) w)
-
--- ---- which records are of texts
-
-forest_fine : (bytes : List ℕ) (f : Forest) (l at : ℕ) → Written bytes at f → Each (Fine bytes) (forest_records l at f)
-forest_fine bytes done l at w = tt
-forest_fine bytes (single x f) l at w = each_append (Fine bytes) (leaf_records l at x) _ (leaf_fine bytes x l at w.0.meet w.0.holds) (forest_fine bytes f l (past_leaf at x) w.1)
-forest_fine bytes (empty t f) l at w = each_append (Fine bytes) (tag_records l at t) _ (silent_fine bytes (tag_records l at t) (tag_silent l at t)) (forest_fine bytes f l (past_empty at t) w.1)
-forest_fine bytes (element t inside space f) l at w =
-    each_append (Fine bytes) (tag_records l at t ++ forest_records (suc l) (past_start at t) inside) _
-    (each_append (Fine bytes) (tag_records l at t) _ (silent_fine bytes (tag_records l at t) (tag_silent l at t)) (forest_fine bytes inside (suc l) (past_start at t) w.1))
-    (forest_fine bytes f l (past_element at t inside space) w.2)
-
--- each record of a document
-pub records_fine : (bytes : List ℕ) (nest : Forest) → IsUtf8 bytes → IsDocument bytes nest → Each (Fine bytes) (records nest (first_place bytes))
-unfolding records
-records_fine bytes nest u d = (λ e. absurd (false≢true e), forest_fine bytes nest 0 (first_place bytes) (written_nest bytes nest u d))
+    let s = document_separate bytes nest d in
+    let fs = forest_records 0 (first_place bytes) nest in (
+      subst (λ (rs : List Record). Told bytes rs (top_content nest)) (sym (silent_wholes (document ∷ []) fs (refl, tt)))
+          (told_append bytes (document ∷ []) (wholes fs) [] (top_content nest) (told_none bytes (document ∷ []) (refl, tt)) (top_told bytes nest (first_place bytes) (document_proper bytes nest d) w s)),
+      nodes_say bytes nest (at_first (first_place bytes)) w s,
+    )

@@ -1,12 +1,15 @@
 -- The content of a row of records: that of their texts and CDATA sections, joined (XPath 1.0, sections 5.1, 5.2 and
 -- 5.7).
-use Rattle.std.specs.Prelude.{◌≡◌, ℕ, ◌+◌, ◌-◌, ◌/◌, ◌%◌, ◌^◌, ◌<◌, ◌≤◌, true, cond, ◌==◌, List, [], ◌∷◌, ◌++◌, length}
-use Rattle.std.specs.Prelude.{take, drop, Option, Some, None}
-use Rattle.std.specs.List.{flat_map}
+use Rattle.std.specs.Prelude.{◌≡◌, ℕ, ◌+◌, ◌-◌, ◌/◌, ◌^◌, ◌≤◌, true, cond, ◌==◌, List, [], ◌∷◌, ◌++◌, length, map}
+use Rattle.std.specs.Prelude.{bit_and, take, drop, Option, Some, None}
+use Rattle.std.specs.List.{AllByRecursion, flat_map}
 use Rattle.std.specs.Str.{IsUtf8, chars}
 use Rattle.xml_model.specs.Records.{Record}
-use Rattle.xml_model.specs.Scan.{record_at, is_text_token}
+use Rattle.xml_model.specs.Scan.{is_text_token, is_within}
+use Rattle.xml_model.specs.Wholes.{wholes}
+use Rattle.xml_model.specs.Accepted.{is_name_token}
 use Rattle.vtd_words.specs.Table.{Shows}
+use Rattle.vtd_text.specs.declared.row.RowEnd.{RowEnd}
 use Rattle.vtd_text.specs.declared.token.Rule.{Rule}
 use Rattle.vtd_text.specs.declared.token.Rule.TheVariants.{Text, Literal}
 use Rattle.vtd_text.specs.Tokens.{HasContent, resolved}
@@ -43,21 +46,29 @@ Joined bytes (r ∷ rs) content = InTwo (Gives (rule_of r.token) (slice_of bytes
 abbrev pub IsText : List ℕ → Record → Type 0
 IsText bytes r = (r.offset + r.len ≤ length bytes) × IsUtf8 (slice_of bytes r)
 
--- each text and CDATA section from a record on, below another, is a text
-abbrev pub Readable : List ℕ → List Record → ℕ → ℕ → Type 0
-Readable bytes rs at past = (i : ℕ) → at ≤ i → i < past → is_text_token (record_at i rs).token ≡ true →
-    IsText bytes (record_at i rs)
+-- a record is of a text, where it is of a text or a CDATA section
+abbrev pub Fine : List ℕ → Record → Type 0
+Fine bytes r = is_text_token r.token ≡ true → IsText bytes r
 
--- words that show records, each text and CDATA section of which, from one on and below another, is a text
-pub record ShowsReadable (bytes words : List ℕ) (at past : ℕ) : Type 0 where
+-- the records up to the first that is below a level
+abbrev pub within : ℕ → List Record → List Record
+within least [] = []
+within least (r ∷ rs) = cond (is_within least r) (r ∷ within least rs) []
+
+-- the records of a row: from one on, below another, and up to the first that is below a level
+abbrev pub row : ℕ → RowEnd → List Record → List Record
+row at end rs = within end.least (take (end.past - at) (drop at rs))
+
+-- words that show records, where those of a row, each token's as one, are of texts
+pub record ShowsReadable (bytes words : List ℕ) (at : ℕ) (end : RowEnd) : Type 0 where
   pub rs : List Record
   pub shown : Shows words rs
-  pub readable : Readable bytes rs at past
+  pub readable : AllByRecursion (Fine bytes) (wholes (row at end rs))
 
--- what is left: the rest of a token, and the records from one on, below another
-abbrev pub IsLeft : List ℕ → List Record → Rule → List ℕ → ℕ → ℕ → List ℕ → Type 0
-IsLeft bytes rs rule text at past content = InTwo (HasContent rule (chars text))
-    (Joined bytes (take (past - at) (drop at rs))) content
+-- what is left: the rest of a token, and the tokens of a row
+abbrev pub IsLeft : List ℕ → List Record → Rule → List ℕ → ℕ → RowEnd → List ℕ → Type 0
+IsLeft bytes rs rule text at end content = InTwo (HasContent rule (chars text)) (Joined bytes (wholes (row at end rs)))
+    content
 
 -- a content begins with a character, and the rest of it is left
 pub record LeavesTail (Left : List ℕ → Type 0) (content : List ℕ) (c : ℕ) : Type 0 where
@@ -71,11 +82,11 @@ pub record LeavesAfter (Left : List ℕ → Type 0) (content prefix : List ℕ) 
   pub whole : content ≡ prefix ++ tail
   pub left : Left tail
 
--- a token is at its end, and the content is that of the records from one on, below another
-pub record BetweenTokens (bytes : List ℕ) (rs : List Record) (rule : Rule) (text : List ℕ) (at past : ℕ)
+-- a token is at its end, and the content is that of a row
+pub record BetweenTokens (bytes : List ℕ) (rs : List Record) (rule : Rule) (text : List ℕ) (at : ℕ) (end : RowEnd)
     (content : List ℕ) : Type 0 where
   pub ended : HasContent rule (chars text) []
-  pub rest : Joined bytes (take (past - at) (drop at rs)) content
+  pub rest : Joined bytes (wholes (row at end rs)) content
 
 -- a content has no character, and none is left
 pub record IsAtEnd (Left : List ℕ → Type 0) (content : List ℕ) : Type 0 where
@@ -89,11 +100,30 @@ abbrev pub resolved_by : Option Rule → List ℕ → List ℕ
 resolved_by None slice = []
 resolved_by (Some rule) slice = resolved rule (chars slice)
 
--- the content of the record that a word packs
-unfoldable pub word_content : List ℕ → ℕ → List ℕ
-word_content bytes w = resolved_by (rule_of (w / 2 ^ 60)) (take ((w / 2 ^ 32) % 2 ^ 20) (drop (w % 2 ^ 30) bytes))
+-- the content of a record
+abbrev pub record_content : List ℕ → Record → List ℕ
+record_content bytes r = resolved_by (rule_of r.token) (slice_of bytes r)
 
--- what is left: that of the rest of a token, and of the words from one on, below another
-unfoldable pub left_of : List ℕ → List ℕ → Rule → List ℕ → ℕ → ℕ → List ℕ
-left_of bytes words rule text at past = resolved rule (chars text)
-    ++ flat_map (word_content bytes) (take (past - at) (drop at words))
+-- the lengths in a word: bits 51 to 32
+abbrev pub lengths : ℕ → ℕ
+lengths w = bit_and (w / 2 ^ 32) 0xF_FFFF
+
+-- a record of a word, from its lengths
+abbrev pub record_by : ℕ → ℕ → ℕ → Record
+record_by w prefix len = record {
+  token = w / 2 ^ 60;
+  depth = bit_and (w / 2 ^ 52) 255;
+  prefix = prefix;
+  len = len;
+  offset = bit_and w 0x3FFF_FFFF;
+}
+
+-- the record that a word packs
+unfoldable pub record_of_word : ℕ → Record
+record_of_word w =
+    cond (is_name_token (w / 2 ^ 60)) (record_by w (lengths w / 2048) (bit_and (lengths w) 2047)) (record_by w 0 (lengths w))
+
+-- what is left: that of the rest of a token, and of the tokens of a row of words
+unfoldable pub left_of : List ℕ → List ℕ → Rule → List ℕ → ℕ → RowEnd → List ℕ
+left_of bytes words rule text at end = resolved rule (chars text)
+    ++ flat_map (record_content bytes) (wholes (row at end (map record_of_word words)))

@@ -1,7 +1,7 @@
 //! The code points of a text, resolved, one after another. No call takes memory.
 #![tactic(auto)]
 
-ghost use Rattle.std.specs.Prelude.{◌≡◌, ℕ, suc, ◌+◌, ◌-◌, ◌<◌, ◌≤◌, List, [], ◌∷◌, ◌++◌, length, take, drop};
+ghost use Rattle.std.specs.Prelude.{◌≡◌, ℕ, suc, ◌+◌, ◌<◌, ◌≤◌, List, [], ◌∷◌, ◌++◌, length};
 ghost use Rattle.std.specs.Prelude.{MatchOption, IsSome};
 ghost use Rattle.std.specs.Iterator.{YieldsFirst, item_count};
 ghost use Rattle.std.specs.Str.{chars};
@@ -11,11 +11,12 @@ ghost use Rattle.xml_model.specs.Records.{Record};
 ghost use Rattle.xml_model.specs.Scan.{record_at};
 ghost use Rattle.vtd_words.specs.Lists.{list_of};
 ghost use Rattle.vtd_words.specs.Table.{ForEachEntry, ForEachNest, IsNodeOf, Shows};
-ghost use Rattle.vtd_text.specs.Joined.{Joined};
+ghost use Rattle.xml_model.specs.Wholes.{wholes};
+ghost use Rattle.vtd_text.specs.Joined.{Joined, row};
 ghost use Rattle.vtd_text.specs.NameRecords.{IsDeclaration, IsNameOf};
 ghost use Rattle.vtd_text.specs.Resolved.{IsRecord, IsResolved, IsRow};
 
-use crate::row::{Row, text_of};
+use crate::row::{Row, RowEnd, text_of};
 use crate::token::{Rule, TokenChars};
 use std::marker::Model;
 use vtd_words::{Part, Table, Words, parts_at};
@@ -36,10 +37,10 @@ impl<'a, W: Words> Model for Chars<'a, W> {
     ghost Value = { List ℕ };
 
     ghost view = { λ s. left_of s.row.bytes.now (W.lists s.row.words.now).records s.row.token.rule s.row.token.text.now
-        s.row.at s.row.past };
+        s.row.at s.row.end };
 
     ghost invariant = { λ s. HasLeft s.row.bytes.now (W.lists s.row.words.now).records s.row.token.rule
-        s.row.token.text.now s.row.at s.row.past };
+        s.row.token.text.now s.row.at s.row.end };
 }
 
 /// The index after that of a record, where there is one.
@@ -54,7 +55,8 @@ pub(crate) fn after<W: Words>(words: &W, at: u32) -> u32
 
 impl<'a, W: Words> Chars<'a, W> {
     /// The code points of a node's string-value (XPath 1.0, section 5): for the root and an element those of all texts
-    /// in it, in document order.
+    /// in it, in document order. It reads one record, and of a text those of its run; what is in an element is read as
+    /// its code points are taken.
     pub fn of(table: &Table<'a, W>, node: Node) -> Chars<'a, W>
         requires { IsNodeOf table.now.bytes (W.lists table.now.words) node }
         ensures { ForEachEntry table.now.bytes (W.lists table.now.words) node (λ nest e. result ≡ content e.what) }
@@ -62,12 +64,20 @@ impl<'a, W: Words> Chars<'a, W> {
         let bytes = table.bytes();
         let words = table.words();
         match node.kind {
-            Kind::Root | Kind::Element | Kind::Text => Chars::of_row(
-                bytes,
-                words,
-                node.at,
-                table.end_of(node),
-            ),
+            Kind::Root | Kind::Text => {
+                let past = table.end_of(node);
+                Chars::of_row(bytes, words, node.at, RowEnd { past, least: 0 })
+            }
+            Kind::Element => {
+                let past = words.len(Part::Records);
+                let least = table.level_at(node) + 1;
+                Chars::of_row(
+                    bytes,
+                    words,
+                    table.after_first(node),
+                    RowEnd { past, least },
+                )
+            }
             Kind::Attribute => Chars::of_record(bytes, words, Rule::Value, after(words, node.at)),
             Kind::Comment => Chars::of_record(bytes, words, Rule::Literal, node.at),
             Kind::Instruction => Chars::of_record(
@@ -97,12 +107,12 @@ impl<'a, W: Words> Chars<'a, W> {
         self.row.next_plain()
     }
 
-    /// The code points of the texts and CDATA sections among the records from one on, below another.
-    fn of_row(bytes: &'a [u8], words: &'a W, at: u32, past: u32) -> Chars<'a, W>
-        requires within { past ≤ length (list_of Part.Records (W.lists words.now)) }
-        requires row { IsRow bytes.now (list_of Part.Records (W.lists words.now)) at past }
+    /// The code points of the texts and CDATA sections of a row of records.
+    fn of_row(bytes: &'a [u8], words: &'a W, at: u32, end: RowEnd) -> Chars<'a, W>
+        requires within { end.past ≤ length (list_of Part.Records (W.lists words.now)) }
+        requires row { IsRow bytes.now (list_of Part.Records (W.lists words.now)) at end }
         ensures { (rs : List Record) → Shows (list_of Part.Records (W.lists words.entry.now)) rs →
-            (content : List ℕ) → Joined bytes.entry.now (take (past - at) (drop at rs)) content → result ≡ content }
+            (content : List ℕ) → Joined bytes.entry.now (wholes (row at end rs)) content → result ≡ content }
     {
         let row = Row {
             bytes,
@@ -112,7 +122,7 @@ impl<'a, W: Words> Chars<'a, W> {
                 rule: Rule::Text,
             },
             at,
-            past,
+            end,
         };
         Chars { row }
     }
@@ -130,7 +140,7 @@ impl<'a, W: Words> Chars<'a, W> {
             words,
             token: TokenChars { text, rule },
             at: 0,
-            past: 0,
+            end: RowEnd { past: 0, least: 0 },
         };
         Chars { row }
     }

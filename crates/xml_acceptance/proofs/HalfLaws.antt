@@ -1,6 +1,6 @@
 -- A document has at most half as many records as bytes: each item but a text has more bytes than twice its records, no text follows a
 -- text, and the root element makes up for the document's own record.
-use Rattle.std.proofs.Common.{◌≡◌, ℕ, suc, ◌+◌, ◌*◌, ◌≤◌, Bool, true, false, inl, inr, cond, not, List, [], ◌∷◌, ◌++◌, length, Option}
+use Rattle.std.proofs.Common.{◌≡◌, ℕ, suc, ◌+◌, ◌*◌, ◌<◌, ◌≤◌, Bool, true, false, inl, inr, cond, not, List, [], ◌∷◌, ◌++◌, length, Option}
 use Rattle.std.proofs.Common.{Some, None, refl, sym, ap, ◌∙◌, arith}
 use Rattle.std.specs.Prelude.{codes, option_to_list, ◌&&◌, ◌||◌, ◌==◌, bytes_eq, encode_utf8_all}
 use Rattle.std.specs.List.{list_all}
@@ -17,8 +17,10 @@ use Rattle.xml_model.specs.Nest.{Forest, done, single, empty, element, flat, is_
 use Rattle.xml_model.specs.Records.{records, forest_records, leaf_records, tag_records, attributes_place, declaration_attributes, depth_at, past_leaf}
 use Rattle.xml_model.specs.Records.{past_empty, past_start, past_element, past_forest}
 use Rattle.xml_model.specs.Accepted.{IsDocument}
+use Rattle.xml_model.proofs.Cuts.{half_cuts, empty_cuts}
 use Rattle.xml_model.proofs.Proper.{walk_to_end_meets}
-use Rattle.xml_acceptance.proofs.Apart.{is_text, begins_text, apart, apart-append, document_apart}
+use Rattle.xml_chars.proofs.HoldLemmas.{size-append}
+use Rattle.xml_model.proofs.TextsApart.{is_text, begins_text, apart, apart-append, document_apart}
 use Rattle.xml_acceptance.proofs.Placement.{long, written_pos}
 use Rattle.xml_acceptance.proofs.RecordLaws.{attributes_count, parts_count}
 
@@ -130,12 +132,24 @@ instruction_five i m =
       length-append (codes "<?") i.target,
     )
 
+cdata_half : (l at : ℕ) (cs : List ℕ) → 2 * length (leaf_records l at (Leaf.cdata cs)) + 1 ≤ size (written_leaf (Leaf.cdata cs))
+cdata_half l at cs =
+    omega (
+      arith,
+      empty_cuts 11 (depth_at l) (at + 9) (size cs),
+      size-append (codes "<![CDATA[" ++ cs) (codes "]]>"),
+      size-append (codes "<![CDATA[") cs,
+      long (codes "]]>"),
+    )
+
 -- a text has a record of its own and perhaps one byte
 leaf_half : (l at : ℕ) (x : Leaf) → meets (leaf x) ≡ true →
     2 * length (leaf_records (suc l) at x) + 1 ≤ size (written_leaf x) + cond (is_text (leaf x)) 2 0
 unfolding meets
-leaf_half l at (Leaf.text ps) m = omega (arith, long (written_leaf (Leaf.text ps)), written_pos (leaf (Leaf.text ps)) m)
-leaf_half l at (Leaf.cdata cs) m = omega (arith, long (written_leaf (Leaf.cdata cs)), length-append (codes "<![CDATA[" ++ cs) (codes "]]>"))
+leaf_half l at (Leaf.text ps) m =
+    let some : 0 < size (written_pieces ps) = omega (arith, long (written_leaf (Leaf.text ps)), written_pos (leaf (Leaf.text ps)) m) in
+    omega (arith, half_cuts 5 (depth_at (suc l)) at (size (written_pieces ps)) some)
+leaf_half l at (Leaf.cdata cs) m = omega (arith, cdata_half (suc l) at cs)
 leaf_half l at (Leaf.comment cs) m = omega (arith, long (written_leaf (Leaf.comment cs)), length-append (codes "<!--" ++ cs) (codes "-->"))
 leaf_half l at (Leaf.instruction i) m = omega (arith, long (written_leaf (Leaf.instruction i)), instruction_five i m)
 leaf_half l at (Leaf.declaration d) m =
@@ -145,7 +159,7 @@ leaf_half l at (Leaf.doctype d) m = omega (arith, long (written_leaf (Leaf.docty
 outer_half : (at : ℕ) (x : Leaf) → meets (leaf x) ≡ true → 2 * length (leaf_records 0 at x) ≤ size (written_leaf x)
 unfolding meets
 outer_half at (Leaf.text ps) m = omega arith
-outer_half at (Leaf.cdata cs) m = omega (arith, leaf_half 0 at (Leaf.cdata cs) m)
+outer_half at (Leaf.cdata cs) m = omega (arith, cdata_half 0 at cs)
 outer_half at (Leaf.comment cs) m = omega (arith, leaf_half 0 at (Leaf.comment cs) m)
 outer_half at (Leaf.instruction i) m = omega (arith, leaf_half 0 at (Leaf.instruction i) m)
 outer_half at (Leaf.declaration d) m =

@@ -17,5 +17,4 @@ pub mod Stacks
 pub mod Shapes
 pub mod OneMore
 pub mod Exits
-pub mod Apart
 pub mod HalfLaws

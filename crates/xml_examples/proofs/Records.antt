@@ -1,9 +1,9 @@
 -- Records of worked documents, as words, and how wide a record may be.
-use Rattle.std.proofs.Common.{◌≡◌, ℕ, [], ◌∷◌, map, refl, codes, true, Some, None, replicate, ◌++◌}
+use Rattle.std.proofs.Common.{◌≡◌, ℕ, List, [], ◌∷◌, map, refl, codes, true, Some, None, replicate, ◌++◌}
 use Rattle.xml_model.specs.declared.Field.TheVariants as fields
 use Rattle.xml_model.specs.Items.{Leaf, walk_to_end}
 use Rattle.xml_model.specs.Nest.{Forest, done, single, empty, flat, is_nest}
-use Rattle.xml_model.specs.Records.{Record, records, word}
+use Rattle.xml_model.specs.Records.{Record, cut_records, records, word}
 use Rattle.xml_model.specs.Accepted.{first_wide, too_wide}
 use Rattle.xml_examples.proofs.Parts.{opened, elem, hollow, words, tag_with, attr}
 
@@ -76,15 +76,56 @@ prefix_too_wide : first_wide (records (hollow (replicate 512 97 ++ codes ":b") d
 unfolding opened
 prefix_too_wide = refl
 
--- a token of 1,048,575 bytes fits, and one of a byte more does not
-abbrev text_record : ℕ → Record
-text_record len = record { token = 5; depth = 0; prefix = 0; len = len; offset = 3 }
+-- a comment of 1,048,575 bytes fits, and one of a byte more does not
+abbrev comment_record : ℕ → Record
+comment_record len = record { token = 6; depth = 0; prefix = 0; len = len; offset = 7 }
 
-token_fits : too_wide (text_record 1_048_575) ≡ None
+token_fits : too_wide (comment_record 1_048_575) ≡ None
 token_fits = refl
 
-token_too_wide : too_wide (text_record 1_048_576) ≡ Some fields.Token
+token_too_wide : too_wide (comment_record 1_048_576) ≡ Some fields.Token
 token_too_wide = refl
+
+-- a text that begins at 3, in an element of depth 0, by its bytes: up to 1,048,575 of them have one record
+abbrev text_words : ℕ → List ℕ
+text_words n = map word (cut_records 5 0 3 n)
+
+one_less : text_words 1_048_574 ≡ 0x500F_FFFE_0000_0003 ∷ []
+unfolding opened
+one_less = refl
+
+one_whole : text_words 1_048_575 ≡ 0x500F_FFFF_0000_0003 ∷ []
+unfolding opened
+one_whole = refl
+
+one_more : text_words 1_048_576 ≡ 0x500F_FFFF_0000_0003 ∷ 0x5000_0001_0010_0002 ∷ []
+unfolding opened
+one_more = refl
+
+two_more : text_words 1_048_577 ≡ 0x500F_FFFF_0000_0003 ∷ 0x5000_0002_0010_0002 ∷ []
+unfolding opened
+two_more = refl
+
+two_whole : text_words 2_097_150 ≡ 0x500F_FFFF_0000_0003 ∷ 0x500F_FFFF_0010_0002 ∷ []
+unfolding opened
+two_whole = refl
+
+two_and_one : text_words 2_097_151 ≡ 0x500F_FFFF_0000_0003 ∷ 0x500F_FFFF_0010_0002 ∷ 0x5000_0001_0020_0001 ∷ []
+unfolding opened
+two_and_one = refl
+
+three_whole : text_words 3_145_725 ≡ 0x500F_FFFF_0000_0003 ∷ 0x500F_FFFF_0010_0002 ∷ 0x500F_FFFF_0020_0001 ∷ []
+unfolding opened
+three_whole = refl
+
+three_and_one : map word (cut_records 11 7 12 3_145_726) ≡ 0xB07F_FFFF_0000_000C ∷ 0xB07F_FFFF_0010_000B ∷ 0xB07F_FFFF_0020_000A ∷ 0xB070_0001_0030_0009 ∷ []
+unfolding opened
+three_and_one = refl
+
+-- a CDATA section without a byte has one
+no_bytes : map word (cut_records 11 7 12 0) ≡ 0xB070_0000_0000_000C ∷ []
+unfolding opened
+no_bytes = refl
 
 -- of a name that is too wide in both ways the whole comes first
 name_before_prefix : too_wide (record { token = 2; depth = 0; prefix = 512; len = 2_048; offset = 3 }) ≡ Some fields.Name

@@ -5,7 +5,7 @@ use Rattle.std.specs.List.{Contains, AllByRecursion as Each}
 use Rattle.std.proofs.lemmas.Bool.{and_parts, cases_lt, false≢true}
 use Rattle.xml_model.specs.declared.Kind.TheVariants as kinds
 use Rattle.xml_model.specs.Chars.{size}
-use Rattle.xml_model.specs.Items.{Attribute, Tag, Leaf, written_attribute}
+use Rattle.xml_model.specs.Items.{Attribute, Tag, Leaf, written_attribute, written_pieces}
 use Rattle.xml_model.specs.Nest.{Forest, is_nest, done, single, empty, element}
 use Rattle.xml_model.specs.Records.{Record, declares, depth_at, records, named, tag_records, leaf_records, declaration_part_records}
 use Rattle.xml_model.specs.Records.{declaration_attributes, attributes_records, attributes_place, forest_records, past_leaf, past_empty}
@@ -13,6 +13,7 @@ use Rattle.xml_model.specs.Records.{past_start, past_element}
 use Rattle.xml_model.specs.Tree.{Thing, Entry, all, kind_of}
 use Rattle.xml_model.specs.Scan.{level_of, record_at, is_attribute_part, Passes}
 use Rattle.xml_model.specs.Laws.{FirstRecordShows, is_attribute_thing}
+use Rattle.xml_model.proofs.Cuts.{each_cut}
 use Rattle.xml_model.proofs.Each.{each_more, each_append, each_left, each_right}
 use Rattle.xml_model.proofs.Fits.{Fits}
 use Rattle.xml_model.proofs.Inside.{each_record, fits_of, in_nodes, in_place, known_node, name_levels}
@@ -62,8 +63,10 @@ parts_deeper (a ∷ others) l d at = (
 
 leaf_deeper : (x : Leaf) (l at : ℕ) → Each (Deeper l) (leaf_records l at x)
 leaf_deeper (Leaf.text ps) zero at = tt
-leaf_deeper (Leaf.text ps) (suc l) at = ((λ (z : ◌≡◌ {A = ℕ} 5 2). absurd (omega (arith, z))), tt)
-leaf_deeper (Leaf.cdata cs) l at = ((λ (z : ◌≡◌ {A = ℕ} 11 2). absurd (omega (arith, z))), tt)
+leaf_deeper (Leaf.text ps) (suc l) at =
+    each_cut (Deeper (suc l)) 5 l at (size (written_pieces ps)) (λ m o i (z : ◌≡◌ {A = ℕ} 5 2). absurd (omega (arith, z)))
+leaf_deeper (Leaf.cdata cs) l at =
+    each_cut (Deeper l) 11 (depth_at l) (at + 9) (size cs) (λ m o i (z : ◌≡◌ {A = ℕ} 11 2). absurd (omega (arith, z)))
 leaf_deeper (Leaf.comment cs) l at = ((λ (z : ◌≡◌ {A = ℕ} 6 2). absurd (omega (arith, z))), tt)
 leaf_deeper (Leaf.instruction i) l at = ((λ (z : ◌≡◌ {A = ℕ} 7 2). absurd (omega (arith, z))), ((λ (z : ◌≡◌ {A = ℕ} 8 2). absurd (omega (arith, z))), tt))
 leaf_deeper (Leaf.declaration d) l at = parts_deeper (declaration_attributes d) l (depth_at l) (at + 5)

@@ -4,10 +4,11 @@ use Rattle.std.proofs.lemmas.Bool.{and_right}
 use Rattle.std.specs.Prelude.{⊤}
 use Rattle.std.specs.List.{AllByRecursion as Each}
 use Rattle.xml_model.specs.Chars.{size}
-use Rattle.xml_model.specs.Items.{Attribute, Tag, Leaf, Piece, written_attribute}
+use Rattle.xml_model.specs.Items.{Attribute, Tag, Leaf, Piece, written_attribute, written_pieces}
 use Rattle.xml_model.specs.Nest.{Forest, done, single, empty, element}
-use Rattle.xml_model.specs.Records.{Record, declares, declaration_attributes, attribute_records, attributes_records, attributes_place, tag_records, leaf_records, run_records, depth_at, forest_records, past_run, past_leaf, past_empty, past_start, past_element, document, records}
+use Rattle.xml_model.specs.Records.{Record, declares, declaration_attributes, attribute_records, attributes_records, attributes_place, tag_records, leaf_records, run_records, cut_records, depth_at, forest_records, past_run, past_leaf, past_empty, past_start, past_element, document, records}
 use Rattle.xml_model.specs.Tree.{Holder, held, Step, Entry, Here, Thing, attributes, attribute_entry, nodes, all, at_first, leaf_node, text_node, begins_run, run, after_leaf, inside_of, after_element, element_past, element_entry, tag_attributes, under}
+use Rattle.xml_model.proofs.Cuts.{each_cut, first_cut}
 use Rattle.xml_model.proofs.Each.{each_append, each_option, each_map, if_some_cond, if_some_second}
 pub use Rattle.xml_model.specs.Scan.{is_run}
 pub use Rattle.xml_model.specs.Laws.{records_of}
@@ -76,7 +77,7 @@ run_split done l at = refl
 run_split (empty t f) l at = refl
 run_split (element t inside space f) l at = refl
 run_split (single (Leaf.text ps) f) l at = ap (λ x. leaf_records l at (Leaf.text ps) ++ x) (run_split f l (past_leaf at (Leaf.text ps))) ∙ sym (append_assoc (leaf_records l at (Leaf.text ps)) _ _)
-run_split (single (Leaf.cdata cs) f) l at = ap (λ x. leaf_records l at (Leaf.cdata cs) ++ x) (run_split f l (past_leaf at (Leaf.cdata cs)))
+run_split (single (Leaf.cdata cs) f) l at = ap (λ x. leaf_records l at (Leaf.cdata cs) ++ x) (run_split f l (past_leaf at (Leaf.cdata cs))) ∙ sym (append_assoc (leaf_records l at (Leaf.cdata cs)) _ _)
 run_split (single (Leaf.comment cs) f) l at = refl
 run_split (single (Leaf.instruction i) f) l at = refl
 run_split (single (Leaf.declaration d) f) l at = refl
@@ -87,15 +88,15 @@ run_marks : (f : Forest) (l at : ℕ) → l ≤ 255 → Each (λ r. is_run l r �
 run_marks done l at k = tt
 run_marks (empty t f) l at k = tt
 run_marks (element t inside space f) l at k = tt
-run_marks (single (Leaf.text ps) f) l at k = text_marks l _ (leaf_records l at (Leaf.text ps)) (run_records l (past_leaf at (Leaf.text ps)) (run f)) (text_mark l at ps k) (run_marks f l (past_leaf at (Leaf.text ps)) k)
+run_marks (single (Leaf.text ps) f) l at k =
+    each_append (λ r. is_run l r ≡ true) (leaf_records l at (Leaf.text ps)) (run_records l (past_leaf at (Leaf.text ps)) (run f)) (text_mark l) (run_marks f l (past_leaf at (Leaf.text ps)) k)
   where
-    text_marks : (l : ℕ) (P : Unit {0}) (xs ys : List Record) → Each (λ r. is_run l r ≡ true) xs → Each (λ r. is_run l r ≡ true) ys → Each (λ r. is_run l r ≡ true) (xs ++ ys)
-    text_marks l P xs ys h g = each_append (λ r. is_run l r ≡ true) xs ys h g
-
-    text_mark : (l at : ℕ) (ps : List Piece) → l ≤ 255 → Each (λ r. is_run l r ≡ true) (leaf_records l at (Leaf.text ps))
-    text_mark zero at ps k = tt
-    text_mark (suc d) at ps k = (eq-eqb _ (suc d) (level_at (suc d) k), tt)
-run_marks (single (Leaf.cdata cs) f) l at k = (eq-eqb _ l (level_at l k), run_marks f l (past_leaf at (Leaf.cdata cs)) k)
+    text_mark : (m : ℕ) → Each (λ r. is_run l r ≡ true) (Rattle.xml_model.specs.Records.text_records m (cut_records 5 (depth_at l) at (size (written_pieces ps))))
+    text_mark zero = tt
+    text_mark (suc d) = each_cut (λ r. is_run l r ≡ true) 5 (depth_at l) at (size (written_pieces ps)) (λ m o i. eq-eqb _ l (level_at l k))
+run_marks (single (Leaf.cdata cs) f) l at k =
+    each_append (λ r. is_run l r ≡ true) (leaf_records l at (Leaf.cdata cs)) (run_records l (past_leaf at (Leaf.cdata cs)) (run f))
+    (each_cut (λ r. is_run l r ≡ true) 11 (depth_at l) (at + 9) (size cs) (λ m o i. eq-eqb _ l (level_at l k))) (run_marks f l (past_leaf at (Leaf.cdata cs)) k)
 run_marks (single (Leaf.comment cs) f) l at k = tt
 run_marks (single (Leaf.instruction i) f) l at k = tt
 run_marks (single (Leaf.declaration d) f) l at k = tt
@@ -158,13 +159,19 @@ head_below x l at rest k h = by x
     enough : cond (depth_at l == 255) 0 (suc (depth_at l)) < suc l
     enough = omega (arith, level_at l k)
 
-    text_below : (m : ℕ) (p : Record) → level_of p < suc l → Below (suc l) (Rattle.xml_model.specs.Records.text_records m p ++ rest)
-    text_below zero p j = h
-    text_below (suc m) p j = j
+    text_cuts : (o n : ℕ) → Below (suc l) (cut_records 5 (depth_at l) o n ++ rest)
+    text_cuts o n = let c = first_cut 5 (depth_at l) o n in subst (λ rs. Below (suc l) (rs ++ rest)) (sym c.is) enough
+
+    cdata_cuts : (o n : ℕ) → Below (suc l) (cut_records 11 (depth_at l) o n ++ rest)
+    cdata_cuts o n = let c = first_cut 11 (depth_at l) o n in subst (λ rs. Below (suc l) (rs ++ rest)) (sym c.is) enough
+
+    text_below : (m : ℕ) (rs : List Record) → Below (suc l) (rs ++ rest) → Below (suc l) (Rattle.xml_model.specs.Records.text_records m rs ++ rest)
+    text_below zero rs j = h
+    text_below (suc m) rs j = j
 
     by : (x : Leaf) → Below (suc l) (leaf_records l at x ++ rest)
-    by (Leaf.text ps) = text_below l _ enough
-    by (Leaf.cdata cs) = enough
+    by (Leaf.text ps) = text_below l _ (text_cuts at (size (written_pieces ps)))
+    by (Leaf.cdata cs) = cdata_cuts (at + 9) (size cs)
     by (Leaf.comment cs) = enough
     by (Leaf.instruction i) = enough
     by (Leaf.declaration d) = enough

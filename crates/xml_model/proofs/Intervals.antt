@@ -2,11 +2,12 @@
 use Rattle.std.proofs.Common.{◌≡◌, ℕ, suc, ◌+◌, ◌<◌, ◌≤◌, Bool, true, false, cond, List, [], ◌∷◌, ◌++◌, map, refl, ap, ap₂, sym, ◌∙◌, arith, le_trans, le_refl, subst, length, append-nil, length-append, Some, None, IfSome, is_some, not, ◌&&◌, ◌||◌, ltb, eq-eqb, ne_eqb, le-ltb, lt-ltb}
 use Rattle.std.specs.List.{AllByRecursion as Each, cons_option}
 use Rattle.xml_model.specs.Chars.{size}
-use Rattle.xml_model.specs.Items.{Attribute, Tag, Leaf, written_attribute}
+use Rattle.xml_model.specs.Items.{Attribute, Tag, Leaf, written_attribute, written_pieces}
 use Rattle.xml_model.specs.Nest.{Forest, done, single, empty, element}
 use Rattle.xml_model.specs.Records.{declares, attributes_records, attributes_place, tag_records, leaf_records, run_records, forest_records, past_run, past_leaf, past_empty, past_start, past_element}
 use Rattle.xml_model.specs.Tree.{Holder, held, Path, Step, step_eq, step_before, before, steps, steps_under, is_some_steps, is_self, Entry, Here, Thing, attributes, attribute_entry, nodes, all, root_entry, at_first, leaf_node, text_node, begins_run, run, after_leaf, inside_of, after_element, element_past, element_entry, tag_attributes, under, one_if}
 use Rattle.xml_model.proofs.Each.{Pairs, pairs_more, pairs_append, pairs_option, pairs_map, each_cross, each_append, each_option, each_map, each_more, each_both, if_some_cond, if_some_second}
+use Rattle.xml_model.proofs.Cuts.{some_cuts}
 use Rattle.xml_model.proofs.Fits.{run_split, after_run}
 
 -- x is before y
@@ -159,14 +160,14 @@ leaf_in (Leaf.text ps) f (t ∷ tags) at first number joins =
     let mine = run_records l at (x ∷ run f) in
     let rest = forest_records l (past_run at (x ∷ run f)) (after_run f) in
     if_some_cond (In (ChildFrom number) first (first + length (forest_records l at (single x f)))) (begins_run (t ∷ tags) joins (x ∷ run f)) _
-    (record { step = Step.child number; rest = []; path = refl; first = le_refl number; low_end = le_refl first; some = omega arith; high_end = omega (arith, length-append mine rest, ap length (run_split (single x f) l at)) })
+    (record { step = Step.child number; rest = []; path = refl; first = le_refl number; low_end = le_refl first; some = omega (arith, some_cuts 5 (length tags) at (size (written_pieces ps)), length-append (leaf_records l at x) (run_records l (past_leaf at x) (run f))); high_end = omega (arith, length-append mine rest, ap length (run_split (single x f) l at)) })
 leaf_in (Leaf.cdata cs) f (t ∷ tags) at first number joins =
     let l = suc (length tags) in
     let x = Leaf.cdata cs in
     let mine = run_records l at (x ∷ run f) in
     let rest = forest_records l (past_run at (x ∷ run f)) (after_run f) in
     if_some_cond (In (ChildFrom number) first (first + length (forest_records l at (single x f)))) (begins_run (t ∷ tags) joins (x ∷ run f)) _
-    (record { step = Step.child number; rest = []; path = refl; first = le_refl number; low_end = le_refl first; some = omega arith; high_end = omega (arith, length-append mine rest, ap length (run_split (single x f) l at)) })
+    (record { step = Step.child number; rest = []; path = refl; first = le_refl number; low_end = le_refl first; some = omega (arith, some_cuts 11 (length tags) (at + 9) (size cs), length-append (leaf_records l at x) (run_records l (past_leaf at x) (run f))); high_end = omega (arith, length-append mine rest, ap length (run_split (single x f) l at)) })
 leaf_in (Leaf.comment cs) f tags at first number joins =
     record { step = Step.child number; rest = []; path = refl; first = le_refl number; low_end = le_refl first; some = omega arith; high_end = omega arith }
 leaf_in (Leaf.instruction i) f tags at first number joins =
@@ -289,7 +290,7 @@ joined_from (single (Leaf.cdata cs) f) tags at first number =
     let low = first + length (mine ++ more) in
     let next = after_leaf (joined tags at first number) x f in
     each_option (From low) (text_node (joined tags at first number) (x ∷ run f)) (nodes next f) (no_text tags at first number low (x ∷ run f))
-    (each_more (From (next.index + length more)) (From low) (λ e k. omega (arith, k)) (nodes next f) (joined_from f tags next.at next.index next.number))
+    (each_more (From (next.index + length more)) (From low) (λ e k. omega (arith, k, length-append mine more)) (nodes next f) (joined_from f tags next.at next.index next.number))
 joined_from (single (Leaf.comment cs) f) tags at first number = all_from (single (Leaf.comment cs) f) (joined tags at first number) (first + 0) (omega arith)
 joined_from (single (Leaf.instruction i) f) tags at first number = all_from (single (Leaf.instruction i) f) (joined tags at first number) (first + 0) (omega arith)
 joined_from (single (Leaf.declaration d) f) tags at first number = all_from (single (Leaf.declaration d) f) (joined tags at first number) (first + 0) (omega arith)
@@ -325,8 +326,8 @@ leaf_ordered : (x : Leaf) (f : Forest) (tags : List Holder) (at first number : �
     let h : Here = record { holders = tags; at = at; index = first; number = number; joins = joins } in IfSome (leaf_node h x f) (λ e. Each (Ordered e) (nodes (after_leaf h x f) f))
 leaf_ordered (Leaf.text ps) f [] at first number joins = tt
 leaf_ordered (Leaf.cdata cs) f [] at first number joins = tt
-leaf_ordered (Leaf.text ps) f (t ∷ tags) at first number joins = text_ordered (begins_run (t ∷ tags) joins (Leaf.text ps ∷ run f)) (Leaf.text ps) f (t ∷ tags) at first number (omega arith)
-leaf_ordered (Leaf.cdata cs) f (t ∷ tags) at first number joins = text_ordered (begins_run (t ∷ tags) joins (Leaf.cdata cs ∷ run f)) (Leaf.cdata cs) f (t ∷ tags) at first number (omega arith)
+leaf_ordered (Leaf.text ps) f (t ∷ tags) at first number joins = text_ordered (begins_run (t ∷ tags) joins (Leaf.text ps ∷ run f)) (Leaf.text ps) f (t ∷ tags) at first number (some_cuts 5 (length tags) at (size (written_pieces ps)))
+leaf_ordered (Leaf.cdata cs) f (t ∷ tags) at first number joins = text_ordered (begins_run (t ∷ tags) joins (Leaf.cdata cs ∷ run f)) (Leaf.cdata cs) f (t ∷ tags) at first number (some_cuts 11 (length tags) (at + 9) (size cs))
 leaf_ordered (Leaf.comment cs) f tags at first number joins =
     let h : Here = record { holders = tags; at = at; index = first; number = number; joins = joins } in
     let next = after_leaf h (Leaf.comment cs) f in

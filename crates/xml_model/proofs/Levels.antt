@@ -3,9 +3,10 @@ use Rattle.std.proofs.Common.{◌≡◌, ℕ, zero, suc, ◌+◌, ◌≤◌, Boo
 use Rattle.std.specs.Prelude.{⊤}
 use Rattle.std.specs.List.{AllByRecursion as Each}
 use Rattle.xml_model.specs.Chars.{size}
-use Rattle.xml_model.specs.Items.{Attribute, Leaf, written_attribute}
+use Rattle.xml_model.specs.Items.{Attribute, Leaf, written_attribute, written_pieces}
 use Rattle.xml_model.specs.Nest.{Forest, done, single, empty, element}
 use Rattle.xml_model.specs.Records.{Record, named, name_token, declares, attributes_records, declaration_part_records, declaration_attributes, leaf_records, text_records, depth_at, forest_records}
+use Rattle.xml_model.proofs.Cuts.{each_cut}
 pub use Rattle.xml_model.specs.Scan.{level_of}
 use Rattle.xml_model.proofs.Each.{each_append, each_more}
 
@@ -27,9 +28,9 @@ level_at (suc d) h = shown_level d (omega arith)
 abbrev pub FromLevel : ℕ → List Record → Type 0
 FromLevel l rs = Each (λ r. l ≤ level_of r) rs
 
-text_from : (l at : ℕ) (p : Record) → l ≤ 255 → l ≤ level_of p → FromLevel l (text_records l p)
-text_from zero at p h k = tt
-text_from (suc l) at p h k = (k, tt)
+text_from : (l : ℕ) (rs : List Record) → FromLevel l rs → FromLevel l (text_records l rs)
+text_from zero rs k = tt
+text_from (suc l) rs k = k
 
 tokens_from : (others : List Attribute) (l at d : ℕ) → l ≤ cond (d == 255) 0 (suc d) → FromLevel l (declaration_part_records d at others)
 tokens_from [] l at d k = tt
@@ -42,8 +43,8 @@ leaf_from l at x h = by x
     enough = subst (λ (n : ℕ). l ≤ n) (sym (level_at l h)) (le_refl l)
 
     by : (x : Leaf) → FromLevel l (leaf_records l at x)
-    by (Leaf.text ps) = text_from l at _ h enough
-    by (Leaf.cdata cs) = (enough, tt)
+    by (Leaf.text ps) = text_from l _ (each_cut (λ r. l ≤ level_of r) 5 (depth_at l) at (size (written_pieces ps)) (λ m o i. enough))
+    by (Leaf.cdata cs) = each_cut (λ r. l ≤ level_of r) 11 (depth_at l) (at + 9) (size cs) (λ m o i. enough)
     by (Leaf.comment cs) = (enough, tt)
     by (Leaf.instruction i) = (enough, (enough, tt))
     by (Leaf.declaration d) = tokens_from (declaration_attributes d) l (at + 5) (depth_at l) enough

@@ -1,4 +1,8 @@
 pub mod Each
+pub mod Cuts
+pub mod Wholes
+pub mod TextsApart
+pub mod TextPlaces
 pub mod Levels
 pub mod Rise
 pub mod Fits

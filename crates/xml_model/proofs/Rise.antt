@@ -1,10 +1,11 @@
 -- Along all nodes the places rise.
 use Rattle.std.proofs.Common.{ℕ, suc, ◌+◌, ◌<◌, ◌≤◌, Bool, List, [], ◌∷◌, ◌++◌, map, arith, le_refl, length, length-append, IfSome}
 use Rattle.xml_model.specs.Chars.{size}
-use Rattle.xml_model.specs.Items.{Attribute, Tag, Leaf, written_attribute}
+use Rattle.xml_model.specs.Items.{Attribute, Tag, Leaf, written_attribute, written_pieces}
 use Rattle.xml_model.specs.Nest.{Forest, done, single, empty, element}
 use Rattle.xml_model.specs.Records.{declares, attributes_records, attributes_place, tag_records, leaf_records, forest_records, past_leaf, past_empty, past_start, past_element}
 use Rattle.xml_model.specs.Tree.{Holder, held, Step, Entry, Here, attributes, attribute_entry, nodes, all, at_first, leaf_node, text_node, begins_run, run, after_leaf, inside_of, after_element, element_past, element_entry, tag_attributes, under}
+use Rattle.xml_model.proofs.Cuts.{some_cuts}
 use Rattle.xml_model.proofs.Each.{Rising, rising_append, rising_map, rising_option, rising_up, if_some_cond, if_some_second}
 
 abbrev pub index : Entry → ℕ
@@ -20,17 +21,17 @@ rising_attributes (a ∷ others) tags at first i d =
     (if_some_second (BeginsIn first 2) (declares a.name) _ (le_refl first, omega arith))
     (rising_up index (first + 2) _ _ _ (omega arith) (rising_attributes others tags (at + size (written_attribute a)) (first + 2) _ d))
 
-text_place : (xs : List Leaf) (t : Holder) (tags : List Holder) (at first number : ℕ) (joins : Bool) →
-    IfSome (text_node (record { holders = t ∷ tags; at = at; index = first; number = number; joins = joins }) xs) (BeginsIn first 1)
-text_place xs t tags at first number joins = if_some_cond (BeginsIn first 1) (begins_run (t ∷ tags) joins xs) _ (le_refl first, omega arith)
+text_place : (n : ℕ) → 0 < n → (xs : List Leaf) (t : Holder) (tags : List Holder) (at first number : ℕ) (joins : Bool) →
+    IfSome (text_node (record { holders = t ∷ tags; at = at; index = first; number = number; joins = joins }) xs) (BeginsIn first n)
+text_place n some xs t tags at first number joins = if_some_cond (BeginsIn first n) (begins_run (t ∷ tags) joins xs) _ (le_refl first, omega arith)
 
 -- the node that begins at a leaf has its first record there
 leaf_place : (x : Leaf) (f : Forest) (tags : List Holder) (at first number : ℕ) (joins : Bool) →
     IfSome (leaf_node (record { holders = tags; at = at; index = first; number = number; joins = joins }) x f) (BeginsIn first (length (leaf_records (length tags) at x)))
 leaf_place (Leaf.text ps) f [] at first number joins = tt
-leaf_place (Leaf.text ps) f (t ∷ tags) at first number joins = text_place (Leaf.text ps ∷ run f) t tags at first number joins
+leaf_place (Leaf.text ps) f (t ∷ tags) at first number joins = text_place _ (some_cuts 5 (length tags) at (size (written_pieces ps))) (Leaf.text ps ∷ run f) t tags at first number joins
 leaf_place (Leaf.cdata cs) f [] at first number joins = tt
-leaf_place (Leaf.cdata cs) f (t ∷ tags) at first number joins = text_place (Leaf.cdata cs ∷ run f) t tags at first number joins
+leaf_place (Leaf.cdata cs) f (t ∷ tags) at first number joins = text_place _ (some_cuts 11 (length tags) (at + 9) (size cs)) (Leaf.cdata cs ∷ run f) t tags at first number joins
 leaf_place (Leaf.comment cs) f tags at first number joins = (le_refl first, omega arith)
 leaf_place (Leaf.instruction i) f tags at first number joins = (le_refl first, omega arith)
 leaf_place (Leaf.declaration d) f tags at first number joins = tt

@@ -1,14 +1,15 @@
 -- The places of the nodes, by a scan of the records.
-use Rattle.std.proofs.Common.{◌≡◌, ℕ, zero, suc, ◌+◌, ◌<◌, ◌≤◌, Bool, true, false, cond, List, [], ◌∷◌, ◌++◌, map, refl, ap, ap₂, sym, ◌∙◌, arith, le_refl, length, length-append, append_assoc, append-nil, add-one, add-zero, Option, Some, None, not, ◌&&◌, ◌||◌, nat_lt, lt-ltb, eq-eqb, ne_eqb}
+use Rattle.std.proofs.Common.{◌≡◌, ℕ, zero, suc, ◌+◌, ◌<◌, ◌≤◌, Bool, true, false, cond, List, [], ◌∷◌, ◌++◌, map, refl, ap, ap₂, sym, ◌∙◌, arith, subst, le_refl, ◌-◌, ◌==◌, length, length-append, append_assoc, append-nil, add-one, add-zero, Option, Some, None, not, ◌&&◌, ◌||◌, nat_lt, lt-ltb, eq-eqb, ne_eqb}
 use Rattle.std.specs.Prelude.{⊤, option_to_list}
-use Rattle.std.specs.List.{cons_option, list_any}
+use Rattle.std.specs.List.{AllByRecursion as Each, cons_option, list_any}
 use Rattle.std.proofs.lemmas.List.{map-append}
 use Rattle.xml_model.specs.Chars.{size}
 use Rattle.xml_model.specs.Items.{Attribute, Tag, Leaf, written_attribute, before_value, written_pieces}
 use Rattle.xml_model.specs.Nest.{Forest, done, single, empty, element}
-use Rattle.xml_model.specs.Records.{Record, plain, named, declares, declaration_attributes, attributes_records, attributes_place, declaration_part_records, tag_records, leaf_records, depth_at, forest_records, past_leaf, past_empty, past_start, past_element}
+use Rattle.xml_model.specs.Records.{Record, cut, cuts, full_cuts, cut_records, plain, named, declares, declaration_attributes, attributes_records, attributes_place, declaration_part_records, tag_records, leaf_records, depth_at, forest_records, past_leaf, past_empty, past_start, past_element}
 use Rattle.xml_model.specs.Tree.{Step, Entry, Holder, Here, Thing, attributes, nodes, all, at_first, leaf_node, text_node, begins_run, has_content, is_text, run, after_leaf, inside_of, after_element, element_past, element_entry, tag_attributes, under, held, one_if}
 pub use Rattle.xml_model.specs.Scan.{is_start_token, is_text_token, run_has, joins_prev, begins_node, next_prev, starts}
+use Rattle.xml_model.proofs.Cuts.{Cut, full_cut, first_cut, each_cut}
 use Rattle.xml_model.proofs.Levels.{level_of, level_at, Shallow}
 use Rattle.xml_model.proofs.Fits.{Below, below_no_run, pieces_below}
 use Rattle.xml_model.proofs.Rise.{index}
@@ -68,6 +69,29 @@ declaration_start (a ∷ others) d at n prev rest =
     let h = declaration_start others d (at + size (written_attribute a)) (suc (suc n)) None rest in
     (h.0, h.1 ∙ ap (λ m. starts m h.0 rest) (omega arith), λ k. h.2 (λ m. refl))
 
+-- the cuts of a token have a byte where it has one
+have_of_cuts : (k l token d at n : ℕ) (rest : List Record) → Cut k n → is_text_token token ≡ true → cond (token == 0) d (cond (d == 255) 0 (suc d)) ≡ l →
+    run_has l (cuts k token d at n ++ rest) ≡ (nat_lt 0 n || run_has l rest)
+have_of_cuts zero l token d at n rest c t e = ap₂ (λ a b. (a && b) && (nat_lt 0 n || run_has l rest)) t (eq-eqb _ l e)
+have_of_cuts (suc k) l token d at n rest c t e =
+    ap₂ (λ a b. (a && b) && (nat_lt 0 1_048_575 || run_has l (cuts k token d (at + 1_048_575) (n - 1_048_575) ++ rest))) t (eq-eqb _ l e)
+    ∙ sym (ap (λ b. b || run_has l rest) (lt-ltb 0 n (omega (arith, c.least))))
+
+cuts_have : (l token d at n : ℕ) (rest : List Record) → is_text_token token ≡ true → cond (token == 0) d (cond (d == 255) 0 (suc d)) ≡ l →
+    run_has l (cut_records token d at n ++ rest) ≡ (nat_lt 0 n || run_has l rest)
+unfolding cut_records
+cuts_have l token d at n rest t e = have_of_cuts (full_cuts n) l token d at n rest (full_cut n) t e
+
+-- what is of a run and joins another begins no node
+cuts_join : (rs : List Record) (l n : ℕ) (rest : List Record) → Each (λ r. (is_start_token r.token ≡ false) × (is_text_token r.token ≡ true) × (level_of r ≡ l)) rs →
+    starts n (Some l) (rs ++ rest) ≡ starts (n + length rs) (Some l) rest
+cuts_join [] l n rest h = ap (λ m. starts m (Some l) rest) (sym (add-zero n))
+cuts_join (r ∷ rs) l n rest h =
+    let joins : joins_prev (Some l) (level_of r) ≡ true = eq-eqb l (level_of r) (sym h.0.2) in
+    ap₂ (λ a b. cond (a || (b && not (joins_prev (Some l) (level_of r)) && run_has (level_of r) (r ∷ (rs ++ rest)))) (n ∷ []) [] ++ starts (suc n) (cond b (Some (level_of r)) None) (rs ++ rest)) h.0.0 h.0.1
+    ∙ ap (λ c. cond (not c && run_has (level_of r) (r ∷ (rs ++ rest))) (n ∷ []) [] ++ starts (suc n) (Some (level_of r)) (rs ++ rest)) joins
+    ∙ ap (λ m. starts (suc n) (Some m) (rs ++ rest)) h.0.2 ∙ cuts_join rs l (suc n) rest h.1 ∙ ap (λ m. starts m (Some l) rest) (omega arith)
+
 -- a run has a byte where one of its leaves has content
 run_content : (f : Forest) (l at : ℕ) (rest : List Record) → suc l ≤ 255 → Proper (suc l) f → Below (suc l) rest → run_has (suc l) (forest_records (suc l) at f ++ rest) ≡ list_any has_content (run f)
 run_content done l at [] k p b = refl
@@ -75,9 +99,15 @@ run_content done l at (r ∷ rest) k p b = ap (λ t. t && (nat_lt 0 r.len || run
 run_content (empty t f) l at rest k p b = refl
 run_content (element t inside space f) l at rest k p b = refl
 run_content (single (Leaf.text ps) f) l at rest k p b =
-    ap₂ (λ t u. t && (u || run_has (suc l) (forest_records (suc l) (past_leaf at (Leaf.text ps)) f ++ rest))) (eq-eqb _ (suc l) (level_at (suc l) k)) (lt-ltb 0 (size (written_pieces ps)) p.0)
+    let more = forest_records (suc l) (past_leaf at (Leaf.text ps)) f in
+    ap (run_has (suc l)) (append_assoc (cut_records 5 l at (size (written_pieces ps))) more rest)
+    ∙ cuts_have (suc l) 5 l at (size (written_pieces ps)) (more ++ rest) refl (level_at (suc l) k)
+    ∙ ap (λ u. u || run_has (suc l) (more ++ rest)) (lt-ltb 0 (size (written_pieces ps)) p.0)
 run_content (single (Leaf.cdata cs) f) l at rest k p b =
-    ap₂ (λ t u. t && u) (eq-eqb _ (suc l) (level_at (suc l) k)) (ap₂ (λ u v. u || v) p.0 (run_content f l (past_leaf at (Leaf.cdata cs)) rest k p.1 b))
+    let more = forest_records (suc l) (past_leaf at (Leaf.cdata cs)) f in
+    ap (run_has (suc l)) (append_assoc (cut_records 11 l (at + 9) (size cs)) more rest)
+    ∙ cuts_have (suc l) 11 l (at + 9) (size cs) (more ++ rest) refl (level_at (suc l) k)
+    ∙ ap₂ (λ u v. u || v) p.0 (run_content f l (past_leaf at (Leaf.cdata cs)) rest k p.1 b)
 run_content (single (Leaf.comment cs) f) l at rest k p b = refl
 run_content (single (Leaf.instruction i) f) l at rest k p b = refl
 run_content (single (Leaf.declaration d) f) l at rest k p b = refl
@@ -114,24 +144,47 @@ begins_by : (joins : Bool) (t : Holder) (hs : List Holder) (xs : List Leaf) → 
 begins_by true t hs xs = refl
 begins_by false t hs xs = refl
 
--- a record of a text or a CDATA section at a level
-text_start : (r : Record) (x : Leaf) (f : Forest) (t : Holder) (hs : List Holder) (at n number : ℕ) (joins : Bool) (prev : Option ℕ) (rest : List Record) →
-    is_start_token r.token ≡ false → is_text_token r.token ≡ true → level_of r ≡ suc (length hs) →
-    run_has (suc (length hs)) (r ∷ rest) ≡ list_any has_content (x ∷ run f) → joins_prev prev (suc (length hs)) ≡ joins →
-    LeafScanned (suc (length hs)) n prev (r ∷ []) rest (map index (cons_option (text_node (record { holders = t ∷ hs; at = at; index = n; number = number; joins = joins }) (x ∷ run f)) [])) true
-text_start r x f t hs at n number joins prev rest s u e c j =
+-- the records of a text or a CDATA section at a level
+abbrev OfText : ℕ → Record → Type 0
+OfText l r = (is_start_token r.token ≡ false) × (is_text_token r.token ≡ true) × (level_of r ≡ l)
+
+text_start : (r : Record) (rs : List Record) (x : Leaf) (f : Forest) (t : Holder) (hs : List Holder) (at n number : ℕ) (joins : Bool) (prev : Option ℕ) (rest : List Record) →
+    Each (OfText (suc (length hs))) (r ∷ rs) →
+    run_has (suc (length hs)) (r ∷ (rs ++ rest)) ≡ list_any has_content (x ∷ run f) → joins_prev prev (suc (length hs)) ≡ joins →
+    LeafScanned (suc (length hs)) n prev (r ∷ rs) rest (map index (cons_option (text_node (record { holders = t ∷ hs; at = at; index = n; number = number; joins = joins }) (x ∷ run f)) [])) true
+text_start r rs x f t hs at n number joins prev rest o c j =
     let l = suc (length hs) in
-    let run_here : (is_start_token r.token || (is_text_token r.token && not (joins_prev prev (level_of r)) && run_has (level_of r) (r ∷ rest))) ≡ begins_run (t ∷ hs) joins (x ∷ run f) =
-    ap₂ (λ a b. a || (b && not (joins_prev prev (level_of r)) && run_has (level_of r) (r ∷ rest))) s u
-    ∙ ap (λ m. not (joins_prev prev m) && run_has m (r ∷ rest)) e ∙ ap₂ (λ a b. not a && b) j c ∙ begins_by joins t hs (x ∷ run f) in
+    let s = o.0.0 in
+    let u = o.0.1 in
+    let e = o.0.2 in
+    let more = rs ++ rest in
+    let run_here : (is_start_token r.token || (is_text_token r.token && not (joins_prev prev (level_of r)) && run_has (level_of r) (r ∷ more))) ≡ begins_run (t ∷ hs) joins (x ∷ run f) =
+    ap₂ (λ a b. a || (b && not (joins_prev prev (level_of r)) && run_has (level_of r) (r ∷ more))) s u
+    ∙ ap (λ m. not (joins_prev prev m) && run_has m (r ∷ more)) e ∙ ap₂ (λ a b. not a && b) j c ∙ begins_by joins t hs (x ∷ run f) in
     record {
       after = Some l;
-      aligned = ap₂ (λ a b. place_if a n ++ starts (suc n) (cond b (Some (level_of r)) None) rest) run_here u
-          ∙ ap (λ m. place_if (begins_run (t ∷ hs) joins (x ∷ run f)) n ++ starts (suc n) (Some m) rest) e
-          ∙ ap₂ (λ a m. a ++ starts m (Some l) rest) (sym (places_of (begins_run (t ∷ hs) joins (x ∷ run f)) _)) (sym (add-one n));
+      aligned = ap₂ (λ a b. place_if a n ++ starts (suc n) (cond b (Some (level_of r)) None) more) run_here u
+          ∙ ap (λ m. place_if (begins_run (t ∷ hs) joins (x ∷ run f)) n ++ starts (suc n) (Some m) more) e
+          ∙ ap (λ z. place_if (begins_run (t ∷ hs) joins (x ∷ run f)) n ++ z) (cuts_join rs l (suc n) rest o.1)
+          ∙ ap₂ (λ a m. a ++ starts m (Some l) rest) (sym (places_of (begins_run (t ∷ hs) joins (x ∷ run f)) _)) (omega arith);
       above = not_above l;
       joined = eq-eqb l l refl;
     }
+
+-- the same of all its cuts
+cuts_start : (token off size : ℕ) (x : Leaf) (f : Forest) (t : Holder) (hs : List Holder) (at n number : ℕ) (joins : Bool) (prev : Option ℕ) (rest : List Record) →
+    is_start_token token ≡ false → is_text_token token ≡ true → cond (token == 0) (length hs) (cond (length hs == 255) 0 (suc (length hs))) ≡ suc (length hs) →
+    run_has (suc (length hs)) (cut_records token (length hs) off size ++ rest) ≡ list_any has_content (x ∷ run f) → joins_prev prev (suc (length hs)) ≡ joins →
+    LeafScanned (suc (length hs)) n prev (cut_records token (length hs) off size) rest (map index (cons_option (text_node (record { holders = t ∷ hs; at = at; index = n; number = number; joins = joins }) (x ∷ run f)) [])) true
+cuts_start token off size x f t hs at n number joins prev rest s u e c j =
+    let l = suc (length hs) in
+    let d = length hs in
+    let h = first_cut token d off size in
+    let each : Each (OfText l) (cut_records token d off size) = each_cut (OfText l) token d off size (λ m o i. (s, u, e)) in
+    let places = map index (cons_option (text_node (record { holders = t ∷ hs; at = at; index = n; number = number; joins = joins }) (x ∷ run f)) []) in
+    subst (λ rs. LeafScanned l n prev rs rest places true) (sym h.is)
+    (text_start (cut token d h.len off) h.rest x f t hs at n number joins prev rest (subst (Each (OfText l)) h.is each)
+    (ap (λ rs. run_has l (rs ++ rest)) (sym h.is) ∙ c) j)
 
 leaf_start : (x : Leaf) (f : Forest) (holders : List Holder) (at n number : ℕ) (joins : Bool) (prev : Option ℕ) (rest : List Record) → length holders ≤ 255 → Proper (length holders) (single x f) → Below (length holders) rest →
     Above (length holders) prev → Joins (length holders) prev joins →
@@ -140,11 +193,13 @@ leaf_start : (x : Leaf) (f : Forest) (holders : List Holder) (at n number : ℕ)
 leaf_start (Leaf.text ps) f [] at n number joins prev rest k p b a j = record { after = prev; aligned = ap (λ m. starts m prev (forest_records 0 (past_leaf at (Leaf.text ps)) f ++ rest)) (sym (add-zero n)); above = a; joined = tt }
 leaf_start (Leaf.cdata cs) f [] at n number joins prev rest k p b a j = absurd p.0
 leaf_start (Leaf.text ps) f (t ∷ hs) at n number joins prev rest k p b a j =
-    text_start (plain 5 (length hs) (written_pieces ps) at) (Leaf.text ps) f t hs at n number joins prev (forest_records (suc (length hs)) (past_leaf at (Leaf.text ps)) f ++ rest) refl refl (level_at (suc (length hs)) k)
-    (run_content (single (Leaf.text ps) f) (length hs) at rest k p b) j
+    let more = forest_records (suc (length hs)) (past_leaf at (Leaf.text ps)) f in
+    cuts_start 5 at (size (written_pieces ps)) (Leaf.text ps) f t hs at n number joins prev (more ++ rest) refl refl (level_at (suc (length hs)) k)
+    (ap (run_has (suc (length hs))) (sym (append_assoc (cut_records 5 (length hs) at (size (written_pieces ps))) more rest)) ∙ run_content (single (Leaf.text ps) f) (length hs) at rest k p b) j
 leaf_start (Leaf.cdata cs) f (t ∷ hs) at n number joins prev rest k p b a j =
-    text_start (plain 11 (length hs) cs (at + 9)) (Leaf.cdata cs) f t hs at n number joins prev (forest_records (suc (length hs)) (past_leaf at (Leaf.cdata cs)) f ++ rest) refl refl (level_at (suc (length hs)) k)
-    (run_content (single (Leaf.cdata cs) f) (length hs) at rest k p b) j
+    let more = forest_records (suc (length hs)) (past_leaf at (Leaf.cdata cs)) f in
+    cuts_start 11 (at + 9) (size cs) (Leaf.cdata cs) f t hs at n number joins prev (more ++ rest) refl refl (level_at (suc (length hs)) k)
+    (ap (run_has (suc (length hs))) (sym (append_assoc (cut_records 11 (length hs) (at + 9) (size cs)) more rest)) ∙ run_content (single (Leaf.cdata cs) f) (length hs) at rest k p b) j
 leaf_start (Leaf.comment cs) f holders at n number joins prev rest k p b a j =
     let more = forest_records (length holders) (past_leaf at (Leaf.comment cs)) f ++ rest in
     record { after = None; aligned = ap (λ m. n ∷ starts m None more) (sym (add-one n)); above = λ m i. refl; joined = joins_none (length holders) }

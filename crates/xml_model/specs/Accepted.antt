@@ -145,7 +145,7 @@ is_name_token n =
     ∷ kind_number token.NamespaceName ∷ kind_number token.Target ∷ kind_number token.PartName ∷ [])
 
 -- the field of a record that is too wide: of names the whole first (2,047 bytes) and then the prefix (511), of others
--- the token (1,048,575)
+-- the token (1,048,575). The records of texts and CDATA sections never are
 abbrev pub too_wide : Record → Option Field
 too_wide r =
     cond (is_name_token r.token)

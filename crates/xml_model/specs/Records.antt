@@ -1,6 +1,6 @@
 -- The records of a nest: for each token its type, the depth, the lengths of its prefix and of the whole, and its
 -- place. All of it is this project's own.
-use Rattle.std.specs.Prelude.{ℕ, zero, suc, ◌+◌, ◌*◌, ◌^◌, Bool, cond, ◌||◌, List, [], ◌∷◌, ◌++◌, codes, bytes_eq}
+use Rattle.std.specs.Prelude.{ℕ, zero, suc, ◌+◌, ◌-◌, ◌*◌, ◌/◌, ◌^◌, Bool, cond, ◌||◌, List, [], ◌∷◌, ◌++◌, codes, bytes_eq}
 use Rattle.std.specs.Prelude.{option_to_list}
 use Rattle.xml_model.specs.Chars.{size, prefix_of, begins}
 use Rattle.xml_model.specs.Items.{Attribute, Tag, Declaration, Leaf, text, cdata, declaration, doctype}
@@ -92,15 +92,41 @@ abbrev pub depth_at : ℕ → ℕ
 depth_at zero = 255
 depth_at (suc d) = d
 
--- the record of a text, where an element holds it; outside the root element it has none
-abbrev pub text_records : ℕ → Record → List Record
-text_records zero p = []
-text_records (suc d) p = p ∷ []
+-- the most bytes that one record of a text or a CDATA section has
+abbrev pub cut_limit : ℕ
+cut_limit = 1_048_575
+
+-- the record of so many bytes of a text or a CDATA section from a place on
+abbrev pub cut : ℕ → ℕ → ℕ → ℕ → Record
+cut token depth len offset =
+    record { token = token; depth = depth; prefix = 0; len = len; offset = offset }
+
+-- the records of n bytes from a place on: so many cuts of 1,048,575 bytes each, and one of what they leave
+abbrev pub cuts : ℕ → ℕ → ℕ → ℕ → ℕ → List Record
+cuts zero token depth at n = cut token depth n at ∷ []
+cuts (suc k) token depth at n =
+    cut token depth cut_limit at ∷ cuts k token depth (at + cut_limit) (n - cut_limit)
+
+-- how many cuts of 1,048,575 bytes are before the last one of n bytes, which has 1 to 1,048,575; no bytes have one cut
+abbrev pub full_cuts : ℕ → ℕ
+full_cuts n = (n - 1) / cut_limit
+
+-- the records of a text or a CDATA section of n bytes from a place on: one where it has at most 1,048,575 bytes, else
+-- one for each 1,048,575 bytes, and one for the 1 to 1,048,575 bytes that are left. A cut may be inside a character, a
+-- reference or a line end
+unfoldable pub cut_records : ℕ → ℕ → ℕ → ℕ → List Record
+cut_records token depth at n = cuts (full_cuts n) token depth at n
+
+-- the records of a text, where an element holds it; outside the root element it has none
+abbrev pub text_records : ℕ → List Record → List Record
+text_records zero rs = []
+text_records (suc d) rs = rs
 
 -- the records of a leaf at a level, which begins at a place
 abbrev pub leaf_records : ℕ → ℕ → Leaf → List Record
-leaf_records l at (text ps) = text_records l (plain (kind_number token.Text) (depth_at l) (written_pieces ps) at)
-leaf_records l at (cdata cs) = plain (kind_number token.Cdata) (depth_at l) cs (at + 9) ∷ []
+leaf_records l at (text ps) =
+    text_records l (cut_records (kind_number token.Text) (depth_at l) at (size (written_pieces ps)))
+leaf_records l at (cdata cs) = cut_records (kind_number token.Cdata) (depth_at l) (at + 9) (size cs)
 leaf_records l at (Leaf.comment cs) = plain (kind_number token.Comment) (depth_at l) cs (at + 4) ∷ []
 leaf_records l at (Leaf.instruction i) =
     plain (kind_number token.Target) (depth_at l) i.target (at + 2)

@@ -9,15 +9,16 @@ ghost use Rattle.std.specs.Option.{option_map};
 ghost use Rattle.xml_model.specs.declared.Axis.{Axis};
 ghost use Rattle.xml_model.specs.declared.Axis.TheVariants as axes;
 ghost use Rattle.xml_model.specs.declared.DocFault.{DocFault};
-ghost use Rattle.xml_model.specs.Items.{Item, meets, walk, walk_to_end};
+ghost use Rattle.xml_model.specs.Items.{Item, Leaf, first_place, meets, walk, walk_to_end};
 ghost use Rattle.xml_model.specs.Nest.{Forest, flat, is_nest};
-ghost use Rattle.xml_model.specs.Records.{records};
-ghost use Rattle.xml_model.specs.Tree.{Entry, all, at_index, axis_list, kind_of, on_axis};
+ghost use Rattle.xml_model.specs.Records.{records, run_records};
+ghost use Rattle.xml_model.specs.Tree.{Entry, all, at_index, axis_list, kind_of, on_axis, text};
 ghost use Rattle.xml_model.specs.Scan.{begins_by_scan, end_by_scan, holder_by_scan, kind_by_scan, past_by_scan};
 ghost use Rattle.xml_model.specs.Scan.{starts_by_scan, EndsAt};
 ghost use Rattle.xml_model.specs.Accepted.{Accepted, AcceptedTo, IsDocument, IsRefusal};
 ghost use Rattle.xml_model.specs.Levels.{at_depth, tags_from};
 ghost use Rattle.xml_model.specs.Slots.{holder_indexes, slots_after};
+ghost use Rattle.xml_model.specs.Wholes.{run_wholes, wholes};
 ghost use Rattle.xml_model.specs.Laws.{by_indexes, holder_index, is_root_thing, list_by_indexes, FirstRecordShows};
 ghost use Rattle.xml_model.specs.Laws.{HasParent, IsNode, OneItem, IndexesDecide, HasRecords, SiblingsDecide};
 
@@ -77,6 +78,14 @@ pub fn one_node()
 pub fn nodes_have_records()
     ensures { (nest : Forest) (first : ℕ) → is_nest nest ≡ true →
         (e : Entry) → IsNode nest first e → HasRecords (records nest first) e }
+{}
+
+/// Of the records of a text node one begins where the one before it ends exactly where both are of one text, or of one
+/// CDATA section: where each that does is joined with the one before it, there is one for each of these.
+pub fn tokens_by_places()
+    ensures { (bytes : List ℕ) (nest : Forest) → IsDocument bytes nest →
+        (e : Entry) → IsNode nest (first_place bytes) e → (xs : List Leaf) → e.what ≡ text xs →
+        wholes (run_records (length e.holders) e.start xs) ≡ run_wholes (length e.holders) e.start xs }
 {}
 
 /// The first record of a node shows its kind and how many elements hold it.
