@@ -2,24 +2,31 @@
 #![tactic(auto)]
 
 mod adapters;
-pub mod commands;
-mod listing;
-pub mod running;
-mod spans;
-#[cfg(test)]
-mod tests;
 
 use adapters::{Input, Output, SystemFiles};
-use running::{Status, run};
 use std::env;
+use std::io::ErrorKind;
 use std::process::ExitCode;
+pub use vtd_running::{Status, run};
+use xml_model::NoMemory;
 
-fn main(rt: HostRuntime) -> ExitCode {
-    let Ok(mut words) = env::args(&rt) else {
-        return ExitCode::from(Status::NoMemory.number());
+/// The words after the program's name. Words that are not UTF-8 are not of the form, as no words are.
+fn words_of(rt: &HostRuntime) -> Result<Vec<String>, NoMemory> {
+    let mut words = match env::args(rt) {
+        Ok(words) => words,
+        Err(error) => {
+            return match error.kind() {
+                ErrorKind::InvalidData => Ok(Vec::new(rt.alloc())),
+                _ => Err(NoMemory),
+            };
+        }
     };
     let _program = words.next();
-    let Ok(words) = words.collect::<Vec<String>>(rt.alloc()) else {
+    words.collect(rt.alloc()).map_err(|_| NoMemory)
+}
+
+fn main(rt: HostRuntime) -> ExitCode {
+    let Ok(words) = words_of(&rt) else {
         return ExitCode::from(Status::NoMemory.number());
     };
     let mut files = SystemFiles::new(&rt);

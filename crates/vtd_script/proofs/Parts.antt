@@ -25,7 +25,7 @@ use Rattle.vtd_script.specs.declared.endings.StepFault.TheVariants as faults
 nothing_more : (taken : Option (List ℕ)) (sent : List ℕ) → taken ≡ Some sent → taken ≡ Some (sent ++ [])
 nothing_more taken sent e = e ∙ ap (λ (xs : List ℕ). Some xs) (sym (append-nil sent))
 
-prefix_of : (count : ℕ) (lines whole : List ℕ) → lines ≡ whole → IsPrefix (take count lines) whole
+pub prefix_of : (count : ℕ) (lines whole : List ℕ) → lines ≡ whole → IsPrefix (take count lines) whole
 prefix_of count lines whole e = record { more = drop count lines; split = sym e ∙ sym (take-append-drop count lines) }
 
 -- the second part, where the lines were sent or not

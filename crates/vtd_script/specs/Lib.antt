@@ -3,6 +3,7 @@ pub mod Fields
 pub mod Commands
 pub mod Readings
 pub mod Listing
+pub mod Faults
 pub mod Spans
 pub mod States
 pub mod Steps

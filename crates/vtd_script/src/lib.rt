@@ -4,6 +4,7 @@
 mod carrying;
 mod commands;
 mod endings;
+mod faults;
 mod fields;
 pub mod laws;
 mod lines;
@@ -15,6 +16,7 @@ mod spans;
 pub use carrying::carry_out;
 pub use commands::{Command, LineFault, read_line};
 pub use endings::{End, Ending, StepFault};
+pub use faults::fault_line;
 pub use lines::{Line, next_line};
 pub use refusals::Refusal;
 pub use session::Session;

@@ -24,7 +24,10 @@ fn push_digit(lines: &mut Vec<u8>, digit: u8) -> Result<(), NoMemory>
 }
 
 /// Adds the decimal digits of a number.
-fn push_decimal(lines: &mut Vec<u8>, number: u64) -> Result<(), NoMemory>
+///
+/// # Errors
+/// `NoMemory` where the memory for them was not to be had.
+pub fn push_decimal(lines: &mut Vec<u8>, number: u64) -> Result<(), NoMemory>
     ensures { OnOk result (lines.new.items ≡ lines.old.items ++ decimal number) }
 {
     if number < 10 {

@@ -1,0 +1,252 @@
+-- Words, files and a script mean one outcome, and a run without a fault ends with it or for want of memory.
+use Rattle.std.proofs.Common.{◌≡◌, ℕ, ◌≤◌, ◌<◌, ◌⊎◌, inl, inr, Bool, List, [], length, drop, Option, Some, None}
+use Rattle.std.proofs.Common.{refl, sym, ap, ◌∙◌, subst, arith}
+use Rattle.std.proofs.lemmas.Option.{same_Some, none-some}
+use Rattle.vtd_outside.specs.Known.{NameMap}
+use Rattle.xml_model.specs.declared.DocFault.{DocFault}
+use Rattle.xml_model.specs.declared.DocFault.TheVariants as faults
+use Rattle.xml_model.specs.Nest.{Forest}
+use Rattle.xml_model.specs.Accepted.{Accepted, IsRefusal, layer}
+use Rattle.xml_acceptance.proofs.OneAnswer as answers
+use Rattle.xml_acceptance.proofs.SomeAnswer as some
+use Rattle.vtd_script.specs.Lines.{lines}
+use Rattle.vtd_script.specs.Faults.{fault_line}
+use Rattle.vtd_script.specs.States.{State}
+use Rattle.vtd_script.specs.Runs as script
+use Rattle.vtd_script.specs.declared.endings.End.{End}
+use Rattle.vtd_script.specs.declared.endings.End.TheVariants as ends
+use Rattle.vtd_script.proofs.RunLaws as laws
+use Rattle.vtd_running.specs.Form.{Form, document, no_form}
+use Rattle.vtd_running.specs.Statuses.{status_of, IsMeant}
+use Rattle.vtd_running.specs.Meaning.{Outcome, EndsWith, RunsScript, RunsDocument, RunsName, RunsUsage, Runs, Ran, Means}
+use Rattle.vtd_running.specs.Meaning.{script_limit, document_limit, script_long_line, document_long_line, usage_line, first_state}
+use Rattle.vtd_running.specs.Meaning.{script_unread, script_unkept, script_long, carried, document_long, document_unfit, accepted}
+use Rattle.vtd_running.specs.Meaning.{document_missing, document_unread, document_unkept, there, words_unkept, told, nothing_done, only_printed}
+use Rattle.vtd_running.specs.declared.status.Status.{Status}
+use Rattle.vtd_running.specs.declared.status.Status.TheVariants as statuses
+
+-- ---- the last line of a run
+
+-- without a fault all of it was sent
+record WholeLine (line : List ℕ) (status : Status) (sent : List ℕ) (result : Status) : Type 0 where
+  pub same_line : sent ≡ line
+  pub same_status : result ≡ status
+
+whole_line : (rose : Type 0) (line : List ℕ) (status : Status) (sent : List ℕ) (result : Status) → (rose → ⊥) → EndsWith rose line status sent result
+    → WholeLine line status sent result
+whole_line rose line status sent result n e = elim e [ inl q ↦ record { same_line = q.0; same_status = q.1 } | inr q ↦ absurd (n q.1) ]
+
+-- a meaning of a kind, unless there was no memory
+abbrev pub MeansOr : (Outcome → Type 0) → Outcome → Type 0
+MeansOr kind m = (m.status ≡ statuses.NoMemory) ⊎ (IsMeant m.status × kind m)
+
+meant_line : (rose : Type 0) (line : List ℕ) (status : Status) (sent : List ℕ) (result : Status) → (rose → ⊥) → IsMeant status
+    → EndsWith rose line status sent result → IsMeant result × EndsWith ⊥ line status sent result
+meant_line rose line status sent result n i e =
+    let w = whole_line rose line status sent result n e in
+    (subst IsMeant (sym w.same_status) i, inl (w.same_line, w.same_status))
+
+-- ---- exactly what is meant
+
+meant_end : (end : End) → script.IsMeant end → IsMeant (status_of end)
+meant_end ends.Done h = tt
+meant_end ends.Stopped h = tt
+meant_end ends.WriteFault h = absurd h
+meant_end ends.FileFault h = tt
+meant_end ends.NoMemory h = absurd h
+
+end_meant : (end : End) → IsMeant (status_of end) → script.IsMeant end
+end_meant ends.Done h = tt
+end_meant ends.Stopped h = tt
+end_meant ends.WriteFault h = absurd h
+end_meant ends.FileFault h = tt
+end_meant ends.NoMemory h = absurd h
+
+exact_script : (sr fr or : Type 0) (keep : Bool) (s : State) (text : List ℕ) (m : Outcome) → (sr → ⊥) → (fr → ⊥) → (or → ⊥)
+    → RunsScript sr fr or keep s text m
+    → MeansOr (RunsScript ⊥ ⊥ ⊥ keep s text) m
+exact_script sr fr or keep s text m ns nf nw (script_unread left t r) = absurd (ns r)
+exact_script sr fr or keep s text m ns nf nw (script_unkept left t) = inl refl
+exact_script sr fr or keep s text m ns nf nw (script_long l sent status e) =
+    let w = meant_line or script_long_line statuses.Refused sent status nw tt e in
+    inr (w.0, script_long l sent status w.1)
+exact_script sr fr or keep s text m ns nf nw (carried l end out files e) = elim (laws.exact fr or keep s (lines text) end out files nf nw e) [
+  | inl q ↦ inl (ap status_of q)
+  | inr q ↦ inr (meant_end end q.meant, carried l end out files q.ends)
+]
+
+exact_document : (sr fr or : Type 0) (keep : Bool) (files : NameMap) (bytes text : List ℕ) (m : Outcome) → (sr → ⊥) → (fr → ⊥) → (or → ⊥)
+    → RunsDocument sr fr or keep files bytes text m → MeansOr (RunsDocument ⊥ ⊥ ⊥ keep files bytes text) m
+exact_document sr fr or keep files bytes text m ns nf nw (document_long l sent status e) =
+    let w = meant_line or document_long_line statuses.Refused sent status nw tt e in
+    inr (w.0, document_long l sent status w.1)
+exact_document sr fr or keep files bytes text m ns nf nw (document_unfit l fault r sent status e) =
+    let w = meant_line or (fault_line fault) statuses.Refused sent status nw tt e in
+    inr (w.0, document_unfit l fault r sent status w.1)
+exact_document sr fr or keep files bytes text m ns nf nw (accepted l nest a x h) =
+    elim (exact_script sr fr or keep (first_state bytes files) text x ns nf nw h) [ inl q ↦ inl q | inr q ↦ inr (q.0, accepted l nest a x q.1) ]
+
+exact_name : (sr fr or : Type 0) (keep : Bool) (files : NameMap) (name text : List ℕ) (m : Outcome) → (sr → ⊥) → (fr → ⊥) → (or → ⊥)
+    → RunsName sr fr or keep files name text m → MeansOr (RunsName ⊥ ⊥ ⊥ keep files name text) m
+exact_name sr fr or keep files name text m ns nf nw (document_missing e) = inr (tt, document_missing e)
+exact_name sr fr or keep files name text m ns nf nw (document_unread r) = absurd (nf r)
+exact_name sr fr or keep files name text m ns nf nw document_unkept = inl refl
+exact_name sr fr or keep files name text m ns nf nw (there bytes e x h) =
+    elim (exact_document sr fr or keep files bytes text x ns nf nw h) [ inl q ↦ inl q | inr q ↦ inr (q.0, there bytes e x q.1) ]
+
+exact_usage : (er : Type 0) (files : NameMap) (text : List ℕ) (m : Outcome) → (er → ⊥) → RunsUsage er files text m → MeansOr (RunsUsage ⊥ files text) m
+exact_usage er files text m ne words_unkept = inl refl
+exact_usage er files text m ne (told sent status e) =
+    let w = meant_line er usage_line statuses.Usage sent status ne tt e in
+    inr (w.0, told sent status w.1)
+
+exact_runs : (sr fr or er : Type 0) (asked : Form) (files : NameMap) (text : List ℕ) (m : Outcome) → (sr → ⊥) → (fr → ⊥) → (or → ⊥) → (er → ⊥)
+    → Runs sr fr or er asked files text m → MeansOr (Runs ⊥ ⊥ ⊥ ⊥ asked files text) m
+exact_runs sr fr or er (document name keep) files text m ns nf nw ne h = exact_name sr fr or keep files name text m ns nf nw h
+exact_runs sr fr or er no_form files text m ns nf nw ne h = exact_usage er files text m ne h
+
+pub exact_ran : (sr fr or er : Type 0) (asked : Form) (files : NameMap) (text : List ℕ) (files_after : Option NameMap) (left_after : Option (List ℕ))
+    (out : List ℕ) (out_after : Option (List ℕ)) (err : List ℕ) (err_after : Option (List ℕ)) (status : Status) → (sr → ⊥) → (fr → ⊥) → (or → ⊥) → (er → ⊥)
+    → Ran (Runs sr fr or er asked files text) files_after left_after out out_after err err_after status
+    → (status ≡ statuses.NoMemory) ⊎ Ran (Means asked files text) files_after left_after out out_after err err_after status
+exact_ran sr fr or er asked files text fa la out oa err ea status ns nf nw ne r = elim (exact_runs sr fr or er asked files text r.m ns nf nw ne r.is_kind) [
+  | inl q ↦ inl (r.status_is ∙ q)
+  | inr q ↦ inr (record {
+    m = r.m;
+    is_kind = record { meant = q.0; runs = q.1 };
+    files_are = r.files_are;
+    script_left = r.script_left;
+    out_taken = r.out_taken;
+    err_taken = r.err_taken;
+    status_is = r.status_is;
+  })
+]
+
+-- ---- one outcome
+
+silent : ⊥ → ⊥
+silent h = h
+
+same_line : (line : List ℕ) (status : Status) (kind : List ℕ → Status → Outcome) (a b : List ℕ) (x y : Status) → EndsWith ⊥ line status a x
+    → EndsWith ⊥ line status b y → kind a x ≡ kind b y
+same_line line status kind a b x y e f =
+    let v = whole_line ⊥ line status a x silent e in
+    let w = whole_line ⊥ line status b y silent f in
+    ap (λ (s : List ℕ). kind s x) (v.same_line ∙ sym w.same_line) ∙ ap (λ (s : Status). kind b s) (v.same_status ∙ sym w.same_status)
+
+one_script : (keep : Bool) (s : State) (text : List ℕ) (m n : Outcome) → IsMeant m.status → IsMeant n.status → RunsScript ⊥ ⊥ ⊥ keep s text m
+    → RunsScript ⊥ ⊥ ⊥ keep s text n → m ≡ n
+one_script keep s text m n p q (script_unread left t r) y = absurd r
+one_script keep s text m n p q (script_unkept left t) y = absurd p
+one_script keep s text m n p q (script_long l a x e) (script_unread left t r) = absurd r
+one_script keep s text m n p q (script_long l a x e) (script_unkept left t) = absurd q
+one_script keep s text m n p q (script_long l a x e) (script_long k b y f) =
+    same_line script_long_line statuses.Refused (λ sent status. only_printed sent s.files (drop 16_777_217 text) status) a b x y e f
+one_script keep s text m n p q (script_long l a x e) (carried k end out files f) = absurd (omega arith)
+one_script keep s text m n p q (carried k end out files f) (script_unread left t r) = absurd r
+one_script keep s text m n p q (carried k end out files f) (script_unkept left t) = absurd q
+one_script keep s text m n p q (carried k end out files f) (script_long l a x e) = absurd (omega arith)
+one_script keep s text m n p q (carried k end out files f) (carried j other bytes map g) =
+    ap (λ (o : script.Outcome). only_printed o.out o.files [] (status_of o.end)) (laws.one_meaning keep s (lines text) _ _
+    (record { meant = end_meant end p; ends = f }) (record { meant = end_meant other q; ends = g }))
+
+-- there are eight layers
+last_layer : (fault : DocFault) → layer fault ≤ 8
+last_layer (faults.Utf8 at) = omega arith
+last_layer (faults.Syntax at) = omega arith
+last_layer (faults.Entity at) = omega arith
+last_layer (faults.Encoding at) = omega arith
+last_layer (faults.Nesting at) = omega arith
+last_layer (faults.Depth at) = omega arith
+last_layer (faults.Width field at) = omega arith
+last_layer (faults.Twice at) = omega arith
+last_layer (faults.Namespace at) = omega arith
+
+not_both : (bytes : List ℕ) (nest : Forest) (fault : DocFault) → Accepted 8 bytes nest → IsRefusal bytes fault → ⊥
+not_both bytes nest fault a r = answers.not_both 8 bytes nest fault a (last_layer fault) r
+
+one_document : (keep : Bool) (files : NameMap) (bytes text : List ℕ) (m n : Outcome) → IsMeant m.status → IsMeant n.status
+    → RunsDocument ⊥ ⊥ ⊥ keep files bytes text m → RunsDocument ⊥ ⊥ ⊥ keep files bytes text n → m ≡ n
+one_document keep files bytes text m n p q (document_long l a x e) (document_long k b y f) =
+    same_line document_long_line statuses.Refused (λ sent status. only_printed sent files text status) a b x y e f
+one_document keep files bytes text m n p q (document_long l a x e) (document_unfit k fault r b y f) = absurd (omega arith)
+one_document keep files bytes text m n p q (document_long l a x e) (accepted k nest d o h) = absurd (omega arith)
+one_document keep files bytes text m n p q (document_unfit k fault r b y f) (document_long l a x e) = absurd (omega arith)
+one_document keep files bytes text m n p q (document_unfit l fault r a x e) (document_unfit k other t b y f) =
+    let P : DocFault → Type 0 = λ z. EndsWith ⊥ (fault_line z) statuses.Refused a x in
+    same_line (fault_line other) statuses.Refused (λ sent status. only_printed sent files text status) a b x y
+    (subst P (answers.one_refusal bytes fault other r t) e) f
+one_document keep files bytes text m n p q (document_unfit k fault r b y f) (accepted l nest d o h) = absurd (not_both bytes nest fault d r)
+one_document keep files bytes text m n p q (accepted k nest d o h) (document_long l a x e) = absurd (omega arith)
+one_document keep files bytes text m n p q (accepted l nest d o h) (document_unfit k fault r b y f) = absurd (not_both bytes nest fault d r)
+one_document keep files bytes text m n p q (accepted l nest d o h) (accepted k other c x g) = one_script keep (first_state bytes files) text o x p q h g
+
+one_name : (keep : Bool) (files : NameMap) (name text : List ℕ) (m n : Outcome) → IsMeant m.status → IsMeant n.status
+    → RunsName ⊥ ⊥ ⊥ keep files name text m → RunsName ⊥ ⊥ ⊥ keep files name text n → m ≡ n
+one_name keep files name text m n p q (document_unread r) y = absurd r
+one_name keep files name text m n p q document_unkept y = absurd p
+one_name keep files name text m n p q (document_missing e) (document_unread r) = absurd r
+one_name keep files name text m n p q (document_missing e) document_unkept = absurd q
+one_name keep files name text m n p q (document_missing e) (document_missing f) = refl
+one_name keep files name text m n p q (document_missing e) (there bytes f o h) = absurd (none-some bytes (sym e ∙ f))
+one_name keep files name text m n p q (there bytes f o h) (document_unread r) = absurd r
+one_name keep files name text m n p q (there bytes f o h) document_unkept = absurd q
+one_name keep files name text m n p q (there bytes f o h) (document_missing e) = absurd (none-some bytes (sym e ∙ f))
+one_name keep files name text m n p q (there bytes f o h) (there other g x k) =
+    let P : List ℕ → Type 0 = λ b. RunsDocument ⊥ ⊥ ⊥ keep files b text x in
+    one_document keep files bytes text o x p q h (subst P (same_Some other bytes (sym g ∙ f)) k)
+
+one_usage : (files : NameMap) (text : List ℕ) (m n : Outcome) → IsMeant m.status → IsMeant n.status → RunsUsage ⊥ files text m
+    → RunsUsage ⊥ files text n → m ≡ n
+one_usage files text m n p q words_unkept y = absurd p
+one_usage files text m n p q (told a x e) words_unkept = absurd q
+one_usage files text m n p q (told a x e) (told b y f) =
+    same_line usage_line statuses.Usage (λ sent status. record { out = []; err = sent; files = files; left = text; status = status }) a b x y e f
+
+one_run : (asked : Form) (files : NameMap) (text : List ℕ) (m n : Outcome) → IsMeant m.status → IsMeant n.status → Runs ⊥ ⊥ ⊥ ⊥ asked files text m
+    → Runs ⊥ ⊥ ⊥ ⊥ asked files text n → m ≡ n
+one_run (document name keep) files text m n p q h k = one_name keep files name text m n p q h k
+one_run no_form files text m n p q h k = one_usage files text m n p q h k
+
+pub one_outcome : (asked : Form) (files : NameMap) (text : List ℕ) (m n : Outcome) → Means asked files text m → Means asked files text n → m ≡ n
+one_outcome asked files text m n h k = one_run asked files text m n h.meant k.meant h.runs k.runs
+
+-- ---- some outcome
+
+abbrev pub Some' : (Outcome → Type 0) → Type 0
+Some' kind = (m : Outcome) × IsMeant m.status × kind m
+
+within_or_not : (limit n : ℕ) → (n ≤ limit) ⊎ (limit < n)
+within_or_not limit n = grind arith
+
+some_script : (keep : Bool) (s : State) (text : List ℕ) → ((m : script.Outcome) × script.Means keep s (lines text) m) → Some' (RunsScript ⊥ ⊥ ⊥ keep s text)
+some_script keep s text meaning = elim (within_or_not script_limit (length text)) [
+  | inl l ↦ (_, meant_end meaning.0.end meaning.1.meant, carried l meaning.0.end meaning.0.out meaning.0.files meaning.1.ends)
+  | inr l ↦ (_, tt, script_long l script_long_line statuses.Refused (inl (refl, refl)))
+]
+
+some_document : (keep : Bool) (files : NameMap) (bytes text : List ℕ) → Some' (RunsDocument ⊥ ⊥ ⊥ keep files bytes text)
+some_document keep files bytes text = elim (within_or_not document_limit (length bytes)) [
+  | inl l ↦ elim (some.some_answer bytes 8 (omega arith)) [
+    | inl a ↦
+        let r = some_script keep (first_state bytes files) text (laws.some_meaning keep (first_state bytes files) (lines text) a) in
+        (r.0, r.1, accepted l a.0 a.1 r.0 r.2)
+    | inr r ↦ (_, tt, document_unfit l r.0 r.2 (fault_line r.0) statuses.Refused (inl (refl, refl)))
+  ]
+  | inr l ↦ (_, tt, document_long l document_long_line statuses.Refused (inl (refl, refl)))
+]
+
+some_name : (keep : Bool) (files : NameMap) (name text : List ℕ) (file : Option (List ℕ)) → files name ≡ file → Some' (RunsName ⊥ ⊥ ⊥ keep files name text)
+some_name keep files name text None e = (_, tt, document_missing e)
+some_name keep files name text (Some bytes) e =
+    let r = some_document keep files bytes text in
+    (r.0, r.1, there bytes e r.0 r.2)
+
+some_run : (asked : Form) (files : NameMap) (text : List ℕ) → Some' (Runs ⊥ ⊥ ⊥ ⊥ asked files text)
+some_run (document name keep) files text = some_name keep files name text (files name) refl
+some_run no_form files text = (_, tt, told usage_line statuses.Usage (inl (refl, refl)))
+
+pub some_meaning : (asked : Form) (files : NameMap) (text : List ℕ) → (m : Outcome) × Means asked files text m
+some_meaning asked files text =
+    let r = some_run asked files text in
+    (r.0, record { meant = r.1; runs = r.2 })

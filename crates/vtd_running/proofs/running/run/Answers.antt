@@ -1,0 +1,30 @@
+use Rattle.std.proofs.Common.{◌≡◌, ◌∙◌, sym, ap, map, string_bytes}
+use Rattle.vtd_running.specs.Form.{form, document, no_form}
+use Rattle.vtd_running.specs.Seen.{form_seen}
+use Rattle.vtd_running.proofs.Endings.{ran_document, ran_usage, ran_no_memory}
+use Rattle.vtd_running.proofs.Outcomes.{exact_ran}
+use Rattle.vtd_running.proofs.running.run.Goals as goal
+
+pub returns-in-Ok-Document-clause-ends : goal.returns-in-Ok-Document-clause-ends
+returns-in-Ok-Document-clause-ends g c = λ contents left taken known files from to errs.
+    ran_document _ _ _ _ _ c.in-Ok-Document.name.now c.in-Ok-Document.keep contents left _ _ taken _ known _ c.run_document.result
+    (sym (ap form_seen c.in-Ok-Document.field-0-is) ∙ c.in-Ok-Document.ensures) (c.run_document.ensures.known contents left taken files from to) errs
+
+pub returns-in-Ok-NoForm-clause-ends : goal.returns-in-Ok-NoForm-clause-ends
+returns-in-Ok-NoForm-clause-ends g c = λ contents left taken known files from to errs.
+    ran_usage _ _ _ _ _ contents left _ _ taken _ known _ c.say_usage.result
+    (sym (ap form_seen c.in-Ok-NoForm.field-0-is) ∙ c.in-Ok-NoForm.ensures) (c.say_usage.ensures.known known errs) files from to
+
+pub returns-in-Err-clause-ends : goal.returns-in-Err-clause-ends
+returns-in-Err-clause-ends g c = λ contents left taken known files from to errs.
+    ran_no_memory _ _ _ _ _ contents left _ _ taken _ known _ files from to errs
+
+pub returns-in-Ok-Document-clause-exact : goal.returns-in-Ok-Document-clause-exact
+returns-in-Ok-Document-clause-exact g c = λ contents left taken known files from to errs noread nofile nowrite noerr.
+    exact_ran _ _ _ _ _ contents left _ _ taken _ known _ c.run_document.result noread nofile nowrite noerr
+    (returns-in-Ok-Document-clause-ends g c contents left taken known files from to errs)
+
+pub returns-in-Ok-NoForm-clause-exact : goal.returns-in-Ok-NoForm-clause-exact
+returns-in-Ok-NoForm-clause-exact g c = λ contents left taken known files from to errs noread nofile nowrite noerr.
+    exact_ran _ _ _ _ _ contents left _ _ taken _ known _ c.say_usage.result noread nofile nowrite noerr
+    (returns-in-Ok-NoForm-clause-ends g c contents left taken known files from to errs)

@@ -1,0 +1,132 @@
+-- How a run may end, and what it means (this project's own): what standard output and standard error took, the files,
+-- what is left of the script, and the status, by the words after the program's name, the files and the script.
+use Rattle.std.specs.Prelude.{◌⊎◌, ◌≡◌, ℕ, ◌+◌, ◌<◌, ◌≤◌, Bool, List, [], ◌++◌, length, drop, codes}
+use Rattle.std.specs.Prelude.{Option, Some, None}
+use Rattle.vtd_outside.specs.Known.{NameMap}
+use Rattle.vtd_outside.specs.Gathered.{TakesUpTo}
+use Rattle.xml_model.specs.declared.DocFault.{DocFault}
+use Rattle.xml_model.specs.Nest.{Forest}
+use Rattle.xml_model.specs.Accepted.{Accepted, IsRefusal}
+use Rattle.vtd_script.specs.Lines.{lines}
+use Rattle.vtd_script.specs.Listing.{line_feed}
+use Rattle.vtd_script.specs.Faults.{fault_line}
+use Rattle.vtd_script.specs.States.{Work, State, state_of}
+use Rattle.vtd_script.specs.Runs.{Ends, IsPrefix}
+use Rattle.vtd_script.specs.declared.endings.End.{End}
+use Rattle.vtd_running.specs.Form.{Form, document, no_form}
+use Rattle.vtd_running.specs.Statuses.{status_of, IsMeant}
+use Rattle.vtd_running.specs.declared.status.Status.{Status}
+use Rattle.vtd_running.specs.declared.status.Status.TheVariants as statuses
+
+pub record Outcome : Type 0 where
+  pub out : List ℕ
+  pub err : List ℕ
+  pub files : NameMap
+  pub left : List ℕ
+  pub status : Status
+
+abbrev pub document_limit : ℕ
+document_limit = 1_073_741_823
+
+abbrev pub script_limit : ℕ
+script_limit = 16_777_216
+
+abbrev pub usage_line : List ℕ
+usage_line = codes "usage: vtd [-k] [-x] DOC | vtd -g N" ++ line_feed
+
+abbrev pub document_long_line : List ℕ
+document_long_line = codes "refused file-long" ++ line_feed
+
+abbrev pub script_long_line : List ℕ
+script_long_line = codes "refused script-long" ++ line_feed
+
+-- a run in which nothing was sent, no file changed and no byte of the script was read
+abbrev pub nothing_done : NameMap → List ℕ → Status → Outcome
+nothing_done files script status = record { out = []; err = []; files = files; left = script; status = status }
+
+-- a run that printed this alone
+abbrev pub only_printed : List ℕ → NameMap → List ℕ → Status → Outcome
+only_printed out files left status = record { out = out; err = []; files = files; left = left; status = status }
+
+-- The one line that ends a run was sent, and the run ends with its status; or a prefix of it was, where the count of
+-- faults rose.
+abbrev pub EndsWith : Type 0 → List ℕ → Status → List ℕ → Status → Type 0
+EndsWith rose line status sent result =
+    ((sent ≡ line) × (result ≡ status)) ⊎ (IsPrefix sent line × rose × (result ≡ statuses.WriteFault))
+
+-- a session that begins over a document: nothing but `xml` is bound
+abbrev pub first_state : List ℕ → NameMap → State
+first_state bytes files = state_of (record { bytes = bytes; bound = [] }) files
+
+-- A script over a session, which is read to its end before its first line is carried out: it could not be read; there
+-- was no memory for it; it is too long; or its lines were carried out, as their table of endings says.
+pub data RunsScript (script_rose file_rose out_rose : Type 0) (keep : Bool) (s : State) (script : List ℕ) :
+    Outcome → Type 0 where
+  script_unread : (left : List ℕ) → TakesUpTo script_limit script left → script_rose →
+      RunsScript script_rose file_rose out_rose keep s script (nothing_done s.files left statuses.ReadFault)
+  script_unkept : (left : List ℕ) → TakesUpTo script_limit script left →
+      RunsScript script_rose file_rose out_rose keep s script (nothing_done s.files left statuses.NoMemory)
+  script_long : script_limit < length script → (sent : List ℕ) (status : Status) →
+      EndsWith out_rose script_long_line statuses.Refused sent status →
+      RunsScript script_rose file_rose out_rose keep s script
+      (only_printed sent s.files (drop (script_limit + 1) script) status)
+  carried : length script ≤ script_limit → (end : End) (out : List ℕ) (files : NameMap) →
+      Ends file_rose out_rose keep s (lines script) end out files →
+      RunsScript script_rose file_rose out_rose keep s script (only_printed out files [] (status_of end))
+
+-- A file of these bytes as the document. The script is read only where the document is accepted.
+pub data RunsDocument (script_rose file_rose out_rose : Type 0) (keep : Bool) (files : NameMap)
+    (bytes script : List ℕ) : Outcome → Type 0 where
+  document_long : document_limit < length bytes → (sent : List ℕ) (status : Status) →
+      EndsWith out_rose document_long_line statuses.Refused sent status →
+      RunsDocument script_rose file_rose out_rose keep files bytes script (only_printed sent files script status)
+  document_unfit : length bytes ≤ document_limit → (fault : DocFault) → IsRefusal bytes fault →
+      (sent : List ℕ) (status : Status) → EndsWith out_rose (fault_line fault) statuses.Refused sent status →
+      RunsDocument script_rose file_rose out_rose keep files bytes script (only_printed sent files script status)
+  accepted : length bytes ≤ document_limit → (nest : Forest) → Accepted 8 bytes nest → (m : Outcome) →
+      RunsScript script_rose file_rose out_rose keep (first_state bytes files) script m →
+      RunsDocument script_rose file_rose out_rose keep files bytes script m
+
+-- A document of this name: it is not there, or could not be read, or there was no memory for it; or it was read.
+pub data RunsName (script_rose file_rose out_rose : Type 0) (keep : Bool) (files : NameMap)
+    (name script : List ℕ) : Outcome → Type 0 where
+  document_missing : files name ≡ None →
+      RunsName script_rose file_rose out_rose keep files name script (nothing_done files script statuses.FileFault)
+  document_unread : file_rose →
+      RunsName script_rose file_rose out_rose keep files name script (nothing_done files script statuses.FileFault)
+  document_unkept :
+      RunsName script_rose file_rose out_rose keep files name script (nothing_done files script statuses.NoMemory)
+  there : (bytes : List ℕ) → files name ≡ Some bytes → (m : Outcome) →
+      RunsDocument script_rose file_rose out_rose keep files bytes script m →
+      RunsName script_rose file_rose out_rose keep files name script m
+
+-- Words that are not of the form: standard error takes the usage line, or there was no memory to read them.
+pub data RunsUsage (err_rose : Type 0) (files : NameMap) (script : List ℕ) : Outcome → Type 0 where
+  words_unkept : RunsUsage err_rose files script (nothing_done files script statuses.NoMemory)
+  told : (sent : List ℕ) (status : Status) → EndsWith err_rose usage_line statuses.Usage sent status →
+      RunsUsage err_rose files script
+      (record { out = []; err = sent; files = files; left = script; status = status })
+
+-- How a run may end, by what its words ask for, its files and its script: the table of endings, whole. The first four
+-- say that a count of faults rose: that of the script, of the files, of standard output, of standard error.
+abbrev pub Runs : Type 0 → Type 0 → Type 0 → Type 0 → Form → NameMap → List ℕ → Outcome → Type 0
+Runs script_rose file_rose out_rose err_rose (document name keep) files script m =
+    RunsName script_rose file_rose out_rose keep files name script m
+Runs script_rose file_rose out_rose err_rose no_form files script m = RunsUsage err_rose files script m
+
+-- What words, files and a script mean: how a run ends in which no count rose and for which there was memory.
+pub record Means (asked : Form) (files : NameMap) (script : List ℕ) (m : Outcome) : Type 0 where
+  pub meant : IsMeant m.status
+  pub runs : Runs ⊥ ⊥ ⊥ ⊥ asked files script m
+
+-- What a run left, where the bytes of all objects are known: an outcome of a kind.
+pub record Ran (kind : Outcome → Type 0) (files_after : Option NameMap) (left_after : Option (List ℕ))
+    (out_before : List ℕ) (out_after : Option (List ℕ)) (err_before : List ℕ) (err_after : Option (List ℕ))
+    (status : Status) : Type 0 where
+  pub m : Outcome
+  pub is_kind : kind m
+  pub files_are : files_after ≡ Some m.files
+  pub script_left : left_after ≡ Some m.left
+  pub out_taken : out_after ≡ Some (out_before ++ m.out)
+  pub err_taken : err_after ≡ Some (err_before ++ m.err)
+  pub status_is : status ≡ m.status
