@@ -17,6 +17,7 @@ ghost use Rattle.xpath_axes.specs.Backs.{ends_before, left_before, nodes_before,
 ghost use Rattle.xpath_axes.specs.Tests.{node_test, passing};
 ghost use Rattle.xpath_axes.specs.Walks.{level_is};
 
+use crate::names::Names;
 use crate::node_tests::passes;
 use crate::walk::may_begin;
 use vtd_words::{Part, Parts, Table, Words, level_of, parts_at};
@@ -63,13 +64,15 @@ fn is_level(back: Back, level: u32) -> bool
 }
 
 /// The node that a walk backward wants at the record before the one where it is, which has these parts.
-fn sought_before<W: Words>(
+fn sought_before<W: Words, N: Names<W>>(
     table: &Table<'_, W>,
+    names: &mut N,
     back: Back,
     test: &NodeTest<'_>,
     at: u32,
     parts: Parts,
 ) -> Option<Node>
+    requires names { N.knows names.old table.now }
     requires within { at < length (list_of Part.Records (W.lists table.now.words)) }
     requires parts { ArePartsAt (list_of Part.Records (W.lists table.now.words)) at parts }
     requires record { ForEachNest table.now.bytes (W.lists table.now.words) (λ nest.
@@ -82,6 +85,7 @@ fn sought_before<W: Words>(
         option_to_list result ≡ map node_of (filter (λ y. y.index == at
         && (wants_back back y && passes_test (node_test test.now) false y)) (nodes_of table.now.bytes nest))) }
     ensures node { IfSome result (IsNodeOf table.now.bytes (W.lists table.now.words)) }
+    ensures names { N.knows names.new table.now }
 {
     if !may_begin(test, false, parts.token) {
         return None;
@@ -96,7 +100,7 @@ fn sought_before<W: Words>(
     if !is_over(node.kind, level, back.low) {
         return None;
     }
-    if passes(table, node, false, test) {
+    if passes(table, names, node, false, test) {
         Some(node)
     } else {
         None
@@ -115,8 +119,14 @@ fn one_less(back: Back, at: u32, level: u32) -> Back
 }
 
 /// The next node of a walk backward, and how it goes on. It reads the records down to there.
-pub fn find_before<W: Words>(table: &Table<'_, W>, back: Back, test: &NodeTest<'_>) -> FoundBefore
-    requires { ForEachNest table.now.bytes (W.lists table.now.words) (λ nest.
+pub fn find_before<W: Words, N: Names<W>>(
+    table: &Table<'_, W>,
+    names: &mut N,
+    back: Back,
+    test: &NodeTest<'_>,
+) -> FoundBefore
+    requires names { N.knows names.old table.now }
+    requires back { ForEachNest table.now.bytes (W.lists table.now.words) (λ nest.
         IsBack (records nest (first_place table.now.bytes)) (nodes_of table.now.bytes nest) back) }
     ensures found { ForEachNest table.now.bytes (W.lists table.now.words) (λ nest.
         let rs = records nest (first_place table.now.bytes) in
@@ -130,6 +140,7 @@ pub fn find_before<W: Words>(table: &Table<'_, W>, back: Back, test: &NodeTest<'
         nodes_before result.rest (node_test test.now)
         (records nest (first_place table.now.bytes)) (nodes_of table.now.bytes nest) ≡ [])) }
     ensures node { IfSome result.node (IsNodeOf table.now.bytes (W.lists table.now.words)) }
+    ensures names { N.knows names.new table.now }
 {
     let words = table.words();
     let mut rest = back;
@@ -140,7 +151,7 @@ pub fn find_before<W: Words>(table: &Table<'_, W>, back: Back, test: &NodeTest<'
         if level < rest.floor {
             return FoundBefore { node: None, rest };
         }
-        let sought = sought_before(table, rest, test, at, parts);
+        let sought = sought_before(table, names, rest, test, at, parts);
         rest = one_less(rest, at, level);
         if let Some(node) = sought {
             return FoundBefore {

@@ -14,6 +14,7 @@ ghost use Rattle.xpath_axes.specs.Iters.{AreNodes, IsFirstOf, IsRest};
 ghost use Rattle.xpath_axes.specs.Tests.{node_test, nodes_on};
 
 use crate::back::{preceding_of, preceding_siblings_of};
+use crate::names::{LookBack, Names};
 use crate::node_tests::passes;
 use crate::rest::{Rest, next_of};
 use crate::starts::{
@@ -53,9 +54,9 @@ impl<'n, 'a, W: Words> Model for AxisIter<'n, 'a, W> {
 }
 
 impl<'n, 'a, W: Words> AxisIter<'n, 'a, W> {
-    /// The next node in axis order; `None` exactly after the last. It reads the records from one node to the next; along
-    /// the parent, ancestor and ancestor-or-self axes those back to the first record of the node that it answers. A name
-    /// test with a URI reads back to the tags above each node of that local name.
+    /// The next node in axis order; `None` exactly at the end. It reads the records from one node to the next; along the
+    /// parent, ancestor and ancestor-or-self axes those back to the first record of the node that it answers. A name test
+    /// with a URI reads back to the tags above each node of that local name; where many are met `next_by` reads less.
     pub fn next(&mut self) -> Option<Node>
         ensures left { ForEachNest self.old.bytes (W.lists self.old.words) (λ nest.
             to_come self.old nest ≡ option_to_list result ++ to_come self.new nest) }
@@ -71,11 +72,33 @@ impl<'n, 'a, W: Words> AxisIter<'n, 'a, W> {
             < one_first self.old.first
             + records_left (length (list_of Part.Records (W.lists self.old.words))) self.old.rest) }
     {
+        self.next_by(&mut LookBack)
+    }
+
+    /// The same, with name tests asked of a resolver of the document, or of another that knows its names. A resolver reads
+    /// each record once, as long as nodes come in document order, and nothing where the document declares no namespace.
+    pub fn next_by<N: Names<W>>(&mut self, names: &mut N) -> Option<Node>
+        requires { N.knows names.old (record { bytes = self.old.bytes; words = self.old.words }) }
+        ensures left { ForEachNest self.old.bytes (W.lists self.old.words) (λ nest.
+            to_come self.old nest ≡ option_to_list result ++ to_come self.new nest) }
+        ensures end { IfNone result (ForEachNest self.old.bytes (W.lists self.old.words) (λ nest.
+            to_come self.new nest ≡ [])) }
+        ensures bytes { self.new.bytes ≡ self.old.bytes }
+        ensures words { self.new.words ≡ self.old.words }
+        ensures test { self.new.test ≡ self.old.test }
+        ensures node { IfSome result (IsNodeOf self.old.bytes (W.lists self.old.words)) }
+        // what bounds a loop over the nodes
+        ensures fewer { IfSome result (λ node.
+            one_first self.new.first + records_left (length (list_of Part.Records (W.lists self.old.words))) self.new.rest
+            < one_first self.old.first
+            + records_left (length (list_of Part.Records (W.lists self.old.words))) self.old.rest) }
+        ensures names { N.knows names.new (record { bytes = self.old.bytes; words = self.old.words }) }
+    {
         if let Some(node) = self.first {
             self.first = None;
             return Some(node);
         }
-        let next = next_of(self.nav.table(), self.rest, &self.test);
+        let next = next_of(self.nav.table(), names, self.rest, &self.test);
         self.rest = next.rest;
         next.node
     }
@@ -111,7 +134,7 @@ fn if_passes<W: Words>(
     ensures node { IfSome result (IsNodeOf table.now.bytes (W.lists table.now.words)) }
 {
     let found = node?;
-    if passes(table, found, false, test) {
+    if passes(table, &mut LookBack, found, false, test) {
         Some(found)
     } else {
         None

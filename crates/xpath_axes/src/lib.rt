@@ -6,6 +6,7 @@ pub mod back;
 pub mod climb;
 mod iter;
 mod lists;
+pub mod names;
 mod node_tests;
 pub mod rest;
 pub mod starts;
@@ -13,4 +14,5 @@ pub mod walk;
 
 pub use iter::{AxisIter, axis_iter};
 pub use lists::{axis, order};
+pub use names::{LookBack, Names};
 pub use node_tests::passes;

@@ -6,7 +6,8 @@ ghost use Rattle.vtd_words.specs.Table.{ForEachEntry, IsNodeOf};
 ghost use Rattle.xpath_axes.specs.Tests.{node_test, is_text_kind, is_comment_kind, is_instruction_kind};
 ghost use Rattle.xpath_axes.specs.Tests.{is_principal_kind};
 
-use vtd_namespaces::{local_of, matches};
+use crate::names::Names;
+use vtd_namespaces::local_of;
 use vtd_words::{Table, Words};
 use xml_model::{Kind, Node, NodeTest};
 
@@ -40,16 +41,19 @@ fn is_principal(on_attributes: bool, kind: Kind) -> bool
 }
 
 /// Whether a node passes a node test, on the attribute axis or another (XPath 1.0, section 2.3). The node is one of the
-/// table. A name test that compares URIs reads back to the tags of the elements that hold the node.
-pub fn passes<W: Words>(
+/// table. Name tests are asked of `names`.
+pub fn passes<W: Words, N: Names<W>>(
     table: &Table<'_, W>,
+    names: &mut N,
     node: Node,
     on_attributes: bool,
     test: &NodeTest<'_>,
 ) -> bool
-    requires { IsNodeOf table.now.bytes (W.lists table.now.words) node }
-    ensures { ForEachEntry table.now.bytes (W.lists table.now.words) node (λ nest e.
+    requires node { IsNodeOf table.now.bytes (W.lists table.now.words) node }
+    requires names { N.knows names.old table.now }
+    ensures passes { ForEachEntry table.now.bytes (W.lists table.now.words) node (λ nest e.
         result ≡ passes_test (node_test test.now) on_attributes e) }
+    ensures names { N.knows names.new table.now }
 {
     match *test {
         NodeTest::Node => true,
@@ -66,7 +70,7 @@ pub fn passes<W: Words>(
             if !is_principal(on_attributes, node.kind) {
                 return false;
             }
-            matches(table, node, &name)
+            names.matches(table, node, &name)
         }
     }
 }

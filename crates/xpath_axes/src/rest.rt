@@ -10,6 +10,7 @@ ghost use Rattle.xpath_axes.specs.Tests.{node_test};
 
 use crate::back::{Back, find_before};
 use crate::climb::find_above;
+use crate::names::Names;
 use crate::walk::{Walk, find};
 use vtd_words::{Part, Table, Words};
 use xml_model::{Node, NodeTest};
@@ -31,7 +32,13 @@ pub struct Next {
 }
 
 /// The next node of a walk forward.
-fn next_forward<W: Words>(table: &Table<'_, W>, walk: Walk, test: &NodeTest<'_>) -> Next
+fn next_forward<W: Words, N: Names<W>>(
+    table: &Table<'_, W>,
+    names: &mut N,
+    walk: Walk,
+    test: &NodeTest<'_>,
+) -> Next
+    requires { N.knows names.old table.now }
     ensures left { ForEachNest table.now.bytes (W.lists table.now.words) (λ nest.
         let rs = records nest (first_place table.now.bytes) in
         let es = nodes_of table.now.bytes nest in
@@ -45,8 +52,9 @@ fn next_forward<W: Words>(table: &Table<'_, W>, walk: Walk, test: &NodeTest<'_>)
     ensures fewer { IfSome result.node (λ node.
         records_left (length (list_of Part.Records (W.lists table.now.words))) result.rest
         < records_left (length (list_of Part.Records (W.lists table.now.words))) (Rest.Forward walk)) }
+    ensures names { N.knows names.new table.now }
 {
-    let found = find(table, walk, test);
+    let found = find(table, names, walk, test);
     Next {
         node: found.node,
         rest: Rest::Forward(Walk {
@@ -57,9 +65,15 @@ fn next_forward<W: Words>(table: &Table<'_, W>, walk: Walk, test: &NodeTest<'_>)
 }
 
 /// The next node above a node.
-fn next_upward<W: Words>(table: &Table<'_, W>, node: Node, test: &NodeTest<'_>) -> Next
+fn next_upward<W: Words, N: Names<W>>(
+    table: &Table<'_, W>,
+    names: &mut N,
+    node: Node,
+    test: &NodeTest<'_>,
+) -> Next
     requires node { IsNodeOf table.now.bytes (W.lists table.now.words) node }
     requires each { IdentifiesInEach table.now.bytes (W.lists table.now.words) node }
+    requires names { N.knows names.old table.now }
     ensures left { ForEachNest table.now.bytes (W.lists table.now.words) (λ nest.
         let rs = records nest (first_place table.now.bytes) in
         let es = nodes_of table.now.bytes nest in
@@ -73,8 +87,9 @@ fn next_upward<W: Words>(table: &Table<'_, W>, node: Node, test: &NodeTest<'_>) 
     ensures fewer { IfSome result.node (λ found.
         records_left (length (list_of Part.Records (W.lists table.now.words))) result.rest
         < records_left (length (list_of Part.Records (W.lists table.now.words))) (Rest.Upward node)) }
+    ensures names { N.knows names.new table.now }
 {
-    match find_above(table, node, test) {
+    match find_above(table, names, node, test) {
         Some(above) => Next {
             node: Some(above),
             rest: Rest::Upward(above),
@@ -87,8 +102,14 @@ fn next_upward<W: Words>(table: &Table<'_, W>, node: Node, test: &NodeTest<'_>) 
 }
 
 /// The next node of a walk backward.
-fn next_backward<W: Words>(table: &Table<'_, W>, back: Back, test: &NodeTest<'_>) -> Next
-    requires { IsRest table.now.bytes (W.lists table.now.words) (Rest.Backward back) }
+fn next_backward<W: Words, N: Names<W>>(
+    table: &Table<'_, W>,
+    names: &mut N,
+    back: Back,
+    test: &NodeTest<'_>,
+) -> Next
+    requires rest { IsRest table.now.bytes (W.lists table.now.words) (Rest.Backward back) }
+    requires names { N.knows names.old table.now }
     ensures left { ForEachNest table.now.bytes (W.lists table.now.words) (λ nest.
         let rs = records nest (first_place table.now.bytes) in
         let es = nodes_of table.now.bytes nest in
@@ -102,8 +123,9 @@ fn next_backward<W: Words>(table: &Table<'_, W>, back: Back, test: &NodeTest<'_>
     ensures fewer { IfSome result.node (λ node.
         records_left (length (list_of Part.Records (W.lists table.now.words))) result.rest
         < records_left (length (list_of Part.Records (W.lists table.now.words))) (Rest.Backward back)) }
+    ensures names { N.knows names.new table.now }
 {
-    let found = find_before(table, back, test);
+    let found = find_before(table, names, back, test);
     Next {
         node: found.node,
         rest: Rest::Backward(found.rest),
@@ -111,8 +133,14 @@ fn next_backward<W: Words>(table: &Table<'_, W>, back: Back, test: &NodeTest<'_>
 }
 
 /// The next node of what is left, and what is left after it.
-pub fn next_of<W: Words>(table: &Table<'_, W>, rest: Rest, test: &NodeTest<'_>) -> Next
-    requires { IsRest table.now.bytes (W.lists table.now.words) rest }
+pub fn next_of<W: Words, N: Names<W>>(
+    table: &Table<'_, W>,
+    names: &mut N,
+    rest: Rest,
+    test: &NodeTest<'_>,
+) -> Next
+    requires rest { IsRest table.now.bytes (W.lists table.now.words) rest }
+    requires names { N.knows names.old table.now }
     ensures left { ForEachNest table.now.bytes (W.lists table.now.words) (λ nest.
         let rs = records nest (first_place table.now.bytes) in
         let es = nodes_of table.now.bytes nest in
@@ -126,14 +154,15 @@ pub fn next_of<W: Words>(table: &Table<'_, W>, rest: Rest, test: &NodeTest<'_>) 
     ensures fewer { IfSome result.node (λ node.
         records_left (length (list_of Part.Records (W.lists table.now.words))) result.rest
         < records_left (length (list_of Part.Records (W.lists table.now.words))) rest) }
+    ensures names { N.knows names.new table.now }
 {
     match rest {
         Rest::Nothing => Next {
             node: None,
             rest: Rest::Nothing,
         },
-        Rest::Forward(walk) => next_forward(table, walk, test),
-        Rest::Upward(node) => next_upward(table, node, test),
-        Rest::Backward(back) => next_backward(table, back, test),
+        Rest::Forward(walk) => next_forward(table, names, walk, test),
+        Rest::Upward(node) => next_upward(table, names, node, test),
+        Rest::Backward(back) => next_backward(table, names, back, test),
     }
 }

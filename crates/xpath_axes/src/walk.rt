@@ -13,6 +13,7 @@ ghost use Rattle.xpath_axes.specs.Tests.{is_attribute_kind, may_pass, node_test}
 ghost use Rattle.xpath_axes.specs.Walks.{goes_on as goes_on_over, is_sought, level_is, nodes_left};
 ghost use Rattle.xpath_axes.specs.Walks.{StopsAt};
 
+use crate::names::Names;
 use crate::node_tests::passes;
 use vtd_words::{Part, Parts, Table, Words, level_of, parts_at};
 use xml_model::{Kind, Node, NodeTest, TokenKind};
@@ -107,13 +108,15 @@ pub fn may_begin(test: &NodeTest<'_>, on_attributes: bool, token: u8) -> bool
 }
 
 /// The node that a walk wants at a record, which has these parts.
-fn sought_at<W: Words>(
+fn sought_at<W: Words, N: Names<W>>(
     table: &Table<'_, W>,
+    names: &mut N,
     walk: Walk,
     test: &NodeTest<'_>,
     at: u32,
     parts: Parts,
 ) -> Option<Node>
+    requires names { N.knows names.old table.now }
     requires within { at < length (list_of Part.Records (W.lists table.now.words)) }
     requires parts { ArePartsAt (list_of Part.Records (W.lists table.now.words)) at parts }
     requires record { ForEachNest table.now.bytes (W.lists table.now.words) (λ nest.
@@ -122,6 +125,7 @@ fn sought_at<W: Words>(
         option_to_list result ≡ map node_of
         (filter (λ e. e.index == at && is_sought walk (node_test test.now) e) (nodes_of table.now.bytes nest))) }
     ensures node { IfSome result (IsNodeOf table.now.bytes (W.lists table.now.words)) }
+    ensures names { N.knows names.new table.now }
 {
     if !may_begin(test, walk.attributes, parts.token) {
         return None;
@@ -135,7 +139,7 @@ fn sought_at<W: Words>(
     if !is_kind(walk, node.kind) {
         return None;
     }
-    if passes(table, node, walk.attributes, test) {
+    if passes(table, names, node, walk.attributes, test) {
         Some(node)
     } else {
         None
@@ -143,7 +147,13 @@ fn sought_at<W: Words>(
 }
 
 /// The next node of a walk, and where it goes on. It reads the records up to there.
-pub fn find<W: Words>(table: &Table<'_, W>, walk: Walk, test: &NodeTest<'_>) -> Found
+pub fn find<W: Words, N: Names<W>>(
+    table: &Table<'_, W>,
+    names: &mut N,
+    walk: Walk,
+    test: &NodeTest<'_>,
+) -> Found
+    requires { N.knows names.old table.now }
     ensures found { ForEachNest table.now.bytes (W.lists table.now.words) (λ nest.
         let rs = records nest (first_place table.now.bytes) in
         let es = nodes_of table.now.bytes nest in
@@ -157,6 +167,7 @@ pub fn find<W: Words>(table: &Table<'_, W>, walk: Walk, test: &NodeTest<'_>) -> 
     ensures end { IfNone result.node (ForEachNest table.now.bytes (W.lists table.now.words) (λ nest.
         nodes_left (record walk { at = result.next }) (node_test test.now)
         (records nest (first_place table.now.bytes)) (nodes_of table.now.bytes nest) ≡ [])) }
+    ensures names { N.knows names.new table.now }
 {
     let words = table.words();
     let records = words.len(Part::Records);
@@ -168,7 +179,7 @@ pub fn find<W: Words>(table: &Table<'_, W>, walk: Walk, test: &NodeTest<'_>) -> 
                 next: at,
             };
         }
-        if let Some(node) = sought_at(table, walk, test, at, parts) {
+        if let Some(node) = sought_at(table, names, walk, test, at, parts) {
             return Found {
                 node: Some(node),
                 next: at + 1,

@@ -11,7 +11,7 @@ use Rattle.xpath_axes.proofs.BackLemmas.{back_on, back_less, back_room, none_fir
 use Rattle.xpath_axes.proofs.back.find_before.Goals as goal
 
 pub loop-rest-init : goal.loop-rest-init
-loop-rest-init g c = record { back = c.requires; same = λ nest s. refl; passed = omega arith }
+loop-rest-init g c = record { names = c.requires.names; back = c.requires.back; same = λ nest s. refl; passed = omega arith }
 
 pub parts_at-parts-requires : goal.parts_at-parts-requires
 parts_at-parts-requires g c = rw c.words-words.ensures.value
@@ -64,6 +64,7 @@ loop-rest-preserved g c =
     let next = c.loop-rest.rest.at - 1 in
     let one : c.loop-rest.rest.at ≡ suc next = omega (arith, c.loop-rest-test.true) in
     record {
+      names = c.sought_before-sought.ensures.names;
       back = λ nest s.
           let shown = record_shown _ _ c.words-words.ensures.table.few next c.parts_at-parts.result
           (rw c.words-words.ensures.value at c.parts_at-parts.ensures.parts) nest s in

@@ -29,10 +29,10 @@ returns-then-passes-clause-found g c = λ nest s.
     passed _ _ nest s c.args.back (node_test c.args.test.now) c.args.at c.args.parts (c.requires.record nest s) c.level_of-level.result
     c.level_of-level.ensures (c.requires.back nest s) c.requires.after_root c.requires.before c.in-Some.node
     (sym c.in-Some.is ∙ c.node_from.ensures.node nest s) c.is_level.result c.is_over.result c.passes.result c.is_level.ensures c.if-not-is_level.false
-    c.is_over.ensures c.if-not-is_over.false (c.passes.ensures nest s) c.if-passes.true
+    c.is_over.ensures c.if-not-is_over.false (c.passes.ensures.passes nest s) c.if-passes.true
 
 pub returns-else-passes-clause-found : goal.returns-else-passes-clause-found
 returns-else-passes-clause-found g c = λ nest s.
     not_passed _ _ nest s c.args.back (node_test c.args.test.now) c.args.at c.args.parts (c.requires.record nest s) c.level_of-level.result
     c.level_of-level.ensures (c.requires.back nest s) c.requires.after_root c.requires.before c.in-Some.node
-    (sym c.in-Some.is ∙ c.node_from.ensures.node nest s) c.passes.result (c.passes.ensures nest s) c.if-passes.false
+    (sym c.in-Some.is ∙ c.node_from.ensures.node nest s) c.passes.result (c.passes.ensures.passes nest s) c.if-passes.false

@@ -4,7 +4,7 @@ use Rattle.xpath_axes.proofs.ClimbLemmas.{passed_over, taken, none_above, parent
 use Rattle.xpath_axes.proofs.climb.find_above.Goals as goal
 
 pub loop-owner-init : goal.loop-owner-init
-loop-owner-init g c = record { node = c.requires.node; each = c.requires.each; low = omega arith; same = λ nest s. refl }
+loop-owner-init g c = record { names = c.requires.names; node = c.requires.node; each = c.requires.each; low = omega arith; same = λ nest s. refl }
 
 pub returns-then-passes-clause-found : goal.returns-then-passes-clause-found
 returns-then-passes-clause-found g c = λ nest s.
@@ -12,7 +12,7 @@ returns-then-passes-clause-found g c = λ nest s.
     let e = i.each nest s in
     let q = c.in-Some.ensures.parent nest s e.0 e.1 in
     i.same nest s ∙ taken nest _ s.accepted.document.nests e.0 e.1.0 (node_test c.args.test.now) c.loop-owner.at.at e.1.2 c.in-Some.owner q
-    c.passes.result (c.passes.ensures nest s q.entry q.holds) c.if-passes.true
+    c.passes.result (c.passes.ensures.passes nest s q.entry q.holds) c.if-passes.true
 
 pub returns-then-passes-clause-each : goal.returns-then-passes-clause-each
 returns-then-passes-clause-each g c = λ nest s.
@@ -42,6 +42,7 @@ loop-owner-preserved g c =
     let m = i.node in
     let up = parent_before m.nest _ m.shown.accepted.document.nests m.entry m.holds.0 c.in-Some.owner (c.in-Some.ensures.parent m.nest m.shown m.entry m.holds) in
     record {
+      names = c.passes.ensures.names;
       node = c.in-Some.ensures.owner;
       each = λ nest s.
           let e = i.each nest s in
@@ -52,7 +53,7 @@ loop-owner-preserved g c =
           let e = i.each nest s in
           let q = c.in-Some.ensures.parent nest s e.0 e.1 in
           i.same nest s ∙ passed_over nest _ s.accepted.document.nests e.0 e.1.0 (node_test c.args.test.now) c.loop-owner.at.at e.1.2 c.in-Some.owner q
-          c.passes.result (c.passes.ensures nest s q.entry q.holds) c.if-passes.false;
+          c.passes.result (c.passes.ensures.passes nest s q.entry q.holds) c.if-passes.false;
     }
 
 pub returns-clause-found : goal.returns-clause-found

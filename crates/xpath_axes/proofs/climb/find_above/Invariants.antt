@@ -6,6 +6,7 @@ use Rattle.xpath_axes.proofs.climb.find_above.Given as goal
 
 abbrev pub invariant-loop-owner : goal.invariant-loop-owner
 invariant-loop-owner g l = record {
+  names : g.N.Names.knows l.names l.table;
   node : IsNodeOf l.table.bytes (g.W.Words.lists l.table.words) l.at;
   each : IdentifiesInEach l.table.bytes (g.W.Words.lists l.table.words) l.at;
   low : l.at.at ≤ l.fn.node.at;

@@ -26,9 +26,9 @@ pub returns-then-passes-clause-found : goal.returns-then-passes-clause-found
 returns-then-passes-clause-found g c = λ nest s.
     sought_found _ _ nest s c.args.walk (node_test c.args.test.now) c.args.at c.level_of.result c.args.parts c.in-Some.node c.is_level.result
     c.is_kind.result c.passes.result (c.requires.record nest s) c.level_of.ensures c.is_level.ensures c.if-not-is_level.false
-    (sym c.in-Some.is ∙ c.node_from.ensures.node nest s) c.is_kind.ensures c.if-not-is_kind.false (c.passes.ensures nest s) c.if-passes.true
+    (sym c.in-Some.is ∙ c.node_from.ensures.node nest s) c.is_kind.ensures c.if-not-is_kind.false (c.passes.ensures.passes nest s) c.if-passes.true
 
 pub returns-else-passes-clause-found : goal.returns-else-passes-clause-found
 returns-else-passes-clause-found g c = λ nest s.
     sought_fails _ _ nest s c.args.walk (node_test c.args.test.now) c.args.at c.in-Some.node c.passes.result
-    (sym c.in-Some.is ∙ c.node_from.ensures.node nest s) (c.passes.ensures nest s) c.if-passes.false
+    (sym c.in-Some.is ∙ c.node_from.ensures.node nest s) (c.passes.ensures.passes nest s) c.if-passes.false
