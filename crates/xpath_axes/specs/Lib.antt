@@ -1,0 +1,5 @@
+pub mod Tests
+pub mod Walks
+pub mod Climbs
+pub mod Backs
+pub mod Iters

@@ -1,0 +1,198 @@
+//! The nodes on an axis, one after another, without memory.
+
+ghost use Rattle.std.specs.Prelude.{◌≡◌, ◌+◌, ◌<◌, ◌++◌, [], length, IfSome, IfNone, option_to_list};
+ghost use Rattle.xml_model.specs.Items.{first_place};
+ghost use Rattle.std.specs.Prelude.{List, map, filter, false};
+ghost use Rattle.xml_model.specs.Names.{Test, passes as passes_test};
+ghost use Rattle.xml_model.specs.Tree.{Entry};
+ghost use Rattle.xml_model.specs.Records.{records};
+ghost use Rattle.vtd_words.specs.Lists.{list_of};
+ghost use Rattle.vtd_words.specs.Table.{ForEachEntry, ForEachNest, IdentifiesInEach, IsNodeOf};
+ghost use Rattle.vtd_words.specs.Table.{node_of, nodes_of};
+ghost use Rattle.xpath_axes.specs.Iters.{nodes_after_first, one_first, records_left, rest_of, to_come};
+ghost use Rattle.xpath_axes.specs.Iters.{AreNodes, IsFirstOf, IsRest};
+ghost use Rattle.xpath_axes.specs.Tests.{node_test, nodes_on};
+
+use crate::back::{preceding_of, preceding_siblings_of};
+use crate::names::{LookBack, Names};
+use crate::node_tests::passes;
+use crate::rest::{Rest, next_of};
+use crate::starts::{
+    attributes_of, children_of, descendants_of, following_of, following_siblings_of,
+};
+use std::marker::Model;
+use vtd_location::Nav;
+use vtd_words::{Part, Table, Words};
+use xml_model::{Axis, Node, NodeTest};
+
+/// The nodes of an axis that are still to come. It holds the document, a copy of the test and where it is, and no list.
+#[derive(Drop)]
+pub struct AxisIter<'n, 'a, W: Words> {
+    nav: &'n Nav<'a, W>,
+    first: Option<Node>,
+    rest: Rest,
+    test: NodeTest<'n>,
+}
+
+impl<'n, 'a, W: Words> Model for AxisIter<'n, 'a, W> {
+    ghost use Rattle.std.specs.Prelude.{IfSome};
+    ghost use Rattle.vtd_words.specs.Table.{IsNodeOf};
+    ghost use Rattle.xpath_axes.specs.Iters.{IterOf, IsRest};
+
+    ghost Value = { IterOf W };
+
+    ghost view = { λ i. record {
+      bytes = i.nav.now.bytes;
+      words = i.nav.now.words;
+      first = i.first;
+      rest = i.rest;
+      test = i.test;
+    } };
+
+    ghost invariant = { λ i. IfSome i.first (IsNodeOf i.nav.now.bytes (W.lists i.nav.now.words))
+        × IsRest i.nav.now.bytes (W.lists i.nav.now.words) i.rest };
+}
+
+impl<'n, 'a, W: Words> AxisIter<'n, 'a, W> {
+    /// The next node in axis order; `None` exactly at the end. It reads the records from one node to the next; along the
+    /// parent, ancestor and ancestor-or-self axes those back to the first record of the node that it answers. A name test
+    /// with a URI reads back to the tags above each node of that local name; where many are met `next_by` reads less.
+    pub fn next(&mut self) -> Option<Node>
+        ensures left { ForEachNest self.old.bytes (W.lists self.old.words) (λ nest.
+            to_come self.old nest ≡ option_to_list result ++ to_come self.new nest) }
+        ensures end { IfNone result (ForEachNest self.old.bytes (W.lists self.old.words) (λ nest.
+            to_come self.new nest ≡ [])) }
+        ensures bytes { self.new.bytes ≡ self.old.bytes }
+        ensures words { self.new.words ≡ self.old.words }
+        ensures test { self.new.test ≡ self.old.test }
+        ensures node { IfSome result (IsNodeOf self.old.bytes (W.lists self.old.words)) }
+        // what bounds a loop over the nodes
+        ensures fewer { IfSome result (λ node.
+            one_first self.new.first + records_left (length (list_of Part.Records (W.lists self.old.words))) self.new.rest
+            < one_first self.old.first
+            + records_left (length (list_of Part.Records (W.lists self.old.words))) self.old.rest) }
+    {
+        self.next_by(&mut LookBack)
+    }
+
+    /// The same, with name tests asked of a resolver of the document, or of another that knows its names. A resolver reads
+    /// each record once, as long as nodes come in document order, and nothing where the document declares no namespace.
+    pub fn next_by<N: Names<W>>(&mut self, names: &mut N) -> Option<Node>
+        requires { N.knows names.old (record { bytes = self.old.bytes; words = self.old.words }) }
+        ensures left { ForEachNest self.old.bytes (W.lists self.old.words) (λ nest.
+            to_come self.old nest ≡ option_to_list result ++ to_come self.new nest) }
+        ensures end { IfNone result (ForEachNest self.old.bytes (W.lists self.old.words) (λ nest.
+            to_come self.new nest ≡ [])) }
+        ensures bytes { self.new.bytes ≡ self.old.bytes }
+        ensures words { self.new.words ≡ self.old.words }
+        ensures test { self.new.test ≡ self.old.test }
+        ensures node { IfSome result (IsNodeOf self.old.bytes (W.lists self.old.words)) }
+        // what bounds a loop over the nodes
+        ensures fewer { IfSome result (λ node.
+            one_first self.new.first + records_left (length (list_of Part.Records (W.lists self.old.words))) self.new.rest
+            < one_first self.old.first
+            + records_left (length (list_of Part.Records (W.lists self.old.words))) self.old.rest) }
+        ensures names { N.knows names.new (record { bytes = self.old.bytes; words = self.old.words }) }
+    {
+        if let Some(node) = self.first {
+            self.first = None;
+            return Some(node);
+        }
+        let next = next_of(self.nav.table(), names, self.rest, &self.test);
+        self.rest = next.rest;
+        next.node
+    }
+}
+
+/// The node that comes first on an axis, before those of a walk: the node itself on `self` and the axes `..-or-self`,
+/// and its parent on `parent`.
+fn before_walk<W: Words>(table: &Table<'_, W>, node: Node, axis: Axis) -> Option<Node>
+    requires { IsNodeOf table.now.bytes (W.lists table.now.words) node }
+    ensures first { ForEachEntry table.now.bytes (W.lists table.now.words) node (λ nest e.
+        IsFirstOf axis e (nodes_of table.now.bytes nest) result) }
+    ensures node { IfSome result (IsNodeOf table.now.bytes (W.lists table.now.words)) }
+{
+    match axis {
+        Axis::Parent => table.owner_of(node),
+        Axis::Itself => Some(node),
+        Axis::DescendantOrSelf => Some(node),
+        Axis::AncestorOrSelf => Some(node),
+        _ => None,
+    }
+}
+
+/// A node, if there is one and it passes a test.
+fn if_passes<W: Words>(
+    table: &Table<'_, W>,
+    node: Option<Node>,
+    test: &NodeTest<'_>,
+) -> Option<Node>
+    requires { IfSome node (IsNodeOf table.now.bytes (W.lists table.now.words)) }
+    ensures passed { ForEachNest table.now.bytes (W.lists table.now.words) (λ nest.
+        (xs : List Entry) → AreNodes node xs (nodes_of table.now.bytes nest) →
+        option_to_list result ≡ map node_of (filter (passes_test (node_test test.now) false) xs)) }
+    ensures node { IfSome result (IsNodeOf table.now.bytes (W.lists table.now.words)) }
+{
+    let found = node?;
+    if passes(table, &mut LookBack, found, false, test) {
+        Some(found)
+    } else {
+        None
+    }
+}
+
+/// The walk over the nodes on an axis that come after the first.
+fn walk_of<W: Words>(table: &Table<'_, W>, node: Node, axis: Axis) -> Rest
+    requires node { IsNodeOf table.now.bytes (W.lists table.now.words) node }
+    requires each { IdentifiesInEach table.now.bytes (W.lists table.now.words) node }
+    ensures walk { ForEachEntry table.now.bytes (W.lists table.now.words) node (λ nest e.
+        (test : Test) → rest_of result test (records nest (first_place table.now.bytes))
+        (nodes_of table.now.bytes nest) ≡ nodes_after_first axis test e (nodes_of table.now.bytes nest)) }
+    ensures rest { IsRest table.now.bytes (W.lists table.now.words) result }
+{
+    match axis {
+        Axis::Itself => Rest::Nothing,
+        Axis::Parent => Rest::Nothing,
+        Axis::Ancestor => Rest::Upward(node),
+        Axis::AncestorOrSelf => Rest::Upward(node),
+        Axis::Child => Rest::Forward(children_of(table, node)),
+        Axis::Descendant => Rest::Forward(descendants_of(table, node)),
+        Axis::DescendantOrSelf => Rest::Forward(descendants_of(table, node)),
+        Axis::Attribute => Rest::Forward(attributes_of(table, node)),
+        Axis::Following => Rest::Forward(following_of(table, node)),
+        Axis::FollowingSibling => Rest::Forward(following_siblings_of(table, node)),
+        Axis::Preceding => Rest::Backward(preceding_of(table, node)),
+        Axis::PrecedingSibling => {
+            if node.kind.is_child() {
+                Rest::Backward(preceding_siblings_of(table, node))
+            } else {
+                Rest::Nothing
+            }
+        }
+    }
+}
+
+/// The nodes on an axis of a node that pass a test, one after another in axis order, each once (XPath 1.0, sections 2.2
+/// to 2.4). The node is one of the document. It reads what is in the node on `following` and `following-sibling`, back to
+/// the tag of the parent on `parent`, and a constant number of records on the other axes.
+pub fn axis_iter<'n, 'a, W: Words>(
+    nav: &'n Nav<'a, W>,
+    node: Node,
+    axis: Axis,
+    test: &NodeTest<'n>,
+) -> AxisIter<'n, 'a, W>
+    requires { IsNodeOf nav.now.bytes (W.lists nav.now.words) node }
+    ensures axis { ForEachEntry nav.now.bytes (W.lists nav.now.words) node (λ nest e.
+        to_come result nest ≡ nodes_on axis (node_test test.now) e (nodes_of nav.now.bytes nest)) }
+    ensures bytes { result.bytes ≡ nav.entry.now.bytes }
+    ensures words { result.words ≡ nav.entry.now.words }
+    ensures test { result.test ≡ test.now }
+{
+    let table = nav.table();
+    AxisIter {
+        nav,
+        first: if_passes(table, before_walk(table, node, axis), test),
+        rest: walk_of(table, node, axis),
+        test: *test,
+    }
+}
