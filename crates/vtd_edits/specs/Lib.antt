@@ -1,0 +1,4 @@
+pub mod Splices
+pub mod Order
+pub mod Plans
+pub mod Turns
