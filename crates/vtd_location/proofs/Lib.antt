@@ -1,1 +1,4 @@
 pub mod NavLaws
+pub mod Passing
+pub mod FillLemmas
+pub mod CountLemmas

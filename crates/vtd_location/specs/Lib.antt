@@ -1,1 +1,5 @@
 pub mod Nav
+pub mod Differences
+pub mod Scanning
+pub mod Filling
+pub mod Counting

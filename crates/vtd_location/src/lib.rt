@@ -1,15 +1,21 @@
-//! Documents that are accepted whole, ready to be walked: what every call above the records takes.
+//! Documents that are accepted whole, ready to be walked, with their location caches: what every call above the records
+//! takes.
 #![tactic(auto)]
 
 ghost use Rattle.std.specs.Prelude.{◌≡◌, List, ℕ};
 ghost use Rattle.vtd_location.specs.Nav.{IsNav};
 
 use std::marker::Model;
-use vtd_words::{Table, Words};
+use vtd_words::{Meter, Table, Words};
 
+mod checking;
+mod filling;
 pub mod laws;
 
-/// A document with its records, of which it is known that no check of a document refuses it.
+pub use checking::{CacheDiff, check_levels};
+pub use filling::{count_levels, fill_levels};
+
+/// A document with its records and levels, of which it is known that no check of a document refuses it.
 #[derive(Drop)]
 pub struct Nav<'a, W: Words> {
     table: Table<'a, W>,
@@ -27,7 +33,7 @@ impl<'a, W: Words> Model for Nav<'a, W> {
 }
 
 impl<'a, W: Words> Nav<'a, W> {
-    /// The document of a table that is accepted whole.
+    /// The document of a table that is accepted whole, beside the levels of its records.
     pub fn of(table: Table<'a, W>) -> Nav<'a, W>
         requires { IsNav table.bytes (W.lists table.words) }
         ensures { result ≡ table.entry }
@@ -41,5 +47,14 @@ impl<'a, W: Words> Nav<'a, W> {
         ensures nav { IsNav self.now.bytes (W.lists self.now.words) }
     {
         &self.table
+    }
+
+    /// The document's records and levels, to be read with a count that begins at 0.
+    pub fn meter(&self) -> Meter<'a, W>
+        ensures lists { result.lists ≡ W.lists self.now.words }
+        ensures reads { result.reads ≡ 0 }
+        ensures nav { IsNav self.now.bytes result.lists }
+    {
+        Meter::over(self.table.words())
     }
 }

@@ -8,3 +8,6 @@ pub mod Nodes
 pub mod Owners
 pub mod Same
 pub mod Found
+pub mod Numbered
+pub mod SameNumber
+pub mod Back

@@ -9,13 +9,15 @@ use std::alloc::Global;
 use std::marker::Model;
 use xml_model::{Counts, NoMemory};
 
-/// The lists of a document's words: its records, and the elements of depth 1, 2 and 3.
+/// The lists of a document's words: its records, and the elements of depth 1 to 5.
 #[derive(Clone, Copy, Debug, PartialEq, Eq)]
 pub enum Part {
     Records,
     Level1,
     Level2,
     Level3,
+    Level4,
+    Level5,
 }
 
 /// Words that can be read.
@@ -26,10 +28,12 @@ pub trait Words {
     fn len(&self, part: Part) -> u32
         ensures { result ≡ length (list_of part (lists self.now)) };
 
-    /// The word of a part at an index, which is below the part's length.
+    /// The word of a part at an index, which is below the part's length. A word of the fifth level is below 2 to the
+    /// power 32.
     fn word(&self, part: Part, at: u32) -> u64
         requires { at < length (list_of part (lists self.now)) }
-        ensures { result ≡ slice_index (list_of part (lists self.now)) at };
+        ensures value { result ≡ slice_index (list_of part (lists self.now)) at }
+        ensures small { TakesWord part result };
 }
 
 /// A list that keeps room for further words.
@@ -94,7 +98,9 @@ pub struct WordVec {
     records: Lane<u64>,
     level1: Lane<u64>,
     level2: Lane<u64>,
-    level3: Lane<u32>,
+    level3: Lane<u64>,
+    level4: Lane<u64>,
+    level5: Lane<u32>,
 }
 
 impl Model for WordVec {
@@ -108,12 +114,16 @@ impl Model for WordVec {
         level1 = w.level1.items.items;
         level2 = w.level2.items.items;
         level3 = w.level3.items.items;
+        level4 = w.level4.items.items;
+        level5 = w.level5.items.items;
       };
       room = record {
         records = w.records.room;
         level1 = w.level1.room;
         level2 = w.level2.room;
         level3 = w.level3.room;
+        level4 = w.level4.room;
+        level5 = w.level5.room;
       };
     } };
 }
@@ -129,6 +139,8 @@ impl WordVec {
             level1: Lane::new(alloc),
             level2: Lane::new(alloc),
             level3: Lane::new(alloc),
+            level4: Lane::new(alloc),
+            level5: Lane::new(alloc),
         }
     }
 
@@ -145,15 +157,19 @@ impl WordVec {
         self.level1.grow(counts.level1)?;
         self.level2.grow(counts.level2)?;
         self.level3.grow(counts.level3)?;
+        self.level4.grow(counts.level4)?;
+        self.level5.grow(counts.level5)?;
         self.records.settle(counts.records);
         self.level1.settle(counts.level1);
         self.level2.settle(counts.level2);
         self.level3.settle(counts.level3);
+        self.level4.settle(counts.level4);
+        self.level5.settle(counts.level5);
         Ok(())
     }
 
     /// Appends a word to a part and takes one from its room. It cannot fail: the part has room, and fewer than
-    /// `u32::MAX` words; a word of the third level is below 2 to the power 32.
+    /// `u32::MAX` words; a word of the fifth level is below 2 to the power 32.
     pub fn push(&mut self, part: Part, word: u64)
         requires room { 0 < room_of part self.old.room }
         requires few { length (list_of part self.old.lists) < 2 ^ 32 - 1 }
@@ -165,7 +181,9 @@ impl WordVec {
             Part::Records => self.records.push(word),
             Part::Level1 => self.level1.push(word),
             Part::Level2 => self.level2.push(word),
-            Part::Level3 => self.level3.push(word as u32),
+            Part::Level3 => self.level3.push(word),
+            Part::Level4 => self.level4.push(word),
+            Part::Level5 => self.level5.push(word as u32),
         }
     }
 }
@@ -179,6 +197,8 @@ impl Words for WordVec {
             Part::Level1 => self.level1.items.len() as u32,
             Part::Level2 => self.level2.items.len() as u32,
             Part::Level3 => self.level3.items.len() as u32,
+            Part::Level4 => self.level4.items.len() as u32,
+            Part::Level5 => self.level5.items.len() as u32,
         }
     }
 
@@ -188,7 +208,9 @@ impl Words for WordVec {
             Part::Records => self.records.items[at],
             Part::Level1 => self.level1.items[at],
             Part::Level2 => self.level2.items[at],
-            Part::Level3 => self.level3.items[at] as u64,
+            Part::Level3 => self.level3.items[at],
+            Part::Level4 => self.level4.items[at],
+            Part::Level5 => self.level5.items[at] as u64,
         }
     }
 }

@@ -8,6 +8,10 @@ use Rattle.xml_model.specs.declared.Field.{Field}
 use Rattle.xml_model.specs.declared.DocFault.{DocFault}
 use Rattle.xml_model.specs.declared.DocFault.TheVariants as faults
 use Rattle.xml_model.specs.Items.{Item, spelling, begins_at, walk, walk_to_end, first_place}
+use Rattle.xml_model.specs.declared.Counts.{Counts}
+use Rattle.xml_model.specs.Levels.{CountsLevels}
+use Rattle.xml_model.proofs.TagCounts.{counts_front}
+use Rattle.xml_acceptance.specs.Verdicts.{CountsLevelsOf}
 use Rattle.xml_model.specs.Nest.{Forest, flat}
 use Rattle.xml_model.specs.Records.{Record, document, records}
 use Rattle.xml_model.specs.Accepted.{RefusesItem, RefusesNesting, is_opening, IsDocument, over_items, unknown_item, encoding_item, first_wide, IsRefusal, Accepted, AcceptedTo, layer}
@@ -28,6 +32,23 @@ use Rattle.xml_acceptance.proofs.OneAnswer.{one_document}
 use Rattle.xml_acceptance.proofs.Layers.{walk_more, Whole, none_to, utf8_to, is_refusal, first_refusal, nesting_layer, nesting_refusal}
 use Rattle.xml_acceptance.proofs.OneMore.{past_more}
 use Rattle.xml_acceptance.proofs.HalfLaws.{document_half}
+
+-- two counts have the same levels
+pub record CountsSame (c d : Counts) : Type 0 where
+  pub level1 : c.level1 ≡ d.level1
+  pub level2 : c.level2 ≡ d.level2
+  pub level3 : c.level3 ≡ d.level3
+  pub level4 : c.level4 ≡ d.level4
+  pub level5 : c.level5 ≡ d.level5
+
+counts_like : (c d : Counts) (rs : List Record) → CountsSame c d → CountsLevels d rs → CountsLevels c rs
+counts_like c d rs s l = record {
+  level1 = s.level1 ∙ l.level1;
+  level2 = s.level2 ∙ l.level2;
+  level3 = s.level3 ∙ l.level3;
+  level4 = s.level4 ∙ l.level4;
+  level5 = s.level5 ∙ l.level5;
+}
 
 -- ---- one item more
 
@@ -236,3 +257,11 @@ pub half_records : (bytes : List ℕ) (pass : Pass) → IsUtf8 bytes → (p : Pa
 half_records bytes pass u p g e =
     let h = has_nest bytes p.items (whole_pass bytes pass u p) (ran_to_end bytes pass.nest p.items g e) in
     omega (arith, document_half bytes h.nest h.is_document, g.counted, ap (λ (l : List Record). length l) h.records_are)
+
+pub counted_levels : (bytes : List ℕ) (pass : Pass) (c : Counts) → IsUtf8 bytes → (p : Passes bytes pass (length bytes)) → (g : Goes bytes pass.nest p.items) → is_end g.now ≡ true → CountsSame c pass.nest.levels → CountsLevelsOf bytes c
+counted_levels bytes pass c u p g e s nest a =
+    let h = has_nest bytes p.items (whole_pass bytes pass u p) (ran_to_end bytes pass.nest p.items g e) in
+    let all : CountsLevels pass.nest.levels (document ∷ items_records 0 (first_place bytes) p.items) = counts_front pass.nest.levels document (items_records 0 (first_place bytes) p.items) refl g.leveled in
+    let same : document ∷ items_records 0 (first_place bytes) p.items ≡ records nest (first_place bytes) =
+    sym h.records_are ∙ ap (λ (f : Forest). records f (first_place bytes)) (one_document bytes h.nest nest h.is_document a.document) in
+    counts_like c pass.nest.levels (records nest (first_place bytes)) s (subst (λ (l : List Record). CountsLevels pass.nest.levels l) same all)

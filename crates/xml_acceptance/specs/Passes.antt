@@ -3,6 +3,7 @@ use Rattle.std.specs.Prelude.{◌≡◌, ℕ, suc, ◌≤◌, Bool, true, false,
 use Rattle.xml_model.specs.declared.DocFault.{DocFault}
 use Rattle.xml_model.specs.declared.DocFault.TheVariants as faults
 use Rattle.xml_model.specs.Items.{Item, walk, first_place, end_of_items}
+use Rattle.xml_model.specs.Levels.{CountsLevels}
 use Rattle.xml_model.specs.Accepted.{unknown_item, encoding_item, over_items, first_wide}
 use Rattle.xml_acceptance.specs.declared.findings.Findings.{Findings}
 use Rattle.xml_acceptance.specs.declared.nest_so_far.NestSoFar.{NestSoFar}
@@ -21,13 +22,14 @@ pub record Finds (bytes : List ℕ) (found : Findings) (items : List Item) : Typ
   pub entity : found.entity ≡ first (over_items unknown_item (first_place bytes) items)
   pub encoding : found.encoding ≡ first (over_items encoding_item (first_place bytes) items)
 
--- some nest begins with the items: what is open, how many records there are, and which of them is the first that is
+-- some nest begins with the items: what is open, how many records and elements of each level there are, and which of them is the first that is
 -- too wide
 pub record Goes (bytes : List ℕ) (nest : NestSoFar) (items : List Item) : Type 0 where
   pub now : State
   pub ran : run [] whole items ≡ Some now
   pub shows : Shows bytes nest.tags now.names now.phase
   pub counted : nest.records ≡ suc (length (items_records 0 (first_place bytes) items))
+  pub leveled : CountsLevels nest.levels (items_records 0 (first_place bytes) items)
   pub few : nest.records ≤ suc (past_items bytes items)
   pub wide : nest.wide ≡ first_wide (items_records 0 (first_place bytes) items)
 

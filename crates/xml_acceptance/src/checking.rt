@@ -9,7 +9,7 @@ ghost use Rattle.xml_model.specs.Records.{records};
 ghost use Rattle.xml_model.specs.Accepted.{Accepted, IsRefusal, layer};
 ghost use Rattle.xml_items.specs.Counted.{IsCountedAt};
 ghost use Rattle.xml_acceptance.specs.Passes.{Passes};
-ghost use Rattle.xml_acceptance.specs.Verdicts.{HasNoLevels};
+ghost use Rattle.xml_acceptance.specs.Verdicts.{CountsLevelsOf};
 
 use crate::findings::Findings;
 use crate::nest_so_far::NestSoFar;
@@ -59,7 +59,7 @@ impl Pass {
         ensures records { IfOk result (λ counts. (nest : Forest) → Accepted 6 bytes.now nest →
             counts.records ≡ length (records nest (first_place bytes.now))) }
         ensures half { IfOk result (λ counts. 2 * counts.records ≤ length bytes.now) }
-        ensures levels { IfOk result HasNoLevels }
+        ensures levels { IfOk result (CountsLevelsOf bytes.now) }
         ensures refused { IfErr result (IsRefusal bytes.now) }
         ensures layers { IfErr result (λ fault. layer fault ≤ 6) }
     {
@@ -82,9 +82,7 @@ impl Pass {
         }
         Ok(Counts {
             records: self.nest.records,
-            level1: 0,
-            level2: 0,
-            level3: 0,
+            ..self.nest.levels
         })
     }
 }
@@ -128,7 +126,7 @@ fn pass_over(bytes: &[u8]) -> Result<Pass, DocFault>
 
 /// Whether bytes are an XML document as far as the widths of its records: UTF-8, whole items, known entities, a known
 /// encoding, items that nest, records with room for their tokens. It takes no memory. The counts are those of its
-/// records; the levels are empty.
+/// records and of the elements of its levels.
 ///
 /// # Errors
 /// The one refusal of the bytes, where it is of these layers: the first of them that refuses, over the whole document,
@@ -139,7 +137,7 @@ pub fn check(bytes: &[u8]) -> Result<Counts, DocFault>
     ensures records { IfOk result (λ counts. (nest : Forest) → Accepted 6 bytes.now nest →
         counts.records ≡ length (records nest (first_place bytes.now))) }
     ensures half { IfOk result (λ counts. 2 * counts.records ≤ length bytes.now) }
-    ensures levels { IfOk result HasNoLevels }
+    ensures levels { IfOk result (CountsLevelsOf bytes.now) }
     ensures refused { IfErr result (IsRefusal bytes.now) }
     ensures layers { IfErr result (λ fault. layer fault ≤ 6) }
 {

@@ -77,6 +77,14 @@ impl OpenTags {
         self.depth > 0
     }
 
+    /// How many elements are open.
+    pub fn depth(&self) -> u32
+        ensures { (bytes : List ℕ) (names : List (List ℕ)) (phase : MachinePhase) → Shows bytes self.now names phase →
+            result ≡ length names }
+    {
+        self.depth as u32
+    }
+
     /// Whether the root element has come and none is open.
     pub fn is_complete(&self) -> bool
         ensures { (bytes : List ℕ) (names : List (List ℕ)) (phase : MachinePhase) → Shows bytes self.now names phase →

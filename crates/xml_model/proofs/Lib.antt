@@ -35,3 +35,8 @@ pub mod Inside
 pub mod AttributeRuns
 pub mod AttributeSteps
 pub mod Depths
+pub mod Nested
+pub mod LevelScan
+pub mod ChildTags
+pub mod TreeLevels
+pub mod TagCounts

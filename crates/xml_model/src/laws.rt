@@ -11,12 +11,14 @@ ghost use Rattle.xml_model.specs.declared.Axis.TheVariants as axes;
 ghost use Rattle.xml_model.specs.declared.DocFault.{DocFault};
 ghost use Rattle.xml_model.specs.Items.{Item, Leaf, first_place, meets, walk, walk_to_end};
 ghost use Rattle.xml_model.specs.Nest.{Forest, flat, is_nest};
-ghost use Rattle.xml_model.specs.Records.{records, run_records};
+ghost use Rattle.xml_model.specs.Records.{Record, records, run_records};
 ghost use Rattle.xml_model.specs.Tree.{Entry, all, at_index, axis_list, kind_of, on_axis, text};
 ghost use Rattle.xml_model.specs.Scan.{begins_by_scan, end_by_scan, holder_by_scan, kind_by_scan, past_by_scan};
 ghost use Rattle.xml_model.specs.Scan.{starts_by_scan, EndsAt};
 ghost use Rattle.xml_model.specs.Accepted.{Accepted, AcceptedTo, IsDocument, IsRefusal};
-ghost use Rattle.xml_model.specs.Levels.{at_depth, tags_from};
+ghost use Rattle.xml_model.specs.Levels.{at_depth, child_elements, child_tags, is_element, level_word, levels, levels_one};
+ghost use Rattle.xml_model.specs.Levels.{record_level, tags_from, tree_levels, tree_levels_one, AreNested};
+ghost use Rattle.xml_model.specs.LevelScan.{level_from};
 ghost use Rattle.xml_model.specs.Slots.{holder_indexes, slots_after};
 ghost use Rattle.xml_model.specs.Wholes.{run_wholes, wholes};
 ghost use Rattle.xml_model.specs.Laws.{by_indexes, holder_index, is_root_thing, list_by_indexes, FirstRecordShows};
@@ -186,4 +188,33 @@ pub fn kind_by_scan_decides()
 pub fn elements_of_depth()
     ensures { (nest : Forest) (first : ℕ) → is_nest nest ≡ true → list_all meets (flat nest) ≡ true →
         (depth : ℕ) → map (λ e. e.index) (at_depth depth (all nest first)) ≡ tags_from depth 0 (records nest first) }
+{}
+
+/// The levels of the records are those of the tree.
+pub fn levels_by_records()
+    ensures { (nest : Forest) (first : ℕ) → is_nest nest ≡ true → list_all meets (flat nest) ≡ true →
+        tree_levels (all nest first) ≡ levels (records nest first) }
+{}
+
+/// The three levels of the records, as the first version of index files has them, are those of the tree.
+pub fn levels_one_by_records()
+    ensures { (nest : Forest) (first : ℕ) → is_nest nest ≡ true → list_all meets (flat nest) ≡ true →
+        tree_levels_one (all nest first) ≡ levels_one (records nest first) }
+{}
+
+/// The child elements of an element, by the tree, are the starting tags one deeper among its records.
+pub fn child_elements_by_records()
+    ensures { (nest : Forest) (first : ℕ) → is_nest nest ≡ true → list_all meets (flat nest) ≡ true →
+        (x : Entry) → IsNode nest first x → is_element x.what ≡ true →
+        map (λ e. e.index) (child_elements x (all nest first)) ≡ child_tags x.index (records nest first) }
+{}
+
+/// A level is told by one forward scan that counts the tags one deeper, of whatever records.
+pub fn level_by_scan()
+    ensures { (k : ℕ) (rs : List Record) → map level_word (record_level k rs) ≡ level_from k 0 0 rs }
+{}
+
+/// The records of a nest step down one element at a time, and one of them is the root element's.
+pub fn records_are_nested()
+    ensures { (nest : Forest) (first : ℕ) → is_nest nest ≡ true → AreNested (records nest first) }
 {}

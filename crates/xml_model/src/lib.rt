@@ -151,14 +151,38 @@ pub struct Span {
     pub end: u32,
 }
 
-/// How many words each list of a document has, or is to have room for: its records, and the elements of depth 1, 2 and
-/// 3.
+/// How many words each list of a document has, or is to have room for: its records, and the elements of depth 1 to 5.
 #[derive(Clone, Copy, Debug, PartialEq)]
 pub struct Counts {
     pub records: u32,
     pub level1: u32,
     pub level2: u32,
     pub level3: u32,
+    pub level4: u32,
+    pub level5: u32,
+}
+
+impl Counts {
+    ghost use Rattle.std.specs.Prelude.{◌^◌, ◌-◌};
+    ghost use Rattle.xml_model.specs.Levels.{with_element, LevelsAtMost};
+
+    /// These counts with one more element of a depth; only elements of depth 1 to 5 are counted.
+    #[inline(always)]
+    pub fn with_element(self, depth: u32) -> Counts
+        requires { LevelsAtMost (2 ^ 32 - 2) self }
+        ensures { result ≡ with_element depth self }
+    {
+        let mut counts = self;
+        match depth {
+            1 => counts.level1 += 1,
+            2 => counts.level2 += 1,
+            3 => counts.level3 += 1,
+            4 => counts.level4 += 1,
+            5 => counts.level5 += 1,
+            _ => {}
+        }
+        counts
+    }
 }
 
 /// Memory was not to be had.
