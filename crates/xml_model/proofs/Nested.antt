@@ -4,11 +4,12 @@ use Rattle.std.specs.List.{AllByRecursion as Each}
 use Rattle.std.proofs.lemmas.Bool.{and_parts, or_cases, false≢true}
 use Rattle.std.proofs.lemmas.Bool.Decides.{nat_tests}
 use Rattle.xml_model.specs.Chars.{size}
-use Rattle.xml_model.specs.Items.{Attribute, Leaf, Tag, written_attribute}
+use Rattle.xml_model.specs.Items.{Attribute, Leaf, Tag, written_attribute, written_pieces}
 use Rattle.xml_model.specs.Nest.{Forest, done, single, empty, element, is_content, is_tail, is_body, is_head, is_nest, is_misc, is_declaration, is_doctype}
-use Rattle.xml_model.specs.Records.{Record, named, name_token, declares, attributes_records, attributes_place, tag_records, declaration_part_records, declaration_attributes, leaf_records, depth_at, forest_records, records, document, past_leaf, past_empty, past_start, past_element, kind_number}
+use Rattle.xml_model.specs.Records.{Record, named, name_token, declares, attributes_records, attributes_place, tag_records, declaration_part_records, declaration_attributes, leaf_records, text_records, depth_at, forest_records, records, document, past_leaf, past_empty, past_start, past_element, kind_number}
 use Rattle.xml_model.specs.Scan.{level_of}
 use Rattle.xml_model.specs.Levels.{is_tag, if_tag_of, tags_from, deepest_next, StepsDown, AreNested}
+use Rattle.xml_model.proofs.Cuts.{each_cut}
 use Rattle.xml_model.proofs.Each.{each_append}
 use Rattle.xml_model.proofs.Levels.{Shallow, FromLevel, level_at, shown_level, leaf_from, attributes_from, forest_from, deeper}
 use Rattle.xml_model.proofs.Bounds.{nest_shallow}
@@ -45,10 +46,13 @@ parts_level : (others : List Attribute) (l at d : ℕ) → cond (d == 255) 0 (su
 parts_level [] l at d k = tt
 parts_level (a ∷ others) l at d k = ((refl, k), ((refl, k), parts_level others l _ d k))
 
+texts_level : (l : ℕ) (rs : List Record) → Each (Level l) rs → Each (Level l) (text_records l rs)
+texts_level zero rs h = tt
+texts_level (suc l) rs h = h
+
 leaf_level : (l at : ℕ) (x : Leaf) → l ≤ 255 → Each (Level l) (leaf_records l at x)
-leaf_level zero at (Leaf.text ps) h = tt
-leaf_level (suc d) at (Leaf.text ps) h = ((refl, level_at (suc d) h), tt)
-leaf_level l at (Leaf.cdata cs) h = ((refl, level_at l h), tt)
+leaf_level l at (Leaf.text ps) h = texts_level l _ (each_cut (Level l) 5 (depth_at l) at (size (written_pieces ps)) (λ m o i. (refl, level_at l h)))
+leaf_level l at (Leaf.cdata cs) h = each_cut (Level l) 11 (depth_at l) (at + 9) (size cs) (λ m o i. (refl, level_at l h))
 leaf_level l at (Leaf.comment cs) h = ((refl, level_at l h), tt)
 leaf_level l at (Leaf.instruction i) h = ((refl, level_at l h), ((refl, level_at l h), tt))
 leaf_level l at (Leaf.declaration d) h = parts_level (declaration_attributes d) l (at + 5) (depth_at l) (level_at l h)

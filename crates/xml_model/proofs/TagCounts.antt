@@ -4,8 +4,9 @@ use Rattle.std.specs.List.{AllByRecursion as Each}
 use Rattle.std.proofs.lemmas.List.{length-append}
 use Rattle.xml_model.specs.declared.Counts.{Counts}
 use Rattle.xml_model.specs.Chars.{size}
-use Rattle.xml_model.specs.Items.{Attribute, Leaf, written_attribute}
-use Rattle.xml_model.specs.Records.{Record, declares, attributes_records, declaration_part_records, declaration_attributes, leaf_records, depth_at}
+use Rattle.xml_model.specs.Items.{Attribute, Leaf, written_attribute, written_pieces}
+use Rattle.xml_model.specs.Records.{Record, declares, attributes_records, declaration_part_records, declaration_attributes, leaf_records, text_records, depth_at}
+use Rattle.xml_model.proofs.Cuts.{each_cut}
 use Rattle.xml_model.specs.Levels.{is_tag, if_tag_of, tags_from, CountsLevels, one_if, with_element, LevelsAtMost}
 
 -- what is counted from one index or another
@@ -104,10 +105,13 @@ parts_none : (others : List Attribute) (d at : ℕ) → NoTags (declaration_part
 parts_none [] d at = tt
 parts_none (a ∷ others) d at = (refl, (refl, parts_none others d (at + size (written_attribute a))))
 
+texts_none : (l : ℕ) (rs : List Record) → NoTags rs → NoTags (text_records l rs)
+texts_none zero rs h = tt
+texts_none (suc l) rs h = h
+
 pub leaf_no_tags : (l at : ℕ) (x : Leaf) → NoTags (leaf_records l at x)
-leaf_no_tags zero at (Leaf.text ps) = tt
-leaf_no_tags (suc d) at (Leaf.text ps) = (refl, tt)
-leaf_no_tags l at (Leaf.cdata cs) = (refl, tt)
+leaf_no_tags l at (Leaf.text ps) = texts_none l _ (each_cut (λ r. is_tag r ≡ false) 5 (depth_at l) at (size (written_pieces ps)) (λ m o i. refl))
+leaf_no_tags l at (Leaf.cdata cs) = each_cut (λ r. is_tag r ≡ false) 11 (depth_at l) (at + 9) (size cs) (λ m o i. refl)
 leaf_no_tags l at (Leaf.comment cs) = (refl, tt)
 leaf_no_tags l at (Leaf.instruction i) = (refl, (refl, tt))
 leaf_no_tags l at (Leaf.declaration d) = parts_none (declaration_attributes d) (depth_at l) (at + 5)
