@@ -6,10 +6,11 @@ use Rattle.std.proofs.lemmas.Bool.{false≢true}
 use Rattle.xml_model.specs.Chars.{size}
 use Rattle.xml_model.specs.Items.{Attribute, Tag, Instruction, Leaf, end_tag, begins_at, spelling, written_attribute, written_pieces, written_leaf, written_end, before_value, start_tag}
 use Rattle.xml_model.specs.Nest.{Forest, done, single, empty, element, is_content_leaf}
-use Rattle.xml_model.specs.Records.{Record, named, plain, declares, attributes_records, attributes_place, tag_records, leaf_records, forest_records, past_leaf, past_empty, past_start, past_forest, past_element}
+use Rattle.xml_model.specs.Records.{Record, cut, full_cuts, named, plain, declares, attributes_records, attributes_place, tag_records, leaf_records, forest_records, past_leaf, past_empty, past_start, past_forest, past_element}
 use Rattle.xml_model.specs.Tree.{one_if}
 use Rattle.xml_model.specs.Scan.{record_at}
 use Rattle.xml_model.proofs.Inside.{each_record, in_place}
+use Rattle.xml_model.proofs.Cuts.{last_cut, length_cuts}
 use Rattle.xml_model.proofs.Fits.{first_part, second_part}
 use Rattle.xml_chars.proofs.HoldLemmas.{size-append}
 use Rattle.xml_items.specs.Reading.{tag_item}
@@ -118,8 +119,18 @@ instruction_size i =
 
 content_ending : (x : Leaf) (bytes : List ℕ) (whole prefix rest : List Record) (d at : ℕ) → whole ≡ prefix ++ leaf_records (suc d) at x ++ rest → is_content_leaf x ≡ true →
     IsEnding bytes whole (suc d) (past_leaf at x) (length prefix + length (leaf_records (suc d) at x))
-content_ending (Leaf.text ps) bytes whole prefix rest d at e h = leaf_ending bytes whole prefix _ rest 0 (suc d) _ e refl refl (omega arith) (add-one d)
-content_ending (Leaf.cdata cs) bytes whole prefix rest d at e h = leaf_ending bytes whole prefix _ rest 0 (suc d) _ e refl refl (omega (arith, cdata_size cs)) (add-one d)
+content_ending (Leaf.text ps) bytes whole prefix rest d at e h =
+    let n = size (written_pieces ps) in
+    let l = last_cut 5 d at n in
+    let stop : record_end (cut 5 d l.len l.offset) ≡ past_leaf at (Leaf.text ps) = omega (arith, l.ends) in
+    leaf_ending bytes whole prefix (leaf_records (suc d) at (Leaf.text ps)) rest (full_cuts n) (suc d) (past_leaf at (Leaf.text ps)) e (length_cuts 5 d at n) (ap (λ (r : Record). ends_tag r.token) l.is)
+    (sym (ap record_end l.is ∙ stop)) (ap (λ (r : Record). r.depth + 1) l.is ∙ add-one d)
+content_ending (Leaf.cdata cs) bytes whole prefix rest d at e h =
+    let n = size cs in
+    let l = last_cut 11 d (at + 9) n in
+    let stop : record_end (cut 11 d l.len l.offset) ≡ past_leaf at (Leaf.cdata cs) = omega (arith, l.ends, cdata_size cs) in
+    leaf_ending bytes whole prefix (leaf_records (suc d) at (Leaf.cdata cs)) rest (full_cuts n) (suc d) (past_leaf at (Leaf.cdata cs)) e (length_cuts 11 d (at + 9) n) (ap (λ (r : Record). ends_tag r.token) l.is)
+    (sym (ap record_end l.is ∙ stop)) (ap (λ (r : Record). r.depth + 1) l.is ∙ add-one d)
 content_ending (Leaf.comment cs) bytes whole prefix rest d at e h = leaf_ending bytes whole prefix _ rest 0 (suc d) _ e refl refl (omega (arith, comment_size cs)) (add-one d)
 content_ending (Leaf.instruction i) bytes whole prefix rest d at e h = leaf_ending bytes whole prefix _ rest 1 (suc d) _ e refl refl (omega (arith, instruction_size i)) (add-one d)
 content_ending (Leaf.declaration x) bytes whole prefix rest d at e h = absurd (false≢true h)

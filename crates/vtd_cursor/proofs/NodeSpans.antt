@@ -1,15 +1,17 @@
 -- What a node's first and last records and the bytes say of its span.
-use Rattle.std.proofs.Common.{◌≡◌, ℕ, suc, ◌+◌, ◌-◌, ◌<◌, ◌≤◌, Bool, true, false, cond, List, [], ◌∷◌, ◌++◌, length, refl, ap, sym, ◌∙◌, subst, arith, length-append, add-zero}
+use Rattle.std.proofs.Common.{◌≡◌, ℕ, suc, ◌+◌, ◌-◌, ◌<◌, ◌≤◌, Bool, true, false, cond, List, [], ◌∷◌, ◌++◌, length, refl, ap, sym, ◌∙◌, subst, arith, length-append, add-zero, ap₂, append-nil, append_assoc}
 use Rattle.std.specs.List.{AllByRecursion as Each}
 use Rattle.std.proofs.lemmas.Bool.{false≢true}
 use Rattle.xml_model.specs.declared.Kind.{Kind}
 use Rattle.xml_model.specs.declared.Kind.TheVariants as kinds
 use Rattle.xml_model.specs.Items.{Leaf, written_pieces, first_place}
 use Rattle.xml_model.specs.Nest.{Forest}
-use Rattle.xml_model.specs.Records.{Record, declares, named, plain, records, run_records, tag_records, forest_records, past_leaf, past_run, past_start}
+use Rattle.xml_model.specs.Chars.{size}
+use Rattle.xml_model.specs.Records.{Record, cut, cut_records, full_cuts, leaf_records, declares, named, plain, records, run_records, tag_records, forest_records, past_leaf, past_run, past_start}
 use Rattle.xml_model.specs.Tree.{Thing, Entry, Identifies, all, kind_of, is_text}
 use Rattle.xml_model.specs.Scan.{record_at}
 use Rattle.xml_model.specs.Laws.{HasRecords, records_of}
+use Rattle.xml_model.proofs.Cuts.{first_cut, last_cut, length_cuts}
 use Rattle.xml_model.proofs.Each.{each_at}
 use Rattle.xml_model.proofs.Intervals.{all_some}
 use Rattle.xml_model.proofs.NodeLaws.{records_of_node}
@@ -38,14 +40,48 @@ last_in : (whole prefix mine rest : List Record) (n index past : ℕ) → whole 
 last_in whole prefix mine rest n index past e b m p =
     let is : past - 1 ≡ length prefix + n = omega (arith, b, m, p) in ap (λ k. record_at k whole) is ∙ in_place whole prefix mine rest n e (omega (arith, m))
 
-run_end : (xs : List Leaf) (d at : ℕ) (r : Record) → Each (λ x. is_text x ≡ true) xs → record_end r ≡ at → record_end (record_at (length (run_records (suc d) at xs)) (r ∷ run_records (suc d) at xs)) ≡ past_run at xs
-run_end [] d at r k h = h
-run_end (Leaf.text ps ∷ xs) d at r k h = run_end xs d (past_leaf at (Leaf.text ps)) (plain 5 d (written_pieces ps) at) k.1 (omega arith)
-run_end (Leaf.cdata cs ∷ xs) d at r k h = run_end xs d (past_leaf at (Leaf.cdata cs)) (plain 11 d cs (at + 9)) k.1 (omega (arith, cdata_size cs))
-run_end (Leaf.comment cs ∷ xs) d at r k h = absurd (false≢true k.0)
-run_end (Leaf.instruction i ∷ xs) d at r k h = absurd (false≢true k.0)
-run_end (Leaf.declaration x ∷ xs) d at r k h = absurd (false≢true k.0)
-run_end (Leaf.doctype x ∷ xs) d at r k h = absurd (false≢true k.0)
+begins_at_head : (rs : List Record) (start index : ℕ) (r : Record) → record_at index rs ≡ r → r.offset ≡ start + opening r.token → Begins rs start index
+begins_at_head rs start index r e h = ap (λ x. x.offset) e ∙ h ∙ ap (λ x. start + opening x.token) (sym e)
+
+-- the first record of a text or a CDATA section, and its last
+record TwoEnds (mine : List Record) (start stop : ℕ) : Type 0 where
+  last : ℕ
+  count : length mine ≡ suc last
+  begins : Begins mine start 0
+  ends : record_end (record_at last mine) ≡ stop
+
+leaf_ends : (x : Leaf) (d at : ℕ) → is_text x ≡ true → TwoEnds (leaf_records (suc d) at x) at (past_leaf at x)
+leaf_ends (Leaf.text ps) d at h =
+    let n = size (written_pieces ps) in
+    let c = first_cut 5 d at n in
+    let l = last_cut 5 d at n in
+    let stop : record_end (cut 5 d l.len l.offset) ≡ past_leaf at (Leaf.text ps) = omega (arith, l.ends) in
+    record { last = full_cuts n; count = length_cuts 5 d at n; begins = begins_at_head (cut_records 5 d at n) at 0 (cut 5 d c.len at) (ap (record_at 0) c.is) (sym (add-zero at)); ends = ap record_end l.is ∙ stop }
+leaf_ends (Leaf.cdata cs) d at h =
+    let n = size cs in
+    let c = first_cut 11 d (at + 9) n in
+    let l = last_cut 11 d (at + 9) n in
+    let stop : record_end (cut 11 d l.len l.offset) ≡ past_leaf at (Leaf.cdata cs) = omega (arith, l.ends, cdata_size cs) in
+    record { last = full_cuts n; count = length_cuts 11 d (at + 9) n; begins = begins_at_head (cut_records 11 d (at + 9) n) at 0 (cut 11 d c.len (at + 9)) (ap (record_at 0) c.is) refl; ends = ap record_end l.is ∙ stop }
+leaf_ends (Leaf.comment cs) d at h = absurd (false≢true h)
+leaf_ends (Leaf.instruction i) d at h = absurd (false≢true h)
+leaf_ends (Leaf.declaration x) d at h = absurd (false≢true h)
+leaf_ends (Leaf.doctype x) d at h = absurd (false≢true h)
+
+-- after records of which the last ends at a place, the last of a run from there on
+run_end : (xs : List Leaf) (d at : ℕ) (before : List Record) (n : ℕ) → Each (λ x. is_text x ≡ true) xs → length before ≡ suc n → record_end (record_at n before) ≡ at →
+    record_end (record_at (n + length (run_records (suc d) at xs)) (before ++ run_records (suc d) at xs)) ≡ past_run at xs
+run_end [] d at before n k m h = ap₂ (λ (j : ℕ) (rs : List Record). record_end (record_at j rs)) (add-zero n) (append-nil before) ∙ h
+run_end (x ∷ xs) d at before n k m h =
+    let mine = leaf_records (suc d) at x in
+    let more = run_records (suc d) (past_leaf at x) xs in
+    let o = leaf_ends x d at k.0 in
+    let there : record_at (length before + o.last) (before ++ mine) ≡ record_at o.last mine = in_place (before ++ mine) before mine [] o.last (sym (append-nil (before ++ mine))) (omega (arith, o.count)) in
+    let at_last : n + length mine ≡ length before + o.last = omega (arith, m, o.count) in
+    let count : length (before ++ mine) ≡ suc (n + length mine) = omega (arith, length-append before mine, m) in
+    let sum : n + length (mine ++ more) ≡ n + length mine + length more = omega (arith, length-append mine more) in
+    ap₂ (λ (j : ℕ) (rs : List Record). record_end (record_at j rs)) sum (sym (append_assoc before mine more))
+    ∙ run_end xs d (past_leaf at x) (before ++ mine) (n + length mine) k.1 count (ap (λ (j : ℕ). record_end (record_at j (before ++ mine))) at_last ∙ ap record_end there ∙ o.ends)
 
 name_begins : (b : Bool) → opening (cond b 3 2) ≡ 0
 name_begins true = refl
@@ -56,25 +92,18 @@ two_ends : (bytes : List ℕ) (rs : List Record) (kind : Kind) (l start stop ind
     SpanShown bytes rs kind l start stop index past
 two_ends bytes rs kind l start stop index past r e b s = record { root = λ h. absurd (r h); begins = λ h. b; depth = λ h. absurd (e h); element = λ h. absurd (e h); other = λ h k. s }
 
-begins_at_head : (rs : List Record) (start index : ℕ) (r : Record) → record_at index rs ≡ r → r.offset ≡ start + opening r.token → Begins rs start index
-begins_at_head rs start index r e h = ap (λ x. x.offset) e ∙ h ∙ ap (λ x. start + opening x.token) (sym e)
 
 run_shown : (bytes : List ℕ) (rs prefix rest : List Record) (head : Leaf) (others : List Leaf) (d start stop index past : ℕ) → rs ≡ prefix ++ run_records (suc d) start (head ∷ others) ++ rest → length prefix ≡ index →
     index + length (run_records (suc d) start (head ∷ others)) ≡ past → Each (λ x. is_text x ≡ true) (head ∷ others) → stop ≡ past_run start (head ∷ others) → SpanShown bytes rs kinds.Text (suc d) start stop index past
-run_shown bytes rs prefix rest (Leaf.text ps) others d start stop index past e n p k s =
-    let r = plain 5 d (written_pieces ps) start in
-    let more = run_records (suc d) (past_leaf start (Leaf.text ps)) others in
-    two_ends bytes rs kinds.Text (suc d) start stop index past (λ h. cc) (λ h. cc) (begins_at_head rs start index r (first_in rs prefix (r ∷ more) rest index e n (omega arith)) (sym (add-zero start)))
-    (ap record_end (last_in rs prefix (r ∷ more) rest (length more) index past e n refl p) ∙ run_end others d (past_leaf start (Leaf.text ps)) r k.1 (omega arith) ∙ sym s)
-run_shown bytes rs prefix rest (Leaf.cdata cs) others d start stop index past e n p k s =
-    let r = plain 11 d cs (start + 9) in
-    let more = run_records (suc d) (past_leaf start (Leaf.cdata cs)) others in
-    two_ends bytes rs kinds.Text (suc d) start stop index past (λ h. cc) (λ h. cc) (begins_at_head rs start index r (first_in rs prefix (r ∷ more) rest index e n (omega arith)) refl)
-    (ap record_end (last_in rs prefix (r ∷ more) rest (length more) index past e n refl p) ∙ run_end others d (past_leaf start (Leaf.cdata cs)) r k.1 (omega (arith, cdata_size cs)) ∙ sym s)
-run_shown bytes rs prefix rest (Leaf.comment cs) others d start stop index past e n p k s = absurd (false≢true k.0)
-run_shown bytes rs prefix rest (Leaf.instruction i) others d start stop index past e n p k s = absurd (false≢true k.0)
-run_shown bytes rs prefix rest (Leaf.declaration x) others d start stop index past e n p k s = absurd (false≢true k.0)
-run_shown bytes rs prefix rest (Leaf.doctype x) others d start stop index past e n p k s = absurd (false≢true k.0)
+run_shown bytes rs prefix rest x others d start stop index past e n p k s =
+    let mine = leaf_records (suc d) start x in
+    let more = run_records (suc d) (past_leaf start x) others in
+    let o = leaf_ends x d start k.0 in
+    let some : 0 < length (mine ++ more) = omega (arith, length-append mine more, o.count) in
+    let count : length (mine ++ more) ≡ suc (o.last + length more) = omega (arith, length-append mine more, o.count) in
+    let first : record_at index rs ≡ record_at 0 mine = first_in rs prefix (mine ++ more) rest index e n some ∙ in_place (mine ++ more) [] mine more 0 refl (omega (arith, o.count)) in
+    two_ends bytes rs kinds.Text (suc d) start stop index past (λ h. cc) (λ h. cc) (begins_at_head rs start index (record_at 0 mine) first o.begins)
+    (ap record_end (last_in rs prefix (mine ++ more) rest (o.last + length more) index past e n count p) ∙ run_end others d (past_leaf start x) mine o.last k.1 o.count o.ends ∙ sym s)
 
 text_shown : (bytes : List ℕ) (rs prefix rest : List Record) (xs : List Leaf) (l start stop index past : ℕ) → rs ≡ prefix ++ run_records l start xs ++ rest → length prefix ≡ index → index + length (run_records l start xs) ≡ past →
     TextCloses xs l start stop → SpanShown bytes rs kinds.Text l start stop index past

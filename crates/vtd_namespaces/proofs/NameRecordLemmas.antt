@@ -8,10 +8,11 @@ use Rattle.std.proofs.lemmas.List.{get_or-append-add}
 use Rattle.xml_model.specs.Chars.{size, begins, is_name, is_blank}
 use Rattle.xml_model.specs.Items.{Attribute, Tag, Leaf, text, cdata, declaration, doctype, Item, leaf, start_tag, empty_tag, end_tag, meets, meets_tag, meets_attribute, meets_instruction, written, spelling, begins_at, ends_well, may_begin_at, walk, walk_from, walk_to_end, end_of_items, first_place, before_value, written_attribute, written_attributes, written_pieces, written_tag, written_end, written_leaf, quote_char}
 use Rattle.xml_model.specs.Nest.{Forest, done, single, empty, element, flat}
-use Rattle.xml_model.specs.Records.{Record, document, records, named, name_token, attribute_records, attributes_records, attributes_place, tag_records, leaf_records, forest_records, past_leaf, past_empty, past_start, past_element, past_forest, declares}
+use Rattle.xml_model.specs.Records.{depth_at, Record, document, records, named, name_token, attribute_records, attributes_records, attributes_place, tag_records, leaf_records, forest_records, past_leaf, past_empty, past_start, past_element, past_forest, declares}
 use Rattle.xml_model.specs.Scan.{record_at}
 use Rattle.xml_model.specs.Tree.{Step, Entry, Here, Holder, attributes, attribute_entry, nodes, all, at_first, leaf_node, begins_run, run, after_leaf, inside_of, after_element, element_entry, tag_attributes, under, held}
 use Rattle.xml_model.specs.Accepted.{IsDocument, name_place}
+use Rattle.xml_model.proofs.Cuts.{first_cut}
 use Rattle.xml_model.proofs.Each.{each_append, each_option, each_map, if_some_cond, if_some_second}
 use Rattle.xml_model.proofs.Fits.{first_part, second_part, after_length}
 use Rattle.vtd_words.proofs.Fitting.{past_items}
@@ -34,8 +35,12 @@ NoAttribute rest = is_attribute_name (record_at 0 rest).token ≡ false
 
 no_attribute_leaf : (x : Leaf) (l at : ℕ) (rest : List Record) → NoAttribute rest → NoAttribute (leaf_records l at x ++ rest)
 no_attribute_leaf (text ps) zero at rest h = h
-no_attribute_leaf (text ps) (suc l) at rest h = refl
-no_attribute_leaf (cdata cs) l at rest h = refl
+no_attribute_leaf (text ps) (suc l) at rest h =
+    let c = first_cut 5 l at (size (written_pieces ps)) in
+    subst (λ (rs : List Record). NoAttribute (rs ++ rest)) (sym c.is) refl
+no_attribute_leaf (cdata cs) l at rest h =
+    let c = first_cut 11 (depth_at l) (at + 9) (size cs) in
+    subst (λ (rs : List Record). NoAttribute (rs ++ rest)) (sym c.is) refl
 no_attribute_leaf (Leaf.comment cs) l at rest h = refl
 no_attribute_leaf (Leaf.instruction i) l at rest h = refl
 no_attribute_leaf (declaration d) l at rest h = refl

@@ -4,6 +4,7 @@ use Rattle.std.proofs.Math.Nat.{div-eq_of_lt, div-mul-le_self, lt-div-mul-add, d
 use Rattle.std.specs.List.{AllByRecursion as Each}
 use Rattle.xml_model.specs.declared.Field.TheVariants as fields
 use Rattle.xml_model.specs.Records.{Record, cut, cuts, full_cuts, cut_records}
+use Rattle.xml_model.specs.Scan.{record_at}
 use Rattle.xml_model.specs.Accepted.{is_name_token, too_wide, first_wide, wide_here}
 
 -- so many full cuts leave 1 to 1,048,575 bytes, or nothing of nothing
@@ -110,3 +111,20 @@ narrow_cuts token depth at n h = none (cut_records token depth at n) (each_cut (
     none : (rs : List Record) → Each (λ r. too_wide r ≡ None) rs → first_wide rs ≡ None
     none [] k = refl
     none (r ∷ rs) k = ap₂ (λ a b. wide_here a r.offset b) k.0 (none rs k.1)
+
+-- the last cut ends where the token does
+pub record LastCut (token depth at n : ℕ) : Type 0 where
+  pub len : ℕ
+  pub offset : ℕ
+  pub is : record_at (full_cuts n) (cut_records token depth at n) ≡ cut token depth len offset
+  pub ends : offset + len ≡ at + n
+
+last_of_cuts : (k token depth at n : ℕ) → Cut k n → (len : ℕ) × (offset : ℕ) × (record_at k (cuts k token depth at n) ≡ cut token depth len offset) × (offset + len ≡ at + n)
+last_of_cuts zero token depth at n c = (n, at, refl, refl)
+last_of_cuts (suc k) token depth at n c =
+    let l = last_of_cuts k token depth (at + 1_048_575) (n - 1_048_575) (cut_less k n c) in
+    (l.0, l.1, l.2, omega (arith, l.3, c.least))
+
+pub last_cut : (token depth at n : ℕ) → LastCut token depth at n
+unfolding cut_records
+last_cut token depth at n = let l = last_of_cuts (full_cuts n) token depth at n (full_cut n) in record { len = l.0; offset = l.1; is = l.2; ends = l.3 }
