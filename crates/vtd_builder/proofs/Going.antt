@@ -61,7 +61,7 @@ records_split bytes nest = ap (λ (l : List Record). document ∷ l) (sym (token
 
 pub can_all : (bytes : List ℕ) (nest : Forest) → length bytes < 2 ^ 30 → Accepted 6 bytes nest → CanOffer 0 (document ∷ items_records 0 (first_place bytes) (flat nest))
 can_all bytes nest small a =
-    let lists : Lists = record { records = record_words bytes nest; level1 = []; level2 = []; level3 = [] } in
+    let lists : Lists = record { records = record_words bytes nest; level1 = []; level2 = []; level3 = []; level4 = []; level5 = [] } in
     let fit = (nest_shown bytes lists nest small (record { accepted = a; recorded = refl })).fit in
     let g = goes_whole bytes nest a.document in
     record {

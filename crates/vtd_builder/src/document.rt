@@ -1,17 +1,17 @@
-//! Documents with their records, built from bytes.
+//! Documents with their records and levels, built from bytes.
 
 ghost use Rattle.std.specs.Prelude.{◌≡◌, ◌+◌, ◌^◌, ◌<◌, ◌≤◌, length, vec_len, IfErr, IfOk, OnOk};
 ghost use Rattle.xml_model.specs.declared.DocFault.{DocFault};
 ghost use Rattle.xml_model.specs.Nest.{Forest};
 ghost use Rattle.xml_model.specs.Accepted.{Accepted, IsRefusal};
-ghost use Rattle.vtd_words.specs.Lists.{none};
-ghost use Rattle.vtd_builder.specs.Documents.{IsDoc, words_of};
+ghost use Rattle.vtd_builder.specs.Documents.{IsDoc, IsReserved, words_of};
+ghost use Rattle.vtd_builder.specs.Offered.{record_words};
 
 use crate::emission::emit;
 use crate::filling::Filling;
 use std::alloc::Global;
 use std::marker::Model;
-use vtd_location::Nav;
+use vtd_location::{Nav, fill_levels};
 use vtd_namespaces::check_names;
 use vtd_words::{Counts, Table, WordVec};
 use xml_acceptance::check;
@@ -26,7 +26,7 @@ pub enum BuildFault {
     NoMemory,
 }
 
-/// A document that no check refuses, with its records.
+/// A document that no check refuses, with its records and levels.
 #[derive(Drop)]
 pub struct Doc {
     bytes: Vec<u8>,
@@ -46,7 +46,7 @@ impl Model for Doc {
 impl Doc {
     ghost use Rattle.vtd_builder.specs.Documents.{IsDoc};
 
-    /// The document of bytes that no check refuses, with the words of its records. Nothing is read.
+    /// The document of bytes that no check refuses, with the words of its records and levels. Nothing is read.
     pub fn of(bytes: Vec<u8>, words: WordVec) -> Doc
         requires { IsDoc bytes.items words.lists }
         ensures bytes { result.bytes ≡ bytes.items }
@@ -55,7 +55,7 @@ impl Doc {
         Doc { bytes, words }
     }
 
-    /// The document's bytes and the words of its records, handed out.
+    /// The document's bytes and the words of its records and levels, handed out.
     pub fn into_parts(self) -> (Vec<u8>, WordVec)
         ensures bytes { result.0.items ≡ self.bytes }
         ensures words { result.1.lists ≡ self.words }
@@ -73,7 +73,7 @@ impl Doc {
         self.bytes.as_slice()
     }
 
-    /// The words of its records, which are those of the nest of its bytes.
+    /// The words of its records and levels, which are those of the nest of its bytes.
     pub fn words(&self) -> &WordVec
         ensures value { result.now.lists ≡ self.now.words }
         ensures document { IsDoc self.now.bytes self.now.words }
@@ -92,7 +92,8 @@ impl Doc {
 
 /// A sink with room for so many words of each part.
 fn reserve(alloc: Global, counts: Counts) -> Result<Filling, NoMemory>
-    ensures { IfOk result (λ sink. sink.words.lists ≡ none × (sink.most ≡ counts.records)) }
+    ensures reserved { IfOk result (λ sink. IsReserved counts sink.words) }
+    ensures most { IfOk result (λ sink. sink.most ≡ counts.records) }
 {
     let mut words = WordVec::new(alloc);
     words.reserve(counts)?;
@@ -106,15 +107,16 @@ fn reserve(alloc: Global, counts: Counts) -> Result<Filling, NoMemory>
 fn check_recorded(bytes: &[u8], words: &WordVec) -> Result<(), DocFault>
     requires size { length bytes.now < 2 ^ 30 }
     requires accepted { (nest : Forest) × Accepted 6 bytes.now nest }
-    requires recorded { (nest : Forest) → Accepted 6 bytes.now nest → words.now.lists ≡ words_of bytes.now nest }
+    requires recorded { (nest : Forest) → Accepted 6 bytes.now nest →
+        words.now.lists.records ≡ record_words bytes.now nest }
     ensures accepted { OnOk result ((nest : Forest) → Accepted 6 bytes.now nest → Accepted 8 bytes.now nest) }
     ensures refused { IfErr result (IsRefusal bytes.now) }
 {
     check_names(&Table::of(bytes, words))
 }
 
-/// The document of the bytes, with the words of its records; its levels are empty. All memory is taken at once, after
-/// `check`, so `NoMemory` comes only where that refuses nothing; the names are checked by the records.
+/// The document of the bytes, with the words of its records and levels. All memory is taken at once, after `check`,
+/// by its counts, so `NoMemory` comes only where that refuses nothing; the names are checked by the records.
 ///
 /// # Errors
 /// `Doc` only with the refusal of the bytes; `NoMemory` may come in place of a refusal of names. The bytes come back
@@ -140,9 +142,10 @@ pub fn build(alloc: Global, bytes: Vec<u8>) -> Result<Doc, (Vec<u8>, BuildFault)
     if emit(&bytes, &mut sink).is_err() {
         unreachable!()
     }
-    let words = sink.words;
+    let mut words = sink.words;
     if let Err(fault) = check_recorded(&bytes, &words) {
         return Err((bytes, BuildFault::Doc(fault)));
     }
+    fill_levels(&mut words);
     Ok(Doc::of(bytes, words))
 }

@@ -6,7 +6,7 @@ use Rattle.vtd_words.specs.Lists.{Lists}
 use Rattle.vtd_words.specs.Table.{IsNestOf, IsTable}
 use Rattle.vtd_location.specs.Nav.{IsNav, IsNavOf}
 
-fewer_layers : (k : ℕ) (bytes : List ℕ) (nest : Forest) → Accepted k bytes nest → Accepted 6 bytes nest
+pub fewer_layers : (k : ℕ) (bytes : List ℕ) (nest : Forest) → Accepted k bytes nest → Accepted 6 bytes nest
 fewer_layers k bytes nest a = record {
   utf8 = a.utf8;
   document = a.document;

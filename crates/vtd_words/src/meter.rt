@@ -1,7 +1,7 @@
 //! Words that are read with a count.
 
 ghost use Rattle.std.specs.Prelude.{◌≡◌, ◌<◌, length, slice_index};
-ghost use Rattle.vtd_words.specs.Lists.{list_of};
+ghost use Rattle.vtd_words.specs.Lists.{list_of, TakesWord};
 ghost use Rattle.vtd_words.specs.Metered.{one_read};
 
 use crate::word_vec::{Part, Words};
@@ -39,11 +39,12 @@ impl<'a, W: Words> Meter<'a, W> {
         self.words.len(part)
     }
 
-    /// The word of a part at an index, which is below the part's length. It counts as one read; the count stays at
-    /// `u64::MAX`.
+    /// The word of a part at an index, which is below the part's length; one of the fifth level is below 2 to the power
+    /// 32. It counts as one read; the count stays at `u64::MAX`.
     pub fn word(&mut self, part: Part, at: u32) -> u64
         requires { at < length (list_of part self.old.lists) }
         ensures value { result ≡ slice_index (list_of part self.old.lists) at }
+        ensures small { TakesWord part result }
         ensures lists { self.new.lists ≡ self.old.lists }
         ensures reads { self.new.reads ≡ one_read self.old.reads }
     {
