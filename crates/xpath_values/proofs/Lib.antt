@@ -1,11 +1,15 @@
 pub mod FitLemmas
+pub mod LanguageLemmas
 pub mod NormalLemmas
 pub mod NumberExamples
 pub mod ProductLemmas
 pub mod QuotientLemmas
 pub mod ReadLemmas
+pub mod SeenLemmas
+pub mod SpelledLemmas
 pub mod SubstringLemmas
 pub mod SumLemmas
 pub mod TextExamples
 pub mod TextLemmas
+pub mod TranslateLemmas
 pub mod ValueLemmas

@@ -69,7 +69,7 @@ spread true true n f = refl
 spread true false n f = refl
 spread false u n f = refl
 
-abbrev is_below : ℤ → Bool
+abbrev pub is_below : ℤ → Bool
 is_below (pos n) = false
 is_below (negsuc n) = true
 
@@ -85,7 +85,7 @@ product_by_magnitudes (pos a) (negsuc b) = exactly_negative (a * suc b) ∙ spre
 product_by_magnitudes (negsuc a) (pos b) = exactly_negative (suc a * b) ∙ spread_at true (suc a * b)
 product_by_magnitudes (negsuc a) (negsuc b) = spread_at false (suc a * suc b)
 
-below_is : (x : ℤ) → is_negative x ≡ is_below x
+pub below_is : (x : ℤ) → is_negative x ≡ is_below x
 below_is (pos n) = sym (false_is_lt (pos n) (pos 0) (omega arith))
 below_is (negsuc n) = refl
 

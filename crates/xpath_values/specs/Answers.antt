@@ -1,6 +1,7 @@
 -- Answers: something, or the first fault.
-use Rattle.std.specs.Prelude.{List, [], ◌∷◌, Result, Ok, Err}
+use Rattle.std.specs.Prelude.{◌≡◌, ⊤, Bool, true, false, List, [], ◌∷◌, Result, Ok, Err}
 use Rattle.xpath_values.specs.declared.ValueFault.{ValueFault}
+use Rattle.xpath_values.specs.declared.ValueFault.TheVariants as fault
 
 -- something, or a fault
 abbrev pub Answer : Type 0 → Type 0
@@ -20,3 +21,14 @@ with (Err e) f = Err e
 abbrev pub each : {X Y : Type 0} → (X → Answer Y) → List X → Answer (List Y)
 each f [] = Ok []
 each f (x ∷ xs) = and_then (f x) (λ y. with (each f xs) (λ ys. y ∷ ys))
+
+-- a call gives what is meant, or there was no memory
+abbrev pub Yields : {X : Type 0} → Answer X → Answer X → Type 0
+Yields (Ok x) meant = Ok x ≡ meant
+Yields (Err fault.NoMemory) meant = ⊤
+Yields (Err e) meant = Err e ≡ meant
+
+-- a call gives what is meant; where it takes memory, or there was none
+abbrev pub Gives : {X : Type 0} → Bool → Answer X → Answer X → Type 0
+Gives true result meant = Yields result meant
+Gives false result meant = result ≡ meant

@@ -3,6 +3,9 @@ pub mod Normal
 pub mod Numbers
 pub mod Products
 pub mod Reading
+pub mod Seen
+pub mod Spelled
 pub mod Sums
 pub mod Texts
+pub mod Translating
 pub mod Values

@@ -1,6 +1,8 @@
 -- Texts, as lists of code points: XPath 1.0, section 4.2.
 use Rattle.std.specs.Prelude.{ℕ, suc, Bool, true, false, cond, ◌&&◌, ◌==◌, List, [], ◌∷◌, ◌++◌, Option, Some}
-use Rattle.std.specs.Prelude.{None, length, drop, filter, position, option_map, option_to_list, is_some}
+use Rattle.std.specs.Prelude.{◌||◌, bytes_eq, map, None, length, drop, filter, position, option_map, option_to_list}
+use Rattle.std.specs.Prelude.{is_some}
+use Rattle.std.specs.Char.{to_ascii_lowercase}
 use Rattle.std.specs.List.{flat_map, slice_get}
 use Rattle.xml_model.specs.Chars.{is_space, begins}
 use Rattle.xpath_values.specs.declared.Number.{Number}
@@ -91,3 +93,11 @@ replaced c to (Some k) = option_to_list (slice_get to k)
 
 abbrev pub translate : List ℕ → List ℕ → List ℕ → List ℕ
 translate t from to = flat_map (λ c. replaced c to (position (λ d. d == c) from)) t
+
+-- Languages: XPath 1.0, section 4.3.
+
+-- a value of xml:lang is of a language: it is its name, or begins with it and a hyphen, the case of ASCII letters aside
+abbrev pub is_language : List ℕ → List ℕ → Bool
+is_language value language =
+    bytes_eq (map to_ascii_lowercase value) (map to_ascii_lowercase language)
+    || begins (map to_ascii_lowercase language ++ (45 ∷ [])) (map to_ascii_lowercase value)

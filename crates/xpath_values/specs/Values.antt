@@ -4,7 +4,8 @@ use Rattle.std.specs.Prelude.{Ok}
 use Rattle.std.specs.List.{list_any, AllByRecursion, Contains}
 use Rattle.xml_model.specs.Content.{content}
 use Rattle.xml_model.specs.Tree.{Entry}
-use Rattle.vtd_words.specs.Table.{node_of}
+use Rattle.vtd_words.specs.Lists.{Lists}
+use Rattle.vtd_words.specs.Table.{ForEachNest, IsNodeOf, node_of, nodes_of}
 use Rattle.xpath_tokens.specs.declared.Comparison.{Comparison}
 use Rattle.xpath_tokens.specs.declared.Comparison.TheVariants.{Equal, Unequal}
 use Rattle.xpath_values.specs.declared.Number.{Number}
@@ -37,6 +38,16 @@ AreAmong es _ = Unit {0}
 pub record IsHeld (es : List Entry) (x : Value) (v : Meant) : Type 0 where
   pub same : x ≡ held_as v
   pub among : AreAmong es v
+
+-- of everything that is meant by what a program holds, in every nest of a table
+abbrev pub ForEachMeant : List ℕ → Lists → Value → (Meant → Type 0) → Type 0
+ForEachMeant bytes lists x P =
+    ForEachNest bytes lists (λ nest. (v : Meant) → IsHeld (nodes_of bytes nest) x v → P v)
+
+-- the nodes of a value are nodes of a table
+abbrev pub HasNodesOf : List ℕ → Lists → Value → Type 0
+HasNodesOf bytes lists (held.Nodes xs) = AllByRecursion (λ x. IsNodeOf bytes lists x) xs
+HasNodesOf bytes lists _ = Unit {0}
 
 -- Conversions.
 

@@ -41,7 +41,7 @@ fn joined_text(alloc: Global, one: &str, other: &str) -> Result<Text, AllocError
 }
 
 /// The text with the characters of a piece.
-fn made(alloc: Global, piece: &str) -> Result<Text, NoMemory>
+pub fn made(alloc: Global, piece: &str) -> Result<Text, NoMemory>
     ensures { IfOk result (λ t. t ≡ chars piece.now) }
 {
     match make_text(alloc, piece) {
@@ -51,7 +51,7 @@ fn made(alloc: Global, piece: &str) -> Result<Text, NoMemory>
 }
 
 /// The text with no characters.
-fn nothing(alloc: Global) -> Result<Text, NoMemory>
+pub fn nothing(alloc: Global) -> Result<Text, NoMemory>
     ensures { IfOk result (λ t. t ≡ []) }
 {
     made(alloc, "")

@@ -3,28 +3,36 @@
 #![tactic(auto)]
 
 mod building;
+mod languages;
 pub mod laws;
 mod normal;
 mod numbers;
 mod positions;
 mod products;
 mod reading;
+mod spelled;
+mod strings;
 mod sums;
 mod texts;
+mod translating;
 mod values;
 
 ghost use Rattle.std.specs.Prelude.{◌≡◌};
 ghost use Rattle.xpath_values.specs.declared.ValueFault.TheVariants.{NoMemory};
 
 pub use building::{concat, substring_after, substring_before};
+pub use languages::is_language;
 pub use normal::normalize_space;
 pub use numbers::{arithmetic, ceiling, compare_numbers, floor, negative, round};
 pub use positions::substring;
 pub use reading::{NumberReader, Phase, number_of_text, read_next, read_start, read_value};
+pub use spelled::text_of_number;
 use std::alloc::{AllocError, AllocFailed};
+pub use strings::{chars_at, number_of, number_of_truth, number_seen, string_of, value_number};
 pub use sums::{Sum, sum_next, sum_start, sum_value};
 pub use texts::{contains, starts_with, string_length};
-pub use values::{number_at, truth_of};
+pub use translating::translate;
+pub use values::{nodes_of, number_at, truth_of, truth_seen};
 use xml_model::{NodeList, Text};
 
 /// A number, in place of that of XPath 1.0, section 3.5: not a number, or so many millionths, of an absolute value of

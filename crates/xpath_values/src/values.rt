@@ -4,6 +4,7 @@ ghost use Rattle.std.specs.Prelude.{◌≡◌, fold};
 ghost use Rattle.vtd_words.specs.Table.{ForEachEntry, IsNodeOf};
 ghost use Rattle.xpath_values.specs.Numbers.{number_of_text, truth_of_number};
 ghost use Rattle.xpath_values.specs.Reading.{read_next, read_start};
+ghost use Rattle.xpath_values.specs.Seen.{truth_seen};
 ghost use Rattle.xpath_values.specs.Values.{Meant, held_as, is_some_list, string_value, truth_of};
 
 use crate::reading::{NumberReader, read_next, read_start, read_value};
@@ -38,16 +39,15 @@ fn is_some_node(nodes: &[Node]) -> bool
 }
 
 /// The nodes of a list.
-fn nodes_of(list: &NodeList) -> &[Node]
+pub fn nodes_of(list: &NodeList) -> &[Node]
     ensures { result.now ≡ list.now }
 {
     list.held.as_slice()
 }
 
-/// A value as a boolean (XPath 1.0, section 4.3), in constant time.
-#[tactic(auto, using(crate::proofs::ValueLemmas::truths))]
-pub fn truth_of(value: &Value) -> bool
-    ensures { (v : Meant) → value.now ≡ held_as v → result ≡ truth_of v }
+/// A value as a boolean, by what is held.
+pub fn truth_seen(value: &Value) -> bool
+    ensures { result ≡ truth_seen value.now }
 {
     match value {
         Value::Nodes(nodes) => is_some_node(nodes_of(nodes)),
@@ -55,6 +55,13 @@ pub fn truth_of(value: &Value) -> bool
         Value::Number(number) => truth_of_number(*number),
         Value::Text(text) => is_some_text(text),
     }
+}
+
+/// A value as a boolean (XPath 1.0, section 4.3), in constant time.
+pub fn truth_of(value: &Value) -> bool
+    ensures { (v : Meant) → value.now ≡ held_as v → result ≡ truth_of v }
+{
+    truth_seen(value)
 }
 
 /// What is known of the number of characters at their end.

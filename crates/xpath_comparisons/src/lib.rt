@@ -1,0 +1,10 @@
+//! Comparisons of XPath 1.0's values (section 3.4).
+#![tactic(auto)]
+
+mod comparing;
+mod equality;
+mod extents;
+mod index;
+mod sets;
+
+pub use comparing::compare;
