@@ -1,8 +1,8 @@
 -- How each part of a run ends, joined to the table of endings.
-use Rattle.std.proofs.Common.{◌≡◌, ℕ, ◌≤◌, ◌<◌, ◌⊎◌, inl, inr, Bool, true, false, List, [], ◌++◌, length, take, drop, Option, Some, None, Result, Ok, Err}
+use Rattle.std.proofs.Common.{◌≡◌, ℕ, ◌≤◌, inl, inr, Bool, List, [], ◌++◌, length, take, drop, Option, Some, None, Ok, Err}
 use Rattle.std.proofs.Common.{refl, sym, ap, ◌∙◌, subst}
 use Rattle.std.proofs.lemmas.List.{append-nil}
-use Rattle.std.specs.Prelude.{is_none, IsTrue}
+use Rattle.std.specs.Prelude.{is_none}
 use Rattle.vtd_outside.specs.Causes.{Rose, RoseAlone, is_missing}
 use Rattle.vtd_outside.specs.Known.{NameMap, OpenFile}
 use Rattle.vtd_outside.specs.Gathered.{Sends, GathersAll, GathersPrefix, GathersFile}
@@ -15,14 +15,13 @@ use Rattle.vtd_script.specs.Lines.{lines}
 use Rattle.vtd_script.specs.States.{Work, State, state_of}
 use Rattle.vtd_script.specs.Faults.{fault_line}
 use Rattle.vtd_script.specs.Runs.{EndsKnown}
-use Rattle.vtd_script.specs.Changes.{EndFiles, EndSends}
 use Rattle.vtd_script.specs.declared.endings.End.{End}
 use Rattle.vtd_script.specs.declared.endings.End.TheVariants as ends
 use Rattle.vtd_script.proofs.Parts.{prefix_of}
 use Rattle.vtd_running.specs.Form.{Form, document, no_form}
-use Rattle.vtd_running.specs.Statuses.{status_of, ReadCounts, WriteCounts, SendCounts, RunFiles, FitsForm, EndsScript, EndsMissing}
-use Rattle.vtd_running.specs.Meaning.{Outcome, EndsWith, RunsScript, RunsDocument, RunsName, RunsUsage, Runs, Ran, Means, script_limit}
-use Rattle.vtd_running.specs.Meaning.{document_limit, script_long_line, document_long_line, usage_line, first_state}
+use Rattle.vtd_running.specs.Statuses.{status_of}
+use Rattle.vtd_running.specs.Meaning.{Outcome, EndsWith, RunsScript, RunsName, Runs, Ran, script_limit}
+use Rattle.vtd_running.specs.Meaning.{document_limit, script_long_line, document_long_line, usage_line}
 use Rattle.vtd_running.specs.Meaning.{script_unread, script_unkept, script_long, carried, document_long, document_unfit, accepted}
 use Rattle.vtd_running.specs.Meaning.{document_missing, document_unread, document_unkept, there, words_unkept, told, nothing_done, only_printed}
 use Rattle.vtd_running.specs.Parts.{LineSent, Begins, ReadsDocument, DocumentCause, Left}

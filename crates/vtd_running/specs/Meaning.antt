@@ -10,7 +10,7 @@ use Rattle.xml_model.specs.Accepted.{Accepted, IsRefusal}
 use Rattle.vtd_script.specs.Lines.{lines}
 use Rattle.vtd_script.specs.Listing.{line_feed}
 use Rattle.vtd_script.specs.Faults.{fault_line}
-use Rattle.vtd_script.specs.States.{Work, State, state_of}
+use Rattle.vtd_script.specs.States.{State, state_of}
 use Rattle.vtd_script.specs.Runs.{Ends, IsPrefix}
 use Rattle.vtd_script.specs.declared.endings.End.{End}
 use Rattle.vtd_running.specs.Form.{Form, document, no_form}

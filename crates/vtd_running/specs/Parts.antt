@@ -1,8 +1,7 @@
 -- What private functions promise.
-use Rattle.std.specs.Prelude.{◌≡◌, ℕ, ◌<◌, ◌≤◌, Bool, List, [], ◌++◌, length, Option, Some, None, Result, Ok, Err}
+use Rattle.std.specs.Prelude.{◌≡◌, ℕ, ◌<◌, ◌≤◌, Bool, List, [], ◌++◌, length, Option, Some, Result, Ok, Err}
 use Rattle.vtd_outside.specs.Causes.{RoseAlone}
 use Rattle.vtd_outside.specs.Known.{NameMap}
-use Rattle.xml_model.specs.declared.DocFault.{DocFault}
 use Rattle.xml_model.specs.Nest.{Forest}
 use Rattle.xml_model.specs.Accepted.{Accepted, IsRefusal}
 use Rattle.vtd_script.specs.States.{Work}

@@ -1,6 +1,6 @@
 //! The document of a run.
 
-ghost use Rattle.std.specs.Prelude.{◌≡◌, ℕ, ◌<◌, ◌≤◌, ◌^◌, List, Some, Err, IsTrue, false};
+ghost use Rattle.std.specs.Prelude.{◌≡◌, Some, Err, IsTrue, false};
 ghost use Rattle.vtd_outside.specs.Causes.{is_missing};
 ghost use Rattle.vtd_outside.specs.Known.{NameMap};
 ghost use Rattle.vtd_running.specs.Parts.{DocumentCause, ReadsDocument};

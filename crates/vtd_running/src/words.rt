@@ -1,6 +1,6 @@
 //! The words of a command line, read by `clap`: what they ask for is that crate's exact rule for a simple command.
 
-ghost use Rattle.std.specs.Prelude.{◌≡◌, codes, map, option_copied, IfOk, string_bytes};
+ghost use Rattle.std.specs.Prelude.{◌≡◌, codes, map, IfOk, string_bytes};
 ghost use Rattle.clap.specs.Words.{app_of, found_of, first_value};
 ghost use Rattle.vtd_running.specs.Form.{choose, form, is_set, vtd_app};
 ghost use Rattle.vtd_running.specs.Seen.{form_seen};

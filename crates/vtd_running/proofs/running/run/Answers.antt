@@ -1,5 +1,4 @@
-use Rattle.std.proofs.Common.{◌≡◌, ◌∙◌, sym, ap, map, string_bytes}
-use Rattle.vtd_running.specs.Form.{form, document, no_form}
+use Rattle.std.proofs.Common.{◌∙◌, sym, ap}
 use Rattle.vtd_running.specs.Seen.{form_seen}
 use Rattle.vtd_running.proofs.Endings.{ran_document, ran_usage, ran_no_memory}
 use Rattle.vtd_running.proofs.Outcomes.{exact_ran}
