@@ -1,31 +1,32 @@
 -- Steps from a list of nodes, one context after another.
+use Rattle.std.proofs.Common.{subst}
 use Rattle.std.proofs.Common.{◌≡◌, ℕ, zero, suc, ◌+◌, ◌<◌, ◌≤◌, Bool, true, false, cond, ◌||◌, ◌==◌, List, [], ◌∷◌, ◌++◌, length, drop, map, refl, ap, ap₂}
 use Rattle.std.proofs.Common.{sym, ◌∙◌, arith, filter, nat_lt, ◌&&◌}
-use Rattle.std.specs.List.{Contains, flat_map, list_any, slice_index_or}
+use Rattle.std.specs.List.{AllByRecursion as Each, Contains, flat_map, list_any, slice_index_or}
 use Rattle.std.proofs.lemmas.Bool.{false≢true, and_from, and_parts, lt-ltb, le-ltb, eq-eqb, eqb-true}
 use Rattle.std.proofs.lemmas.List.{map-append, drop_all}
 use Rattle.xml_model.specs.declared.Axis.{Axis}
 use Rattle.xml_model.specs.declared.Axis.TheVariants as axes
 use Rattle.xml_model.specs.declared.Node.{Node}
 use Rattle.xml_model.specs.Contexts.{outermost, AreContexts, Rises}
-use Rattle.xml_model.specs.Laws.{by_indexes}
+use Rattle.xml_model.specs.Laws.{by_indexes, is_one_under, is_under}
 use Rattle.xml_model.specs.Names.{Test, passes}
 use Rattle.xml_model.specs.Nest.{Forest, is_nest}
 use Rattle.xml_model.specs.Records.{records}
 use Rattle.xml_model.specs.Tree.{Entry, Identifies, all, is_reverse}
-use Rattle.xml_model.proofs.Contexts.{union_by_indexes, descendants_of_contexts}
+use Rattle.xml_model.proofs.Contexts.{union_by_indexes, descendants_of_contexts, apart_joins, Apart}
 use Rattle.xml_model.proofs.AttributeSteps.{attributes_of_contexts}
-use Rattle.xml_model.proofs.Each.{contains_here, contains_next, each_at}
+use Rattle.xml_model.proofs.Each.{contains_here, contains_next, each_at, each_more}
 use Rattle.xml_model.proofs.Filters.{any_out, filter_same, none_of, one_here, same_test, split_or}
 use Rattle.xml_model.proofs.Indexes.{all_rise}
 use Rattle.xml_model.proofs.NodeLaws.{axis_list_of_node}
-use Rattle.xml_model.proofs.TreeOrder.{in_order}
+use Rattle.xml_model.proofs.TreeOrder.{in_order, under_within}
 use Rattle.vtd_words.specs.Table.{node_of}
 use Rattle.xpath_axes.specs.declared.walk.Walk.{Walk}
 use Rattle.xpath_axes.specs.Tests.{is_attribute_axis}
 use Rattle.xpath_axes.specs.Walks.{nodes_left, Covers}
 use Rattle.xpath_axes.proofs.ClimbLemmas.{filter_append}
-use Rattle.xpath_steps.specs.Steps.{step_nodes}
+use Rattle.xpath_steps.specs.Steps.{step_nodes, ApartFrom}
 
 -- A context of a list.
 
@@ -176,3 +177,49 @@ self_at_index test cs i a = ap (λ ds. map node_of (filter (passes test false) d
 
 pub self_ended : (test : Test) (cs : List Entry) (i : ℕ) → length cs ≤ i → map node_of (filter (passes test false) (drop i cs)) ≡ []
 self_ended test cs i h = ap (λ ds. map node_of (filter (passes test false) ds)) (drop_all i cs h)
+
+-- Children of contexts that are apart.
+
+module _ (nest : Forest) (first : ℕ) (n : is_nest nest ≡ true) where
+  apart_each : (low : ℕ) (cs : List Entry) → ((c : Entry) → Contains cs c → Contains (all nest first) c) → ApartFrom low cs → Each (λ d. low ≤ d.index) cs
+  apart_each low [] a h = tt
+  apart_each low (c ∷ cs) a h =
+      let some : c.index < c.past = (in_order nest first n).some c (a c (contains_here c cs)) in (
+        h.0,
+        each_more (λ d. c.past ≤ d.index) (λ d. low ≤ d.index) (λ d q. omega (arith, q, some, h.0)) cs
+            (apart_each c.past cs (λ x k. a x (contains_next c cs x k)) h.1),
+      )
+
+  apart_is : (low : ℕ) (cs : List Entry) → ((c : Entry) → Contains cs c → Contains (all nest first) c) → ApartFrom low cs → Apart cs
+  apart_is low [] a h = tt
+  apart_is low (c ∷ cs) a h = (
+    apart_each c.past cs (λ x k. a x (contains_next c cs x k)) h.1,
+    apart_is c.past cs (λ x k. a x (contains_next c cs x k)) h.1,
+  )
+
+  pub all_children : (cs : List Entry) → AreContexts cs (all nest first) → ApartFrom 0 cs → (test : Test) →
+      step_nodes axes.Child test cs (all nest first) ≡ each_of axes.Child test (all nest first) cs
+  all_children cs k h test =
+      ap (λ xs. map node_of (filter (passes test false) xs))
+      (union_by_indexes nest first n axes.Child cs k.among
+      ∙ apart_joins (by_indexes axes.Child) (all nest first) cs (all_rise nest first) (apart_is 0 cs k.among h)
+      (λ c y t. let u = under_within c y (and_parts (is_under c y) _ (and_parts (is_one_under c y) _ t).0).0 in (omega (arith, u.0), u.1)))
+
+-- contexts from an index on that are apart from an end on
+pub apart_on : (cs : List Entry) (i low past : ℕ) (a : At cs i) → past ≡ a.entry.past → low ≤ a.entry.index → ApartFrom past (drop (i + 1) cs) →
+    ApartFrom low (drop i cs)
+apart_on cs i low past a p l h =
+    subst (ApartFrom low) (sym a.split) (l, subst (λ m. ApartFrom m (drop (i + 1) cs)) p h)
+
+pub apart_off : (cs : List Entry) (i low past : ℕ) (a : At cs i) → past ≡ a.entry.past → ApartFrom low (drop i cs) → ApartFrom past (drop (i + 1) cs)
+apart_off cs i low past a p h =
+    let g : (low ≤ a.entry.index) × ApartFrom a.entry.past (drop (i + 1) cs) = subst (ApartFrom low) a.split h in
+    subst (λ m. ApartFrom m (drop (i + 1) cs)) (sym p) g.1
+
+pub apart_first : (cs : List Entry) (i low : ℕ) (a : At cs i) → ApartFrom low (drop i cs) → low ≤ a.entry.index
+apart_first cs i low a h =
+    let g : (low ≤ a.entry.index) × ApartFrom a.entry.past (drop (i + 1) cs) = subst (ApartFrom low) a.split h in
+    g.0
+
+pub apart_ended : (cs : List Entry) (i low : ℕ) → length cs ≤ i → ApartFrom low (drop i cs)
+apart_ended cs i low h = subst (ApartFrom low) (sym (drop_all i cs h)) tt

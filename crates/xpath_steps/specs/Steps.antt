@@ -1,5 +1,5 @@
 -- Steps from lists of nodes (XPath 1.0, sections 2 and 2.2).
-use Rattle.std.specs.Prelude.{◌≡◌, ℕ, ◌<◌, List, length, map, filter}
+use Rattle.std.specs.Prelude.{◌≡◌, ℕ, ◌<◌, ◌≤◌, List, [], ◌∷◌, length, map, filter}
 use Rattle.std.specs.List.{slice_index_or}
 use Rattle.xml_model.specs.declared.Axis.{Axis}
 use Rattle.xml_model.specs.declared.Node.{Node}
@@ -23,3 +23,8 @@ AreNodesOf bytes lists nodes = (k : ℕ) (d : Node) → k < length nodes → IsN
 abbrev pub ForEachContexts : List ℕ → Lists → List Node → (Forest → List Entry → Type 0) → Type 0
 ForEachContexts bytes lists nodes P =
     ForEachNest bytes lists (λ nest. (cs : List Entry) → map node_of cs ≡ nodes → AreContexts cs (nodes_of bytes nest) → P nest cs)
+
+-- no context begins before the end of an earlier one, nor before an index
+abbrev pub ApartFrom : ℕ → List Entry → Type 0
+ApartFrom low [] = Unit {0}
+ApartFrom low (c ∷ cs) = (low ≤ c.index) × ApartFrom c.past cs

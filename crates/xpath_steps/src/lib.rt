@@ -8,6 +8,6 @@ mod ends;
 mod gather;
 mod selves;
 
-pub use apart::{attributes_of_all, descendants_of_all};
+pub use apart::{attributes_of_all, children_if_apart, descendants_of_all};
 pub use ends::{following_of_all, preceding_of_all};
 pub use selves::selves_of_all;
