@@ -70,8 +70,11 @@ pub fn descendants_of<W: Words>(table: &Table<'_, W>, node: Node) -> Walk
 /// The walk over the children of a node.
 pub fn children_of<W: Words>(table: &Table<'_, W>, node: Node) -> Walk
     requires { IsNodeOf table.now.bytes (W.lists table.now.words) node }
-    ensures { ForEachEntry table.now.bytes (W.lists table.now.words) node (λ nest e.
+    ensures axis { ForEachEntry table.now.bytes (W.lists table.now.words) node (λ nest e.
         Covers axes.Child result (records nest (first_place table.now.bytes)) (nodes_of table.now.bytes nest) e) }
+    ensures stop { ForEachEntry table.now.bytes (W.lists table.now.words) node (λ nest e.
+        (node.kind ≡ Kind.Root) ⊎ (node.kind ≡ Kind.Element) →
+        stop_of result (records nest (first_place table.now.bytes)) ≡ e.past) }
 {
     match node.kind {
         Kind::Root => Walk {

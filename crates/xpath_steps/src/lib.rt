@@ -1,0 +1,13 @@
+//! Steps from lists of nodes along axes (XPath 1.0, sections 2 and 2.2): the nodes on an axis of some of the context
+//! nodes, in document order, each once. Each step is linear in the records that it reads, whatever the contexts, and none
+//! sorts.
+#![tactic(auto)]
+
+mod apart;
+mod ends;
+mod gather;
+mod selves;
+
+pub use apart::{attributes_of_all, children_if_apart, descendants_of_all};
+pub use ends::{following_of_all, preceding_of_all};
+pub use selves::selves_of_all;
