@@ -24,7 +24,8 @@ apart_facts s e t u h =
     let p = and_parts (nat_le e t) (not (nat_eq s t && nat_eq e u)) h in
     record {
       ends = leb-true e t p.0;
-      differ = λ a b. both_ways (nat_eq s t && nat_eq e u) (not-true (nat_eq s t && nat_eq e u) p.1) (and_from (nat_eq s t) (nat_eq e u) (eq-eqb s t a) (eq-eqb e u b));
+      differ = λ a b. both_ways (nat_eq s t && nat_eq e u) (not-true (nat_eq s t && nat_eq e u) p.1)
+          (and_from (nat_eq s t) (nat_eq e u) (eq-eqb s t a) (eq-eqb e u b));
     }
 
 ranges_apart : (s e t u : ℕ) → not (ends_before s e t u || ends_before t u s e) ≡ false → Apart s e t u ⊎ Apart t u s e
@@ -80,11 +81,17 @@ above : (low at : ℕ) → low ≤ at → (at ≡ low → ⊥) → low < at
 above low at l n = strictly low at l (λ e. n (sym e))
 
 -- a splice before a chain
-chain_cons : (x : Splice) (order : List Splice) (low : ℕ) (only : Bool) (len : ℕ) → Placed x low only len → IsChain (end_of x) (only_of x) len order → IsChain low only len (x ∷ order)
+chain_cons : (x : Splice) (order : List Splice) (low : ℕ) (only : Bool) (len : ℕ) → Placed x low only len → IsChain (end_of x) (only_of x) len order
+    → IsChain low only len (x ∷ order)
 chain_cons (Insert at text) order low only len p c =
     (p.place, λ o. above low at p.place (λ e. (let r : 2 ≤ 0 = p.long o e in omega (arith, r))), c)
-chain_cons (Replace s e text) order low only len p c =
-    (p.place, p.order, λ o f. above low s p.place (λ g. (let r : 2 ≤ rank (Replace s e text) = p.long o g in let k = empty_rank s e text f in omega (arith, r, k))), c)
+chain_cons (Replace s e text) order low only len p c = (
+  p.place,
+  p.order,
+  λ o f. above low s p.place (λ g. (let r : 2 ≤ rank (Replace s e text) = p.long o g in let k = empty_rank s e text f in omega
+      (arith, r, k))),
+  c,
+)
 
 -- a splice after one that it does not overlap
 placed_after : (x y : Splice) (len : ℕ) → start_of y ≤ end_of y → start_of x ≤ end_of x → end_of x ≤ len → After x y → overlap x y ≡ false
@@ -178,7 +185,8 @@ apart_from s e u v l n =
     differ (inr a) w = and_left (nat_eq s u) (nat_eq e v) (ne_eqb s u a)
     differ (inl a) (inr b) = and_right (nat_eq s u) (nat_eq e v) (ne_eqb e v b)
 
-clear_head : (x y : Splice) (order : List Splice) (low : ℕ) (only : Bool) (len : ℕ) → start_of x ≤ end_of x → Past x low only → IsChain low only len (y ∷ order) → overlap x y ≡ false
+clear_head : (x y : Splice) (order : List Splice) (low : ℕ) (only : Bool) (len : ℕ) → start_of x ≤ end_of x → Past x low only
+    → IsChain low only len (y ∷ order) → overlap x y ≡ false
 clear_head (Insert at text) (Insert other t) order low only len i p c = refl
 clear_head (Insert at text) (Replace u v t) order low only len i p c = (let a = p.ends in let b : low ≤ u = c.0 in outside_left u v at (omega (arith, a, b)))
 clear_head (Replace s e text) (Insert at t) order low only len i p c = (let a = p.ends in let b : low ≤ at = c.0 in outside s e at (omega (arith, a, b)))
@@ -197,7 +205,8 @@ clear_head (Replace s e text) (Replace u v t) order low only len i p c =
         let l : low < u = c.2 o (omega (arith, a, b, d, f, g, i)) in
         omega (arith, l, a, d, g)
 
-past_head : (x y : Splice) (order : List Splice) (low : ℕ) (only : Bool) (len : ℕ) → Past x low only → IsChain low only len (y ∷ order) → Past x (end_of y) (only_of y)
+past_head : (x y : Splice) (order : List Splice) (low : ℕ) (only : Bool) (len : ℕ) → Past x low only → IsChain low only len (y ∷ order)
+    → Past x (end_of y) (only_of y)
 past_head x (Insert at t) order low only len p c =
     let a = p.ends in
     let b : low ≤ at = c.0 in
@@ -224,7 +233,8 @@ chain_tail : (y : Splice) (order : List Splice) (low : ℕ) (only : Bool) (len :
 chain_tail (Insert at t) order low only len c = c.2
 chain_tail (Replace u v t) order low only len c = c.3
 
-clear_after : (x : Splice) (order : List Splice) (low : ℕ) (only : Bool) (len : ℕ) → start_of x ≤ end_of x → Past x low only → IsChain low only len order → list_any (overlap x) order ≡ false
+clear_after : (x : Splice) (order : List Splice) (low : ℕ) (only : Bool) (len : ℕ) → start_of x ≤ end_of x → Past x low only → IsChain low only len order
+    → list_any (overlap x) order ≡ false
 clear_after x [] low only len i p c = refl
 clear_after x (y ∷ order) low only len i p c =
     or_from (overlap x y) (list_any (overlap x) order) (clear_head x y order low only len i p c)
@@ -238,7 +248,8 @@ AllClear (x ∷ order) = (list_any (overlap x) order ≡ false) × AllClear orde
 pub linked_clear : (x : Splice) (order : List Splice) (len : ℕ) → IsWithin len x → Linked len x order → AllClear (x ∷ order)
 linked_clear x [] len w l = (refl, tt)
 linked_clear x (y ∷ order) len w l = (
-  clear_after x (y ∷ order) (end_of x) (only_of x) len (ends_order x len w) (record { ends = omega arith; alone = λ o. inr o }) (linked_chain x (y ∷ order) len w l),
+  clear_after x (y ∷ order) (end_of x) (only_of x) len (ends_order x len w) (record { ends = omega arith; alone = λ o. inr o })
+      (linked_chain x (y ∷ order) len w l),
   linked_clear y order len l.0 l.3,
 )
 

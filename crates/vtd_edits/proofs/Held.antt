@@ -11,7 +11,8 @@ use Rattle.std.proofs.Math.ListN.{get_or-append}
 use Rattle.vtd_edits.specs.declared.splice.Splice.{Splice}
 use Rattle.vtd_edits.specs.declared.splice.Splice.TheVariants.{Replace, Insert}
 use Rattle.vtd_edits.specs.declared.staging.Plan.{Plan}
-use Rattle.vtd_edits.specs.Splices.{end_of, overlap, splice_at, spliced, start_of, text_limit, text_of, text_size, AreApart, AreEdits, HasFirstOverlap, IsWithin, Staged}
+use Rattle.vtd_edits.specs.Splices.{end_of, overlap, splice_at, spliced, start_of, text_limit, text_of, text_size, AreApart, AreEdits, HasFirstOverlap}
+use Rattle.vtd_edits.specs.Splices.{IsWithin, Staged}
 use Rattle.vtd_edits.specs.Order.{apart_to, keys_from, order_of, taken_size, IsFirstPartner, IsHeld}
 use Rattle.vtd_edits.specs.Plans.{IsPlan}
 use Rattle.vtd_edits.proofs.Staged.{order_cut}
@@ -40,7 +41,8 @@ size_of len staged bytes e few h =
     spliced_size bytes staged few w e.apart ∙ ap (λ (n : ℕ). n + text_size staged) h
 
 -- no more bytes are taken away than there are
-pub taken_bound : (len : ℕ) (staged : List Splice) → AreEdits (record { len = len; splices = staged }) → length staged ≤ 2 ^ 32 → taken_size staged ≤ len + text_size staged
+pub taken_bound : (len : ℕ) (staged : List Splice) → AreEdits (record { len = len; splices = staged }) → length staged ≤ 2 ^ 32
+    → taken_size staged ≤ len + text_size staged
 taken_bound len staged e few =
     let bytes : List ℕ = replicate len 0 in
     let size = size_of len staged bytes e few (length-replicate len 0) in
@@ -76,7 +78,8 @@ whole_apart len staged list order o few w v a =
     let e = length-append staged list in
     let b : apart_to (staged ++ list) (order_of (staged ++ list)) (length staged + length list) ≡ true =
     sym (ap (λ (ks : List ℕ). apart_to (staged ++ list) ks (length staged + length list)) o) ∙ a in
-    let all = all_apart (staged ++ list) len (length staged + length list) (omega (arith, few, e)) (All-append (IsWithin len) staged list w v) (omega (arith, e)) b in
+    let all = all_apart (staged ++ list) len (length staged + length list) (omega (arith, few, e)) (All-append (IsWithin len) staged list w v)
+    (omega (arith, e)) b in
     λ i j l m. all i j l (omega (arith, m, e))
 
 -- the staged ones among all
@@ -86,11 +89,13 @@ prefix_apart staged list order o few a =
     let e = length-append staged list in
     let same : (i : ℕ) → i < length staged → splice_at (staged ++ list) i ≡ splice_at staged i = λ i h. get_or-append staged list (Insert 0 []) i h in
     let b : AreApartTo (staged ++ list) (length staged) =
-    λ i j l m. ap (λ (x : Splice). overlap x (splice_at (staged ++ list) i)) (same j m) ∙ ap (overlap (splice_at staged j)) (same i (omega (arith, l, m))) ∙ a i j l m in
+    λ i j l m. ap (λ (x : Splice). overlap x (splice_at (staged ++ list) i)) (same j m) ∙ ap (overlap (splice_at staged j)) (same i (omega (arith, l, m)))
+    ∙ a i j l m in
     ap (λ (ks : List ℕ). apart_to (staged ++ list) ks (length staged)) o ∙ apart_all (staged ++ list) (length staged) (omega (arith, few, e)) b
 
 -- where the first overlap is
-pub found_overlap : (splices : List Splice) (len later earlier : ℕ) (order : List ℕ) → order ≡ order_of splices → length splices < 2 ^ 32 → All (IsWithin len) splices
+pub found_overlap : (splices : List Splice) (len later earlier : ℕ) (order : List ℕ) → order ≡ order_of splices → length splices < 2 ^ 32
+    → All (IsWithin len) splices
     → later < length splices → apart_to splices order later ≡ true → IsFirstPartner splices later earlier
     → (m n : ℕ) (x y : Splice) → m ≡ start_of x → x ≡ splice_at splices earlier → n ≡ start_of y → y ≡ splice_at splices later → HasFirstOverlap splices m n
 found_overlap splices len later earlier order o few w h a p m n x y d e f g =
@@ -116,7 +121,8 @@ overlap_there splices len later order o few w h a f none =
     let b : apart_to splices (order_of splices) later ≡ true = sym (ap (λ (ks : List ℕ). apart_to splices ks later) o) ∙ a in
     let before : AreApartTo splices later = all_apart splices len later (omega (arith, few)) w (omega (arith, h)) b in
     let more : AreApartTo splices (later + 1) = λ i j l m. one_more before i j l m in
-    both_ways (apart_to splices order (later + 1)) f (ap (λ (ks : List ℕ). apart_to splices ks (later + 1)) o ∙ apart_all splices (later + 1) (omega (arith, few)) more)
+    both_ways (apart_to splices order (later + 1)) f (ap (λ (ks : List ℕ). apart_to splices ks (later + 1)) o
+    ∙ apart_all splices (later + 1) (omega (arith, few)) more)
   where
     one_more : AreApartTo splices later → (i j : ℕ) → i < j → j < later + 1 → overlap (splice_at splices j) (splice_at splices i) ≡ false
     one_more before i j l m = elim (cases_lt j later) [
@@ -126,7 +132,8 @@ overlap_there splices len later order o few w h a f none =
           subst (λ (q : ℕ). overlap (splice_at splices q) (splice_at splices i) ≡ false) e (none i (omega (arith, l, e)))
     ]
 
-pub plan_of : (len : ℕ) (staged list : List Splice) (plan : Plan) (order : List ℕ) (text taken : ℕ) → IsHeld len staged order text taken → All (IsWithin len) list
+pub plan_of : (len : ℕ) (staged list : List Splice) (plan : Plan) (order : List ℕ) (text taken : ℕ) → IsHeld len staged order text taken
+    → All (IsWithin len) list
     → length staged + length list < 2 ^ 32 → plan.order.items ≡ order_of (staged ++ list) → AreApart (staged ++ list)
     → plan.text ≡ text + text_size list → plan.text ≤ text_limit → plan.taken ≡ taken + taken_size list → IsPlan len (staged ++ list) plan
 plan_of len staged list plan order text taken h w few o a t u v =
@@ -163,7 +170,8 @@ taken_fits len staged list order text taken more h w few a t u =
     let small = h.small in
     omega (arith, b, s, v, p, q, t, u, small)
 
-pub held_plan : (len : ℕ) (all splices : List Splice) (plan : Plan) → len < 2 ^ 30 → IsPlan len splices plan → all ≡ splices → IsHeld len all plan.order.items plan.text plan.taken
+pub held_plan : (len : ℕ) (all splices : List Splice) (plan : Plan) → len < 2 ^ 30 → IsPlan len splices plan → all ≡ splices
+    → IsHeld len all plan.order.items plan.text plan.taken
 held_plan len all splices plan h p e =
     subst (λ (xs : List Splice). IsHeld len xs plan.order.items plan.text plan.taken) (sym e)
     (record { sorted = p.sorted; edits = p.edits; texts = p.texts; takes = p.takes; few = p.few; small = h })
@@ -190,7 +198,8 @@ parts_of len staged order text taken n h =
       few = omega (arith, b, t, s, small);
     }
 
-pub held_cut : (len : ℕ) (staged left : List Splice) (order kept : List ℕ) (text taken n rest_text rest_taken : ℕ) → IsHeld len staged order text taken → n ≤ length staged
+pub held_cut : (len : ℕ) (staged left : List Splice) (order kept : List ℕ) (text taken n rest_text rest_taken : ℕ) → IsHeld len staged order text taken
+    → n ≤ length staged
     → left ≡ take n staged → kept ≡ filter (λ k. nat_lt (k % 2 ^ 32) n) order
     → rest_text ≡ text - text_size (drop n staged) → rest_taken ≡ taken - taken_size (drop n staged) → IsHeld len left kept rest_text rest_taken
 held_cut len staged left order kept text taken n rest_text rest_taken h m l k t u =
@@ -226,7 +235,8 @@ pub record Cut (ys : List Splice) (text taken : ℕ) : Type 0 where
   pub short : text_size ys < 2 ^ 32
   pub few : taken_size ys < 2 ^ 32
 
-pub cut_of : (len : ℕ) (staged : List Splice) (order : List ℕ) (text taken n : ℕ) (ys : List Splice) → IsHeld len staged order text taken → ys ≡ drop n staged → Cut ys text taken
+pub cut_of : (len : ℕ) (staged : List Splice) (order : List ℕ) (text taken n : ℕ) (ys : List Splice) → IsHeld len staged order text taken → ys ≡ drop n staged
+    → Cut ys text taken
 cut_of len staged order text taken n ys h e =
     let parts = parts_of len staged order text taken n h in
     let p = parts.texts in
@@ -237,7 +247,8 @@ cut_of len staged order text taken n ys h e =
     (record { texts = omega (arith, p); takes = omega (arith, q); short = omega (arith, p, s); few = omega (arith, q, f) })
 
 -- the same of lists that are equal
-pub held_seen : (len : ℕ) (xs ys : List Splice) (ks ls : List ℕ) (text taken : ℕ) → IsHeld len xs ks text taken → ys ≡ xs → ls ≡ ks → IsHeld len ys ls text taken
+pub held_seen : (len : ℕ) (xs ys : List Splice) (ks ls : List ℕ) (text taken : ℕ) → IsHeld len xs ks text taken → ys ≡ xs → ls ≡ ks
+    → IsHeld len ys ls text taken
 held_seen len xs ys ks ls text taken h e f =
     let P : List ℕ → Type 0 = λ ms. IsHeld len ys ms text taken in
     subst P (sym f) (subst (λ (zs : List Splice). IsHeld len zs ks text taken) (sym e) h)

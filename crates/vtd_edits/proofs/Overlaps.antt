@@ -50,7 +50,8 @@ neighbours_apart staged n k (l ∷ ks) a h hs r =
     (ap not (either_way staged n (k % 2 ^ 32) (l % 2 ^ 32) a h.low next.low (other_index staged k l h.is next.is less)))
     (neighbours_apart staged n l ks a next hs.1 r.1)
 
-first_apart : (staged : List Splice) (n : ℕ) (ks : List ℕ) → AreApartTo staged n → AllByRecursion (KeyBelow staged n) ks → Rising ks → apart_after staged None ks ≡ true
+first_apart : (staged : List Splice) (n : ℕ) (ks : List ℕ) → AreApartTo staged n → AllByRecursion (KeyBelow staged n) ks → Rising ks
+    → apart_after staged None ks ≡ true
 first_apart staged n [] a hs r = refl
 first_apart staged n (k ∷ ks) a hs r = neighbours_apart staged n k ks a hs.0 hs.1 r
 
@@ -132,11 +133,13 @@ has_key m (suc i) (x ∷ xs) l =
 
 -- The keys below an index.
 
-kept_keys : (staged : List Splice) (n : ℕ) (ks : List ℕ) → AllByRecursion (IsKey staged) ks → AllByRecursion (KeyBelow staged n) (filter (λ k. nat_lt (k % 2 ^ 32) n) ks)
+kept_keys : (staged : List Splice) (n : ℕ) (ks : List ℕ) → AllByRecursion (IsKey staged) ks
+    → AllByRecursion (KeyBelow staged n) (filter (λ k. nat_lt (k % 2 ^ 32) n) ks)
 kept_keys staged n [] h = tt
 kept_keys staged n (k ∷ ks) h =
     let rest = kept_keys staged n ks h.1 in
-    let P : Bool → Type 0 = λ b. AllByRecursion (KeyBelow staged n) (cond b (k ∷ filter (λ k. nat_lt (k % 2 ^ 32) n) ks) (filter (λ k. nat_lt (k % 2 ^ 32) n) ks)) in
+    let P : Bool → Type 0 = λ b. AllByRecursion (KeyBelow staged n) (cond b (k ∷ filter (λ k. nat_lt (k % 2 ^ 32) n) ks)
+    (filter (λ k. nat_lt (k % 2 ^ 32) n) ks)) in
     elim (cases_Bool (nat_lt (k % 2 ^ 32) n)) [
       | inl e ↦ subst P (sym e) (record { is = h.0; low = ltb-true (k % 2 ^ 32) n e }, rest)
       | inr e ↦ subst P (sym e) rest
@@ -151,7 +154,8 @@ order_below : (staged : List Splice) (n : ℕ) → length staged ≤ 2 ^ 32 → 
 unfolding order_of
 order_below staged n h = record {
   keys = kept_keys staged n (rising (keys_from 0 staged)) (all_rising (IsKey staged) (keys_from 0 staged) (each_key staged h));
-  rises = rising_filter (λ k. nat_lt (k % 2 ^ 32) n) (rising (keys_from 0 staged)) (rising_rises (keys_from 0 staged) (keys_distinct 0 staged (omega (arith, h))));
+  rises = rising_filter (λ k. nat_lt (k % 2 ^ 32) n) (rising (keys_from 0 staged))
+      (rising_rises (keys_from 0 staged) (keys_distinct 0 staged (omega (arith, h))));
 }
 
 pub apart_all : (staged : List Splice) (n : ℕ) → length staged ≤ 2 ^ 32 → AreApartTo staged n → apart_to staged (order_of staged) n ≡ true
@@ -203,7 +207,8 @@ chain_of_keys staged len n (k ∷ ks) w hs r a =
     chain_of (splice_of staged k) (map (splice_of staged) ks) len (w (k % 2 ^ 32) (Insert 0 []) h.is.below) (linked staged len n k ks w h hs.1 r a)
 
 -- splices of which no two overlap are a chain in their order
-pub order_chain : (staged : List Splice) (len : ℕ) → length staged ≤ 2 ^ 32 → All (IsWithin len) staged → AreApart staged → IsChain 0 false len (in_order staged)
+pub order_chain : (staged : List Splice) (len : ℕ) → length staged ≤ 2 ^ 32 → All (IsWithin len) staged → AreApart staged
+    → IsChain 0 false len (in_order staged)
 order_chain staged len h w a =
     let o = whole_order staged h in
     let hs = low_keys staged (order_of staged) o.0 in

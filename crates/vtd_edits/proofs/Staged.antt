@@ -26,7 +26,8 @@ key_index x n h = mod-mul-add (slot_of x) (2 ^ 32) n h
 keys_differ : (x : Splice) (m n : ℕ) (xs : List Splice) → m < n → n + length xs ≤ 2 ^ 32 → AllByRecursion (λ l. eqb (key x m) l ≡ false) (keys_from n xs)
 keys_differ x m n [] l h = tt
 keys_differ x m n (y ∷ xs) l h = (
-  ne_eqb (key x m) (key y n) (λ e. (let p = same_from_place (slot_of x) m (slot_of y) n (2 ^ 32) (omega (arith, l, h)) (omega (arith, h)) e in omega (arith, p.1, l))),
+  ne_eqb (key x m) (key y n) (λ e. (let p = same_from_place (slot_of x) m (slot_of y) n (2 ^ 32) (omega (arith, l, h)) (omega (arith, h)) e in omega
+      (arith, p.1, l))),
   keys_differ x m (suc n) xs (omega (arith, l)) (omega (arith, h)),
 )
 
@@ -46,7 +47,8 @@ keys_more n i [] h = absurd (omega (arith, h))
 keys_more n zero (x ∷ xs) h = ap (λ (m : ℕ). key x m ∷ []) (omega arith)
 keys_more n (suc i) (x ∷ xs) h =
     ap (λ (m : ℕ). keys_from n (take m (x ∷ xs))) (let e : suc i + 1 ≡ suc (i + 1) = omega arith in e)
-    ∙ ap (λ (ks : List ℕ). key x n ∷ ks) (keys_more (suc n) i xs (omega (arith, h)) ∙ ap (λ (m : ℕ). keys_from (suc n) (take i xs) ++ (key (splice_at xs i) m ∷ [])) (omega arith))
+    ∙ ap (λ (ks : List ℕ). key x n ∷ ks) (keys_more (suc n) i xs (omega (arith, h))
+    ∙ ap (λ (m : ℕ). keys_from (suc n) (take i xs) ++ (key (splice_at xs i) m ∷ [])) (omega arith))
 
 -- The keys below an index are those of the first splices.
 
@@ -54,7 +56,8 @@ none_below : (m n : ℕ) (xs : List Splice) → n ≤ m → m + length xs ≤ 2 
 none_below m n [] l h = refl
 none_below m n (x ∷ xs) l h =
     let i = key_index x m (omega (arith, h)) in
-    ap (λ (b : Bool). cond b (key x m ∷ filter (λ k. nat_lt (k % 2 ^ 32) n) (keys_from (suc m) xs)) (filter (λ k. nat_lt (k % 2 ^ 32) n) (keys_from (suc m) xs)))
+    ap (λ (b : Bool). cond b (key x m ∷ filter (λ k. nat_lt (k % 2 ^ 32) n) (keys_from (suc m) xs))
+    (filter (λ k. nat_lt (k % 2 ^ 32) n) (keys_from (suc m) xs)))
     (ap (λ (j : ℕ). nat_lt j n) i ∙ le-ltb m n l)
     ∙ none_below (suc m) n xs (omega (arith, l)) (omega (arith, h))
 
@@ -65,9 +68,11 @@ first_keys m zero (x ∷ xs) h = none_below m (m + 0) (x ∷ xs) (omega arith) h
 first_keys m (suc n) (x ∷ xs) h =
     let i = key_index x m (omega (arith, h)) in
     let e : m + suc n ≡ suc m + n = omega arith in
-    ap (λ (b : Bool). cond b (key x m ∷ filter (λ k. nat_lt (k % 2 ^ 32) (m + suc n)) (keys_from (suc m) xs)) (filter (λ k. nat_lt (k % 2 ^ 32) (m + suc n)) (keys_from (suc m) xs)))
+    ap (λ (b : Bool). cond b (key x m ∷ filter (λ k. nat_lt (k % 2 ^ 32) (m + suc n)) (keys_from (suc m) xs))
+    (filter (λ k. nat_lt (k % 2 ^ 32) (m + suc n)) (keys_from (suc m) xs)))
     (ap (λ (j : ℕ). nat_lt j (m + suc n)) i ∙ lt-ltb m (m + suc n) (omega arith))
-    ∙ ap (λ (ks : List ℕ). key x m ∷ ks) (ap (λ (j : ℕ). filter (λ k. nat_lt (k % 2 ^ 32) j) (keys_from (suc m) xs)) e ∙ first_keys (suc m) n xs (omega (arith, h)))
+    ∙ ap (λ (ks : List ℕ). key x m ∷ ks) (ap (λ (j : ℕ). filter (λ k. nat_lt (k % 2 ^ 32) j) (keys_from (suc m) xs)) e
+    ∙ first_keys (suc m) n xs (omega (arith, h)))
 
 fewer : (n : ℕ) (xs : List Splice) → length (take n xs) ≤ length xs
 fewer zero xs = omega arith
@@ -95,7 +100,8 @@ pub order_with : (staged list : List Splice) (order v : List ℕ) → order ≡ 
 unfolding order_of
 order_with staged list order v o h p up =
     let ks : List ℕ = keys_from (length staged) list in
-    let all : keys_from 0 (staged ++ list) ≡ keys_from 0 staged ++ ks = keys_append 0 staged list ∙ ap (λ (n : ℕ). keys_from 0 staged ++ keys_from n list) (omega arith) in
+    let all : keys_from 0 (staged ++ list) ≡ keys_from 0 staged ++ ks = keys_append 0 staged list
+    ∙ ap (λ (n : ℕ). keys_from 0 staged ++ keys_from n list) (omega arith) in
     let q : IsPermutation (order_of staged ++ ks) v = subst (λ (xs : List ℕ). IsPermutation (xs ++ ks) v) o p in
     let r : IsPermutation (keys_from 0 staged ++ ks) v =
     IsPermutation-trans (keys_from 0 staged ++ ks) (rising (keys_from 0 staged) ++ ks) v
@@ -143,7 +149,8 @@ show_splices done [] h = refl
 show_splices done (x ∷ xs) h =
     let n : ℕ = length done in
     let more : length (done ++ x ∷ []) ≡ suc n = length-append done (x ∷ []) ∙ (let e : n + 1 ≡ suc n = omega arith in e) in
-    let rest : map (splice_of ((done ++ x ∷ []) ++ xs)) (keys_from (length (done ++ x ∷ [])) xs) ≡ xs = show_splices (done ++ x ∷ []) xs (omega (arith, h, more)) in
+    let rest : map (splice_of ((done ++ x ∷ []) ++ xs)) (keys_from (length (done ++ x ∷ [])) xs) ≡ xs = show_splices (done ++ x ∷ []) xs
+    (omega (arith, h, more)) in
     ap₂ (λ (y : Splice) (ys : List Splice). y ∷ ys) (shows done x xs (omega (arith, h)))
     (ap₂ (λ (ys : List Splice) (m : ℕ). map (splice_of ys) (keys_from m xs)) (sym (moved done x xs)) (sym more) ∙ rest)
 

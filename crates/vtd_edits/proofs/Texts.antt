@@ -41,7 +41,8 @@ class_above c n m k [] e l h = tt
 class_above c n m k (x ∷ xs) e l h =
     let rest = class_above c n (suc m) k xs e (omega (arith, l)) (omega (arith, h)) in
     let P : Bool → Type 0 =
-    λ b. AllByRecursion (λ l. k < l) (cond b (key x m ∷ filter (λ l. nat_eq (l / 2 ^ 32) c) (keys_from (suc m) xs)) (filter (λ l. nat_eq (l / 2 ^ 32) c) (keys_from (suc m) xs))) in
+    λ b. AllByRecursion (λ l. k < l) (cond b (key x m ∷ filter (λ l. nat_eq (l / 2 ^ 32) c) (keys_from (suc m) xs))
+    (filter (λ l. nat_eq (l / 2 ^ 32) c) (keys_from (suc m) xs))) in
     elim (cases_Bool (nat_eq (key x m / 2 ^ 32) c)) [
       | inl t ↦
           let f : slot_of x ≡ c = sym (key_slot x m (omega (arith, h))) ∙ eqb-true (key x m / 2 ^ 32) c t in
@@ -154,7 +155,8 @@ replaced_slot p (Replace start end text) = elim (cases_eq start end) [
 same_texts : (staged : List Splice) (p : ℕ) → length staged ≤ 2 ^ 32 → texts_at (in_order staged) p ≡ texts_at staged p
 same_texts staged p few =
     ap₂ (λ (a b : List ℕ). a ++ b)
-    (ap₂ (λ (a b : List ℕ). a ++ b) (class_texts (inserted p) (p * 4) staged (inserted_slot p) few) (class_texts (empty_replaced p) (p * 4 + 1) staged (empty_slot p) few))
+    (ap₂ (λ (a b : List ℕ). a ++ b) (class_texts (inserted p) (p * 4) staged (inserted_slot p) few)
+    (class_texts (empty_replaced p) (p * 4 + 1) staged (empty_slot p) few))
     (class_texts (replaced p) (p * 4 + 2) staged (replaced_slot p) few)
 
 same_covers : (staged : List Splice) (p : ℕ) → length staged ≤ 2 ^ 32 → list_any (covers p) (in_order staged) ≡ list_any (covers p) staged
@@ -163,7 +165,8 @@ same_covers staged p few = sym (list_any-IsPermutation (covers p) staged (in_ord
 same_bytes : (staged : List Splice) (p : ℕ) (rest : List ℕ) → length staged ≤ 2 ^ 32 → spliced_from (in_order staged) p rest ≡ spliced_from staged p rest
 same_bytes staged p [] few = same_texts staged p few
 same_bytes staged p (byte ∷ bytes) few =
-    ap₂ (λ (t : List ℕ) (b : Bool). (t ++ cond b [] (byte ∷ [])) ++ spliced_from (in_order staged) (suc p) bytes) (same_texts staged p few) (same_covers staged p few)
+    ap₂ (λ (t : List ℕ) (b : Bool). (t ++ cond b [] (byte ∷ [])) ++ spliced_from (in_order staged) (suc p) bytes) (same_texts staged p few)
+    (same_covers staged p few)
     ∙ ap (λ (r : List ℕ). (texts_at staged p ++ cond (list_any (covers p) staged) [] (byte ∷ [])) ++ r) (same_bytes staged (suc p) bytes few)
 
 -- The new bytes are made in one pass over the order.
@@ -186,7 +189,8 @@ chain_ends (Replace start end text ∷ order) low only len c =
     omega (arith, a, b, d)
 
 -- one splice more, whose range is within what is left
-one_more : (x : Splice) (order : List Splice) (done len : ℕ) (rest : List ℕ) → done + length rest ≡ len → done ≤ start_of x → start_of x ≤ end_of x → end_of x ≤ len
+one_more : (x : Splice) (order : List Splice) (done len : ℕ) (rest : List ℕ) → done + length rest ≡ len → done ≤ start_of x → start_of x ≤ end_of x
+    → end_of x ≤ len
     → length (spliced_by order (end_of x) (drop (end_of x - done) rest)) + taken_size order ≡ length (drop (end_of x - done) rest) + text_size order
     → length (spliced_by (x ∷ order) done rest) + taken_size (x ∷ order) ≡ length rest + text_size (x ∷ order)
 one_more x order done len rest e a b c h =

@@ -29,7 +29,8 @@ head_turns (Insert at text) order low only len c =
 head_turns (Replace start end text) order low only len c =
     record { after = c.0; forward = c.1; within = chain_ends order end (nat_eq start end) len c.3; rest = record { only = nat_eq start end; chain = c.3 } }
 
-pub turns_at : (order : List Splice) (i low len : ℕ) → i < length order → HasChain low len (drop i order) → Turns low len (splice_at order i) (drop (i + 1) order)
+pub turns_at : (order : List Splice) (i low len : ℕ) → i < length order → HasChain low len (drop i order)
+    → Turns low len (splice_at order i) (drop (i + 1) order)
 turns_at order i low len h c =
     let P : List Splice → Type 0 = λ xs. IsChain low c.only len xs in
     head_turns (splice_at order i) (drop (i + 1) order) low c.only len (subst P (drop_more order i (Insert 0 []) h) c.chain)
@@ -37,11 +38,13 @@ turns_at order i low len h c =
 pub order_length : (staged : List Splice) → length staged ≤ 2 ^ 32 → length (in_order staged) ≡ length staged
 order_length staged few = length_permutation staged (in_order staged) (order_permutation staged few)
 
-pub none_done : (bytes : List ℕ) (staged : List Splice) → length staged ≤ 2 ^ 32 → All (IsWithin (length bytes)) staged → AreApart staged → IsDone bytes staged 0 0 []
+pub none_done : (bytes : List ℕ) (staged : List Splice) → length staged ≤ 2 ^ 32 → All (IsWithin (length bytes)) staged → AreApart staged
+    → IsDone bytes staged 0 0 []
 none_done bytes staged few w a =
     record { chain = record { only = false; chain = order_chain staged (length bytes) few w a }; made = sym (one_pass_staged bytes staged few w a) }
 
-pub one_more_done : (bytes : List ℕ) (staged : List Splice) (i done end : ℕ) (out kept text more : List ℕ) → length staged ≤ 2 ^ 32 → i < length staged → IsDone bytes staged i done out
+pub one_more_done : (bytes : List ℕ) (staged : List Splice) (i done end : ℕ) (out kept text more : List ℕ) → length staged ≤ 2 ^ 32 → i < length staged
+    → IsDone bytes staged i done out
     → kept ≡ take (start_of (splice_at (in_order staged) i) - done) (drop done bytes) → text ≡ text_of (splice_at (in_order staged) i)
     → end ≡ end_of (splice_at (in_order staged) i) → more ≡ (out ++ kept) ++ text → IsDone bytes staged (i + 1) end more
 one_more_done bytes staged i done end out kept text more few h d k t e m =
@@ -100,15 +103,18 @@ at_map s (k ∷ ks) zero h = refl
 at_map s (k ∷ ks) (suc i) h = at_map s ks i (omega (arith, h))
 
 -- and the splice at that index of the order is that splice
-pub splice_at_key : (staged : List Splice) (i : ℕ) → i < length staged → splice_at (in_order staged) i ≡ splice_at staged (get_or (order_of staged) i 0 % 2 ^ 32)
+pub splice_at_key : (staged : List Splice) (i : ℕ) → i < length staged → splice_at (in_order staged) i ≡ splice_at staged
+    (get_or (order_of staged) i 0 % 2 ^ 32)
 splice_at_key staged i h = at_map (splice_of staged) (order_of staged) i (let e = order_size staged in omega (arith, h, e))
 
 -- What edits hold, by the order.
 
-pub held_turns : (len : ℕ) (staged all : List Splice) (order : List ℕ) (text taken : ℕ) → IsHeld len staged order text taken → staged ≡ all → length order ≡ length all
+pub held_turns : (len : ℕ) (staged all : List Splice) (order : List ℕ) (text taken : ℕ) → IsHeld len staged order text taken → staged ≡ all
+    → length order ≡ length all
 held_turns len staged all order text taken h e = ap length h.sorted ∙ order_size staged ∙ ap length e
 
-shown_key : (staged : List Splice) (order : List ℕ) (i k : ℕ) → order ≡ order_of staged → i < length staged → k ≡ get_or order i k → k ≡ get_or (order_of staged) i 0
+shown_key : (staged : List Splice) (order : List ℕ) (i k : ℕ) → order ≡ order_of staged → i < length staged → k ≡ get_or order i k
+    → k ≡ get_or (order_of staged) i 0
 shown_key staged order i k o h e =
     get_or_read order i k (let s = ap length o in let t = order_size staged in omega (arith, h, s, t)) e 0 ∙ ap (λ (ks : List ℕ). get_or ks i 0) o
 
@@ -119,7 +125,8 @@ key_below len staged all order text taken i k h e l g =
     let few = h.few in
     subst (λ (q : ℕ). q % 2 ^ 32 < length staged) (sym (shown_key staged order i k h.sorted m g)) (key_at staged i (omega (arith, few)) m).below
 
-pub key_splice : (len : ℕ) (staged all : List Splice) (order : List ℕ) (text taken i k : ℕ) (x : Splice) → IsHeld len staged order text taken → staged ≡ all → i < length all
+pub key_splice : (len : ℕ) (staged all : List Splice) (order : List ℕ) (text taken i k : ℕ) (x : Splice) → IsHeld len staged order text taken → staged ≡ all
+    → i < length all
     → k ≡ get_or order i k → x ≡ get_or staged (k % 2 ^ 32) x → x ≡ splice_at (in_order all) i
 key_splice len staged all order text taken i k x h e l g f =
     let m : i < length staged = (let d = ap length e in omega (arith, l, d)) in
@@ -141,7 +148,8 @@ pub record Room (done len : ℕ) (x : Splice) : Type 0 where
   pub after : done ≤ start_of x
   pub within : start_of x ≤ len
 
-pub turn_room : (bytes : List ℕ) (staged : List Splice) (i done : ℕ) (out : List ℕ) (x : Splice) → length staged < 2 ^ 32 → i < length staged → IsDone bytes staged i done out
+pub turn_room : (bytes : List ℕ) (staged : List Splice) (i done : ℕ) (out : List ℕ) (x : Splice) → length staged < 2 ^ 32 → i < length staged
+    → IsDone bytes staged i done out
     → x ≡ splice_at (in_order staged) i → Room done (length bytes) x
 turn_room bytes staged i done out x few h d e =
     let size = order_length staged (omega (arith, few)) in
@@ -150,7 +158,8 @@ turn_room bytes staged i done out x few h d e =
     let b = turn.within in
     subst (Room done (length bytes)) (sym e) (record { after = turn.after; within = omega (arith, a, b) })
 
-pub next_done : (bytes : List ℕ) (staged : List Splice) (i done end : ℕ) (out kept text more : List ℕ) (x : Splice) → length staged < 2 ^ 32 → i < length staged → IsDone bytes staged i done out
+pub next_done : (bytes : List ℕ) (staged : List Splice) (i done end : ℕ) (out kept text more : List ℕ) (x : Splice) → length staged < 2 ^ 32
+    → i < length staged → IsDone bytes staged i done out
     → x ≡ splice_at (in_order staged) i → kept ≡ take (start_of x - done) (drop done bytes) → text ≡ text_of x → end ≡ end_of x → more ≡ (out ++ kept) ++ text
     → IsDone bytes staged (i + 1) end more
 next_done bytes staged i done end out kept text more x few h d is k t e m =

@@ -1,6 +1,6 @@
 -- Splices, which of them overlap, and the bytes that they make (this project's own).
-use Rattle.std.specs.Prelude.{◌≡◌, ℕ, zero, suc, ◌+◌, ◌<◌, ◌≤◌, Bool, true, false, cond, nat_eq, nat_lt, nat_le, not, ◌&&◌}
-use Rattle.std.specs.Prelude.{◌||◌, List, [], ◌∷◌, ◌++◌, length, slice_index_or}
+use Rattle.std.specs.Prelude.{◌≡◌, ℕ, zero, suc, ◌+◌, ◌<◌, ◌≤◌, Bool, true, false, cond, nat_eq}
+use Rattle.std.specs.Prelude.{nat_lt, nat_le, not, ◌&&◌, ◌||◌, List, [], ◌∷◌, ◌++◌, length, slice_index_or}
 use Rattle.std.specs.List.{flat_map, list_any, sum_by, All}
 use Rattle.vtd_edits.specs.declared.splice.Splice.{Splice}
 use Rattle.vtd_edits.specs.declared.splice.Splice.TheVariants.{Replace, Insert}
@@ -63,7 +63,8 @@ texts_at staged place =
 abbrev pub spliced_from : List Splice → ℕ → List ℕ → List ℕ
 spliced_from staged place [] = texts_at staged place
 spliced_from staged place (byte ∷ bytes) =
-    texts_at staged place ++ cond (list_any (covers place) staged) [] (byte ∷ []) ++ spliced_from staged (suc place) bytes
+    texts_at staged place ++ cond (list_any (covers place) staged) [] (byte ∷ [])
+    ++ spliced_from staged (suc place) bytes
 
 -- the new bytes
 unfoldable pub spliced : List ℕ → List Splice → List ℕ

@@ -1,6 +1,7 @@
 //! The staged splices of a document.
 
-ghost use Rattle.std.specs.Prelude.{◌≡◌, ℕ, ◌+◌, ◌-◌, ◌^◌, ◌<◌, ◌≤◌, List, [], ◌∷◌, ◌++◌, length, take, drop, IfOk, IfErr, OnOk, OnErr};
+ghost use Rattle.std.specs.Prelude.{◌≡◌, ℕ, ◌+◌, ◌-◌, ◌^◌, ◌<◌, ◌≤◌, List, [], ◌∷◌, ◌++◌, length, take, drop, IfOk};
+ghost use Rattle.std.specs.Prelude.{IfErr, OnErr, OnOk};
 ghost use Rattle.std.specs.List.{All};
 ghost use Rattle.vtd_edits.specs.Splices.{splice_at, spliced, AreEdits, IsWithin, Refuses};
 ghost use Rattle.vtd_edits.specs.Order.{in_order};
@@ -59,14 +60,15 @@ impl Edits {
         }
     }
 
-    /// Stages the splices of a list after those that are staged, all of them or none. Their places are within the document,
-    /// and no range ends before it starts. It is linear in what is staged and in the list, where the list is in the order
-    /// of the document or in the reverse of it, and else takes a sort.
+    /// Stages the splices of a list after those that are staged, all of them or none. Their places are within the
+    /// document, and no range ends before it starts. It is linear in what is staged and in the list, where the list is
+    /// in the order of the document or in the reverse of it, and else takes a sort.
     ///
     /// # Errors
-    /// `Overlap` exactly where a splice of the list overlaps one that is staged or before it in the list; then `TextLong`
-    /// exactly where all staged texts would have more than 268,435,456 bytes. `NoMemory` may come in place of any other
-    /// answer, and does for more than 4,294,967,295 splices. The list comes back, and nothing of it is staged.
+    /// `Overlap` exactly where a splice of the list overlaps one that is staged or before it in the list; then
+    /// `TextLong` exactly where all staged texts would have more than 268,435,456 bytes. `NoMemory` may come in place
+    /// of any other answer, and does for more than 4,294,967,295 splices. The list comes back, and nothing of it is
+    /// staged.
     pub fn stage(&mut self, list: Splices) -> Result<(), (Splices, StageFault)>
         requires { All (IsWithin self.old.len) list }
         ensures staged { OnOk result (self.new ≡ record self.old { splices = self.old.splices ++ list }) }
@@ -122,8 +124,8 @@ impl Edits {
         Ok(())
     }
 
-    /// Takes the last `count` splices in staging order off, and hands them out in that order. At least so many are staged.
-    /// It is linear in what is staged.
+    /// Takes the last `count` splices in staging order off, and hands them out in that order. At least so many are
+    /// staged. It is linear in what is staged.
     ///
     /// # Errors
     /// `NoMemory`; all stays then.

@@ -34,8 +34,8 @@ impl Model for Splices {
 /// Why splices are not staged.
 #[derive(Clone, Copy, Debug, PartialEq, Eq)]
 pub enum StageFault {
-    /// A splice of the list overlaps one that is staged or that is before it in the list. `later` is where the first such
-    /// splice of the list starts, `earlier` where the first splice in staging order starts that it overlaps.
+    /// A splice of the list overlaps one that is staged or that is before it in the list. `later` is where the first
+    /// such splice of the list starts, `earlier` where the first splice in staging order starts that it overlaps.
     Overlap { earlier: u32, later: u32 },
     /// All staged texts would have more than 268,435,456 bytes.
     TextLong,

@@ -49,8 +49,8 @@ fn push_all(out: &mut Vec<u8>, bytes: &[u8]) -> Result<(), NoMemory>
     out.extend_from_slice(bytes).map_err(|_| NoMemory)
 }
 
-/// The new bytes of a document of the length that the edits are for. Where splices begin at one place, the insertions come
-/// first, in staging order, then the text of an empty range, then that of another range.
+/// The new bytes of a document of the length that the edits are for. Where splices begin at one place, the insertions
+/// come first, in staging order, then the text of an empty range, then that of another range.
 ///
 /// # Errors
 /// `NoMemory`.

@@ -1,10 +1,12 @@
 //! How splices are staged: their order on the bytes, and whether they overlap.
 
-ghost use Rattle.std.specs.Prelude.{◌≡◌, ℕ, ◌+◌, ◌-◌, ◌*◌, ◌%◌, ◌^◌, ◌<◌, ◌≤◌, ◌++◌, Some, None, true, false, length, filter, nat_lt, IfOk, IfSome, OnOk, OnSome, MatchOption};
+ghost use Rattle.std.specs.Prelude.{◌≡◌, ℕ, ◌+◌, ◌-◌, ◌*◌, ◌%◌, ◌^◌, ◌<◌, ◌≤◌, ◌++◌, true, false};
+ghost use Rattle.std.specs.Prelude.{length, filter, nat_lt, IfOk, IfSome, MatchOption, OnOk, OnSome};
 ghost use Rattle.std.specs.List.{All};
 ghost use Rattle.std.specs.List.Sorted.{IsNonDecreasing, IsPermutation};
-ghost use Rattle.vtd_edits.specs.Splices.{overlap, splice_at, start_of, text_limit, text_size, AreApart, IsWithin, Refuses};
-ghost use Rattle.vtd_edits.specs.Order.{apart_after, apart_to, keys_from, order_of, overlaps_last, taken_size, IsFirstPartner};
+ghost use Rattle.vtd_edits.specs.Splices.{overlap, splice_at, start_of, text_limit, text_size};
+ghost use Rattle.vtd_edits.specs.Splices.{AreApart, IsWithin, Refuses};
+ghost use Rattle.vtd_edits.specs.Order.{apart_to, keys_from, order_of, overlaps_last, taken_size, IsFirstPartner};
 
 use crate::splice::{Splice, StageFault, end_of, overlap, slot_of, start_of, text_of};
 use std::alloc::Global;
@@ -162,7 +164,8 @@ fn first_late(order: &[u64], staged: &[Splice], list: &[Splice]) -> usize
 fn first_partner(staged: &[Splice], list: &[Splice], later: usize) -> Option<usize>
     requires { later < length staged.now + length list.now }
     ensures { MatchOption result
-        ((k : ℕ) → k < later → overlap (splice_at (staged.now ++ list.now) later) (splice_at (staged.now ++ list.now) k) ≡ false)
+        ((k : ℕ) → k < later →
+        overlap (splice_at (staged.now ++ list.now) later) (splice_at (staged.now ++ list.now) k) ≡ false)
         (λ i. IsFirstPartner (staged.now ++ list.now) later i) }
 {
     let splice = splice_at(staged, list, later);
@@ -203,7 +206,8 @@ pub(crate) fn keep_below(order: &mut Vec<u64>, count: u64)
 /// How many bytes all texts have, with those of a list; `None` where they are too many.
 pub(crate) fn text_with(text: u32, list: &[Splice]) -> Option<u32>
     requires { text ≤ text_limit }
-    ensures { MatchOption result (text_limit < text + text_size list.now) (λ t. (t ≡ text + text_size list.now) × (t ≤ text_limit)) }
+    ensures { MatchOption result (text_limit < text + text_size list.now)
+        (λ t. (t ≡ text + text_size list.now) × (t ≤ text_limit)) }
 {
     let mut all = text;
     for splice in list {

@@ -15,7 +15,8 @@ turn_of-turn-requires c =
 
 pub loop-i-preserved : goal.loop-i-preserved
 loop-i-preserved c =
-    next_done c.args.bytes.now c.args.edits.now.splices c.loop-i.i c.loop-i.done _ c.loop-i.out.items c.turn_of-turn.result.kept.now c.turn_of-turn.result.text.now _
+    next_done c.args.bytes.now c.args.edits.now.splices c.loop-i.i c.loop-i.done _ c.loop-i.out.items c.turn_of-turn.result.kept.now
+    c.turn_of-turn.result.text.now _
     c.splice.result.now c.turns-i-end.ensures.few (omega (arith, c.turns-i-end.ensures.value)) c.loop-i.invariant c.splice.ensures
     c.turn_of-turn.ensures.kept c.turn_of-turn.ensures.text c.turn_of-turn.ensures.end
     (c.in_ok-push_all-2.ensures ∙ ap (λ (xs : List ℕ). xs ++ c.turn_of-turn.result.text.now) c.in_ok-push_all.ensures)
