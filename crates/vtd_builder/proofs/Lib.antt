@@ -10,3 +10,4 @@ pub mod Refused
 pub mod TagFacts
 pub mod Beginnings
 pub mod Passing
+pub mod LongTexts
