@@ -67,6 +67,27 @@ fn write_value<W: Words>(
     out.push_str(other_way(alloc, table, node, value.as_str())?)
 }
 
+/// The kind of a node, how many code points its string-value has, and whether its bytes hold that as it is.
+fn write_count<W: Words>(
+    alloc: Global,
+    out: &mut String,
+    table: &Table<'_, W>,
+    at: u32,
+) -> Result<(), AllocError> {
+    let Some(node) = table.node_at(at) else {
+        return out.push_str("none");
+    };
+    out.push_str(kind_word(node.kind))?;
+    let mut value = String::new(alloc);
+    let mut count = 0u64;
+    for c in Chars::of(table, node) {
+        value.push(c)?;
+        count = count.wrapping_add(1);
+    }
+    write!(out, " {count}")?;
+    out.push_str(other_way(alloc, table, node, value.as_str())?)
+}
+
 /// Whether two nodes have one string-value.
 fn write_equal<W: Words>(
     out: &mut String,
@@ -96,6 +117,7 @@ fn write_answer(
 ) -> Result<(), AllocError> {
     match table {
         "values" => write_value(alloc, out, document, number_of(input)),
+        "counts" => write_count(alloc, out, document, number_of(input)),
         "equal" => {
             let (one, other) = input.split_once(" ").unwrap_or((input, ""));
             write_equal(out, document, number_of(one), number_of(other))

@@ -7,7 +7,8 @@ use Rattle.std.proofs.lemmas.List.{length-append}
 use lib.Utf8.{encode, encodes}
 use Rattle.xml_model.specs.Chars.{begins, size, lacks}
 use Rattle.xml_model.specs.Items.{Attribute, Tag, Leaf, text, cdata, declaration, doctype, Item, leaf, start_tag, empty_tag, end_tag, quote_char, written, written_pieces, written_attribute, written_attributes, written_option, written_tag, written_units, before_value, spelling, meets, meets_piece, meets_leaf, ends_well, may_begin_at, first_place, begins_at, is_nil, walk_from, end_of_items}
-use Rattle.xml_model.specs.Records.{Record, attributes_records, declaration_part_records, declaration_attributes, attributes_place, depth_at, plain, text_records}
+use Rattle.xml_model.specs.Records.{cut_records, Record, attributes_records, declaration_part_records, declaration_attributes, attributes_place, depth_at, plain, text_records}
+use Rattle.xml_model.proofs.Cuts.{few_cuts, empty_cuts}
 use Rattle.xml_chars.proofs.Points.{encode_pos}
 use Rattle.xml_chars.proofs.HoldLemmas.{size-append}
 use Rattle.xml_items.proofs.SpanLemmas.{spelled, size_1, size_comment, size_cdata, size_xml}
@@ -40,9 +41,9 @@ few_parts v None (Some s) sp depth at = omega arith
 few_parts v (Some e) None sp depth at = omega arith
 few_parts v (Some e) (Some s) sp depth at = omega arith
 
-few_texts : (level : ℕ) (p : Record) → length (text_records level p) ≤ 1
-few_texts zero p = omega arith
-few_texts (suc level) p = omega arith
+few_texts : (level depth at n : ℕ) → 0 < n → length (text_records level (cut_records 5 depth at n)) ≤ n
+few_texts zero depth at n h = omega arith
+few_texts (suc level) depth at n h = few_cuts 5 depth at n h
 
 size_end : size (codes "?>") ≡ 2
 unfolding size encode
@@ -59,11 +60,11 @@ long_leaf : (x : Leaf) (level at : ℕ) → meets_leaf x ≡ true → Long (leaf
 long_leaf (text ps) level at m =
     let a = and_parts (not (is_nil (written_pieces ps)) && list_all (meets_piece (λ c. false)) ps) (lacks (codes "]]>") (written_pieces ps)) m in
     let b = size_pos (written_pieces ps) (and_parts (not (is_nil (written_pieces ps))) (list_all (meets_piece (λ c. false)) ps) a.0).0 in
-    long_by (leaf (text ps)) level at (omega (arith, b)) (omega (arith, b, few_texts level (plain 5 (depth_at level) (written_pieces ps) at)))
+    long_by (leaf (text ps)) level at (omega (arith, b)) (few_texts level (depth_at level) at (size (written_pieces ps)) b)
 long_leaf (cdata cs) level at m =
     let s : size (written (leaf (cdata cs))) ≡ size (codes "<![CDATA[" ++ cs) + size (codes "]]>") = size-append (codes "<![CDATA[" ++ cs) (codes "]]>") in
     let t = size-append (codes "<![CDATA[") cs in
-    long_by (leaf (cdata cs)) level at (omega (arith, s, t, size_cdata)) (omega (arith, s, t, size_cdata))
+    long_by (leaf (cdata cs)) level at (omega (arith, s, t, size_cdata)) (omega (arith, s, t, size_cdata, empty_cuts 11 (depth_at level) (at + 9) (size cs)))
 long_leaf (Leaf.comment cs) level at m =
     let s : size (written (leaf (Leaf.comment cs))) ≡ size (codes "<!--" ++ cs) + size (codes "-->") = size-append (codes "<!--" ++ cs) (codes "-->") in
     let t = size-append (codes "<!--") cs in

@@ -11,3 +11,4 @@ pub mod TagFacts
 pub mod Beginnings
 pub mod Passing
 pub mod Built
+pub mod LongTexts

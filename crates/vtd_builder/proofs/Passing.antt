@@ -7,17 +7,17 @@ use Rattle.std.proofs.lemmas.List.{append-nil, drop-drop}
 use lib.Utf8.{encode, encodes}
 use Rattle.xml_model.specs.Chars.{size, lacks, begins, in_ranges, is_char, is_space, is_blank, is_name, is_name_start, is_name_char}
 use Rattle.xml_model.specs.Items.{Piece, literal, Leaf, text, cdata, declaration, doctype, Item, leaf, start_tag, empty_tag, end_tag, written, written_pieces, meets, meets_piece, is_nil, begins_at, spelling, ends_well, may_begin_at, first_place}
-use Rattle.xml_model.specs.Records.{Record, depth_at, text_records}
+use Rattle.xml_model.specs.Records.{Record, cut_records, depth_at, text_records}
 use Rattle.xml_chars.proofs.HoldLemmas.{size-append}
 use Rattle.xml_items.specs.Shown.{leaf_kind, item_kind}
 use Rattle.xml_items.proofs.SpanLemmas.{spelled}
 use Rattle.xml_chars.proofs.Readers.{begins_split}
 use Rattle.xml_acceptance.specs.Machine.{item_records, level_after, one_less}
 use Rattle.vtd_builder.specs.declared.offers.Beginning.TheVariants as beginnings
-use Rattle.vtd_builder.specs.Found.{plain_span}
+use Rattle.vtd_builder.specs.Found.{cuts_of}
 use Rattle.vtd_builder.specs.Cuts.{is_other, Placed, beginning_of}
 use Rattle.vtd_builder.proofs.Placed.{placed_back, placed_as}
-use Rattle.vtd_builder.proofs.Recorded.{item_placed, plain_is}
+use Rattle.vtd_builder.proofs.Recorded.{item_placed}
 use Rattle.vtd_builder.proofs.Counted.{begun_meets}
 use Rattle.vtd_builder.proofs.Cutting.{Apart, full_run, all_of, append_all, name_other, pieces_other, other_bytes, other_run, space_low, one_byte, no_62}
 
@@ -96,7 +96,7 @@ run_well ps (b ∷ more) e h = full_run (is_other 60) (encodes (written_pieces p
 
 pub record TextFacts (bytes : List ℕ) (at level : ℕ) (i : Item) : Type 0 where
   pub run : prefix_len (is_other 60) (drop at bytes) ≡ length (spelling i)
-  pub tokens : item_records level at i ≡ text_records level (plain_span 5 (depth_at level) record { start = at; end = at + length (spelling i) })
+  pub tokens : item_records level at i ≡ text_records level (cuts_of 5 (depth_at level) record { start = at; end = at + length (spelling i) })
   pub inside : level_after i level ≡ level
 
 text_run : (ps : List Piece) (bytes : List ℕ) (at : ℕ) → begins_at bytes at (leaf (text ps)) ≡ true → list_all (is_other 60) (written_pieces ps) ≡ true → prefix_len (is_other 60) (drop at bytes) ≡ length (spelling (leaf (text ps)))
@@ -110,6 +110,9 @@ text_run ps bytes at h o =
     begins_split (spelling i) (drop at bytes) z.1 ∙ ap (λ (l : List ℕ). encodes (written_pieces ps) ++ l) (drop-drop (length (spelling i)) at bytes) in
     ap (prefix_len (is_other 60)) split ∙ run_well ps (drop (at + length (spelling i)) bytes) (other_bytes 60 (written_pieces ps) (omega arith) o) y.1
 
+same_len : (at n : ℕ) → n ≡ at + n - at
+same_len at n = omega arith
+
 text_facts_of : (ps : List Piece) (bytes : List ℕ) (at level : ℕ) → begins_at bytes at (leaf (text ps)) ≡ true → TextFacts bytes at level (leaf (text ps))
 unfolding meets
 text_facts_of ps bytes at level h =
@@ -119,7 +122,8 @@ text_facts_of ps bytes at level h =
     let end : size (written_pieces ps) ≡ length (spelling i) = sym (spelled i) in
     record {
       run = text_run ps bytes at h (pieces_other 60 (λ c. false) less_apart text_literal ps n.1);
-      tokens = ap (text_records level) (plain_is 5 (depth_at level) at (written_pieces ps) ∙ ap (λ (m : ℕ). plain_span 5 (depth_at level) record { start = at; end = at + m }) end);
+      tokens = ap (λ (m : ℕ). text_records level (cut_records 5 (depth_at level) at m)) (same_len at (size (written_pieces ps))
+          ∙ ap (λ (m : ℕ). at + m - at) end);
       inside = refl;
     }
 
@@ -134,18 +138,18 @@ text_facts (start_tag t) bytes at level h k = absurd cc
 text_facts (empty_tag t) bytes at level h k = absurd cc
 text_facts (end_tag name space) bytes at level h k = absurd cc
 
--- the record of a text that ends at a place
-abbrev pub text_span : ℕ → ℕ → ℕ → Record
-text_span level at end = plain_span 5 (depth_at level) record { start = at; end = end }
+-- the records of a text that ends at a place
+abbrev pub text_span : ℕ → ℕ → ℕ → List Record
+text_span level at end = cuts_of 5 (depth_at level) record { start = at; end = end }
 
--- the record of a text, where an element holds it
-pub text_none : (level : ℕ) (p : Record) → level ≡ 0 → text_records level p ≡ []
-text_none zero p h = refl
-text_none (suc d) p h = absurd (omega arith)
+-- the records of a text, where an element holds it
+pub text_none : (level : ℕ) (rs : List Record) → level ≡ 0 → text_records level rs ≡ []
+text_none zero rs h = refl
+text_none (suc d) rs h = absurd (omega arith)
 
-pub text_one : (level : ℕ) (p : Record) → (level ≡ 0 → ⊥) → text_records level p ≡ p ∷ []
-text_one zero p h = absurd (h refl)
-text_one (suc d) p h = refl
+pub text_some : (level : ℕ) (rs : List Record) → (level ≡ 0 → ⊥) → text_records level rs ≡ rs
+text_some zero rs h = absurd (h refl)
+text_some (suc d) rs h = refl
 
 -- all that is known of a text once its end is found
 pub record Ended (bytes : List ℕ) (at level end : ℕ) (i : Item) : Type 0 where

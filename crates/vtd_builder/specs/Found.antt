@@ -3,7 +3,7 @@ use Rattle.std.specs.Prelude.{◌≡◌, ℕ, ◌-◌, ◌≤◌, true, List, []
 use Rattle.xml_model.specs.declared.Span.{Span}
 use Rattle.xml_model.specs.Chars.{prefix_of}
 use Rattle.xml_model.specs.Items.{Item, begins_at}
-use Rattle.xml_model.specs.Records.{Record, name_token}
+use Rattle.xml_model.specs.Records.{Record, cut_records, name_token}
 use Rattle.xml_items.specs.declared.Item.{Item as ItemShown}
 use Rattle.xml_items.specs.declared.AttributeItem.{AttributeItem}
 use Rattle.xml_items.specs.Shown.{item_shown}
@@ -28,6 +28,10 @@ plain_span token depth span = record {
   len = span.end - span.start;
   offset = span.start;
 }
+
+-- the records of a span that is a text or a CDATA section
+abbrev pub cuts_of : ℕ → ℕ → Span → List Record
+cuts_of token depth span = cut_records token depth span.start (span.end - span.start)
 
 -- the record of a name. A colon is one byte, so the bytes before the first one are those of the prefix
 abbrev pub named_span : List ℕ → ℕ → ℕ → Span → Record

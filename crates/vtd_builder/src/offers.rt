@@ -18,7 +18,7 @@ ghost use Rattle.xml_model.specs.Records.{attributes_records};
 ghost use Rattle.vtd_builder.specs.Cuts.{AttributesAt, closes_tag, counted, beginning_of, beginning_by, BeginsAs};
 ghost use Rattle.vtd_builder.specs.Cuts.{IsPast, passed_count};
 ghost use Rattle.vtd_builder.specs.Found.{bytes_of, IsWithin, plain_span, named_span, attribute_found, part_found};
-ghost use Rattle.vtd_builder.specs.Found.{parts_found, ShowsItem, AreOrdered, HasPlaces};
+ghost use Rattle.vtd_builder.specs.Found.{cuts_of, parts_found, ShowsItem, AreOrdered, HasPlaces};
 
 use crate::names::{name_token, prefix_len};
 use crate::sink::RecordSink;
@@ -269,6 +269,73 @@ fn depth_of(level: u32) -> u8
     }
 }
 
+/// The most bytes of one record of a text or a CDATA section.
+const CUT_LIMIT: u32 = 1_048_575;
+
+/// Offers the records of a text or a CDATA section, however long: one for each 1,048,575 bytes, and one for the rest.
+#[cold]
+#[inline(never)]
+fn offer_cuts<R: RecordSink>(
+    token: u8,
+    depth: u8,
+    span: Span,
+    count: u32,
+    into: &mut R,
+) -> Result<u32, u32>
+    requires span { span.start ≤ span.end }
+    requires room { CanOffer count (cuts_of token depth span) }
+    ensures outcome { outcome (R.taken into.new) result
+        ≡ offer (R.refuses into.old) (R.taken into.old) count (map word (cuts_of token depth span)) }
+    ensures rest { R.rest into.new ≡ R.rest into.old }
+    ensures test { R.refuses into.new ≡ R.refuses into.old }
+{
+    let mut count = count;
+    let mut at = span.start;
+    'cuts: while span.end - at > CUT_LIMIT {
+        let cut = plain_parts(
+            token,
+            depth,
+            Span {
+                start: at,
+                end: at + CUT_LIMIT,
+            },
+        );
+        count = offer(cut, count, into)?;
+        at += CUT_LIMIT;
+    }
+    let last = plain_parts(
+        token,
+        depth,
+        Span {
+            start: at,
+            end: span.end,
+        },
+    );
+    offer(last, count, into)
+}
+
+/// Offers the records of a text or a CDATA section: mostly one.
+#[inline(always)]
+fn offer_content<R: RecordSink>(
+    token: u8,
+    depth: u8,
+    span: Span,
+    count: u32,
+    into: &mut R,
+) -> Result<u32, u32>
+    requires span { span.start ≤ span.end }
+    requires room { CanOffer count (cuts_of token depth span) }
+    ensures outcome { outcome (R.taken into.new) result
+        ≡ offer (R.refuses into.old) (R.taken into.old) count (map word (cuts_of token depth span)) }
+    ensures rest { R.rest into.new ≡ R.rest into.old }
+    ensures test { R.refuses into.new ≡ R.refuses into.old }
+{
+    if span.end - span.start > CUT_LIMIT {
+        return offer_cuts(token, depth, span, count, into);
+    }
+    offer(plain_parts(token, depth, span), count, into)
+}
+
 /// Offers the records of the tag that begins at a place, with so many elements open round it.
 pub fn offer_tag<R: RecordSink>(
     bytes: &[u8],
@@ -309,8 +376,8 @@ pub fn offer_tag<R: RecordSink>(
     })
 }
 
-/// Offers the record of the text that begins at a place, with so many elements open round it; outside of all elements a
-/// text has none.
+/// Offers the records of the text that begins at a place, with so many elements open round it; outside of all elements
+/// a text has none.
 #[inline(always)]
 fn offer_text<R: RecordSink>(
     bytes: &[u8],
@@ -339,12 +406,8 @@ fn offer_text<R: RecordSink>(
             level,
         });
     }
-    let text = plain_parts(
-        TokenKind::Text as u8,
-        depth_of(level),
-        Span { start: at, end },
-    );
-    let count = offer(text, count, into)?;
+    let text = Span { start: at, end };
+    let count = offer_content(TokenKind::Text as u8, depth_of(level), text, count, into)?;
     Ok(Passed {
         count,
         at: end,
@@ -401,11 +464,9 @@ fn offer_marked<R: RecordSink>(
             count,
             into,
         ),
-        ItemKind::Cdata => offer(
-            plain_parts(TokenKind::Cdata as u8, depth, item.content),
-            count,
-            into,
-        ),
+        ItemKind::Cdata => {
+            offer_content(TokenKind::Cdata as u8, depth, item.content, count, into)
+        }
         ItemKind::Doctype => offer(
             plain_parts(TokenKind::Doctype as u8, depth, item.content),
             count,
