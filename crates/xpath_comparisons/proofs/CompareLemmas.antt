@@ -8,7 +8,8 @@ use Rattle.xpath_values.specs.declared.Value.{Value}
 use Rattle.xpath_values.specs.Answers.{Answer, Gives, and_then, with, each}
 use Rattle.xpath_values.specs.Numbers.{compare_numbers, number_of_text}
 use Rattle.xpath_values.specs.Values as values
-use Rattle.xpath_values.specs.Values.{Meant, nodes, truth, number, text, held_as, IsHeld, by_equality, is_equality, is_some_list, same_truth, some_pair, string_value}
+use Rattle.xpath_values.specs.Values.{Meant, nodes, truth, number, text, held_as, IsHeld, by_equality, is_equality, is_some_list, same_truth, some_pair}
+use Rattle.xpath_values.specs.Values.{string_value}
 use Rattle.xpath_values.proofs.SeenLemmas.{texts}
 use Rattle.xpath_values.proofs.ValueLemmas.{truth_same}
 use Rattle.xpath_comparisons.specs.Comparing as seen

@@ -10,7 +10,8 @@ use Rattle.xpath_values.specs.Numbers.{compare_numbers}
 use Rattle.xpath_values.specs.Seen.{truth_seen}
 use Rattle.xpath_values.specs.Values.{by_equality, same_truth}
 use Rattle.xpath_tokens.specs.declared.Comparison.{Comparison}
-use Rattle.xpath_comparisons.specs.Comparing.{by_kind, by_numbers, by_strings, strings_seen, equality_of, is_equal, is_nodes, is_number, is_truth, numbers_seen, takes_memory}
+use Rattle.xpath_comparisons.specs.Comparing.{by_kind, by_numbers, by_strings, strings_seen, equality_of, is_equal, is_nodes, is_number, is_truth, numbers_seen}
+use Rattle.xpath_comparisons.specs.Comparing.{takes_memory}
 use Rattle.xpath_comparisons.proofs.NumbersLemmas.{left_number, right_number}
 use Rattle.xpath_comparisons.proofs.SetLemmas.{or_parts}
 

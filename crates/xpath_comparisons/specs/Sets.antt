@@ -21,8 +21,8 @@ pub record IsAmong (bytes : List ℕ) (lists : Lists) (ts : List (List ℕ)) (no
   pub string : HasString bytes lists node text
   pub some : list_any (bytes_eq text) ts ≡ true
 
--- an index of nodes by the hashes of their string-values: what it has is among these texts, and where it has nothing for the
--- hash of a text, that text is not
+-- an index of nodes by the hashes of their string-values: what it has is among these texts, and where it has nothing
+-- for the hash of a text, that text is not
 pub record IsIndex (bytes : List ℕ) (lists : Lists) (index : BTreeMap ℕ Node) (ts : List (List ℕ)) : Type 0 where
   pub lacks : (q : List ℕ) → get nat_cmp index (hash_of q) ≡ None → list_any (bytes_eq q) ts ≡ false
   pub holds : (hash : ℕ) → IfSome (get nat_cmp index hash) (λ node. IsAmong bytes lists ts node)

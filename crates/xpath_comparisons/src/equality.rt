@@ -59,7 +59,7 @@ fn either(one: bool, other: bool) -> bool
     one || other
 }
 
-/// Whether the number of some node compares so with a number; the first fault of a node's number. All numbers are found.
+/// Whether the number of some node compares so with a number; the first fault of a node's number. All are converted.
 fn any_number_of_nodes<W: Words>(
     table: &Table<'_, W>,
     how: Comparison,
