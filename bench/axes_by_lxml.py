@@ -5,7 +5,9 @@ number is given.
 It writes the documents itself, counting the records of each node, asks lxml (Debian's python3-lxml) for the nodes on each axis,
 and has the program conformance_queries ask the same of this repository's crates. lxml answers in document order and leaves the
 root out: the answers are turned round on the four axes that count backwards, and the root is put where it belongs. The documents
-have no CDATA sections, which lxml joins to the texts beside them.
+have no CDATA sections, which lxml joins to the texts beside them. What follows an attribute is not asked: lxml leaves out what is in
+its element, which follows it in document order and is no descendant of it (XPath 1.0, section 2.2). Nor is what precedes a node
+after the root element: lxml may leave out the root element there.
 """
 import os
 import random
@@ -127,13 +129,17 @@ def rows(document):
     found, kept = keys(tree, document.contexts)
     for node, path, key in from_each(tree, kept):
         at = found[key]
+        top = node.getparent() is None and key[1] == "node"
         for axis in AXES:
+            if axis == "following" and key[1].startswith("@"):
+                continue
+            if axis == "preceding" and top and not isinstance(node.tag, str):
+                continue
             for ours, test in TESTS.items():
                 got = node.xpath(f"{path}/{axis}::{test}[parent::node()]")
                 nodes = sorted(index_of(found, it) for it in got)
                 if axis in BACKWARD:
                     nodes.reverse()
-                top = node.getparent() is None and key[1] == "node"
                 if ours == "node()" and (axis.startswith("ancestor") or (axis == "parent" and top)):
                     nodes.append(0)
                 yield f"{at} {axis} {ours} => " + (" ".join(map(str, nodes)) or "none")
