@@ -1,6 +1,6 @@
-//! Splices and what is staged of them, with what they are to answer, as tables in files: inputs and answers are worked out
-//! by hand from the rules of splices. The program reads each file that its words name, asks every row, and prints the rows
-//! that answer otherwise and how many rows there were.
+//! Splices and what is staged of them, with what they are to answer, as tables in files: inputs and answers are
+//! worked out by hand from the rules of splices. The program reads each file that its words name, asks every row, and
+//! prints the rows that answer otherwise and how many rows there were.
 #![tactic(auto)]
 
 mod splices;

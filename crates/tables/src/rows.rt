@@ -32,8 +32,8 @@ fn ask<R: Print + AllocGlobal, A: Answers>(
     Ok(())
 }
 
-/// Asks all rows of a file, prints those that are answered otherwise, and answers how many rows there are. No clause says
-/// what is printed.
+/// Asks all rows of a file, prints those that are answered otherwise, and answers how many rows there are. No clause
+/// says what is printed.
 pub fn walk<R: Print + AllocGlobal, A: Answers>(
     rt: &R,
     answers: &A,

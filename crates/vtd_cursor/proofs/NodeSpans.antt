@@ -92,7 +92,6 @@ two_ends : (bytes : List ℕ) (rs : List Record) (kind : Kind) (l start stop ind
     SpanShown bytes rs kind l start stop index past
 two_ends bytes rs kind l start stop index past r e b s = record { root = λ h. absurd (r h); begins = λ h. b; depth = λ h. absurd (e h); element = λ h. absurd (e h); other = λ h k. s }
 
-
 run_shown : (bytes : List ℕ) (rs prefix rest : List Record) (head : Leaf) (others : List Leaf) (d start stop index past : ℕ) → rs ≡ prefix ++ run_records (suc d) start (head ∷ others) ++ rest → length prefix ≡ index →
     index + length (run_records (suc d) start (head ∷ others)) ≡ past → Each (λ x. is_text x ≡ true) (head ∷ others) → stop ≡ past_run start (head ∷ others) → SpanShown bytes rs kinds.Text (suc d) start stop index past
 run_shown bytes rs prefix rest x others d start stop index past e n p k s =

@@ -1,5 +1,6 @@
 -- What filling levels asks, and what its private functions promise.
-use Rattle.std.specs.Prelude.{◌≡◌, ℕ, suc, ◌+◌, ◌-◌, ◌<◌, ◌≤◌, ◌^◌, cond, ◌==◌, List, [], ◌∷◌, ◌++◌, length, drop, Option, Some, None}
+use Rattle.std.specs.Prelude.{◌≡◌, ℕ, suc, ◌+◌, ◌-◌, ◌<◌, ◌≤◌, ◌^◌, cond, ◌==◌, List}
+use Rattle.std.specs.Prelude.{[], ◌∷◌, ◌++◌, length, drop, Option, Some, None}
 use Rattle.xml_model.specs.Records.{Record}
 use Rattle.xml_model.specs.Levels.{no_child, tags_from}
 use Rattle.xml_model.specs.LevelScan.{level_from}

@@ -1,6 +1,7 @@
 //! Stored levels against those of the records.
 
-ghost use Rattle.std.specs.Prelude.{◌≡◌, ℕ, suc, ◌+◌, ◌-◌, ◌<◌, ◌≤◌, ◌^◌, ◌==◌, cond, List, [], ◌∷◌, length, Some, None, IfErr, OnOk};
+ghost use Rattle.std.specs.Prelude.{◌≡◌, ℕ, suc, ◌+◌, ◌-◌, ◌<◌, ◌≤◌, ◌^◌, ◌==◌, cond, List};
+ghost use Rattle.std.specs.Prelude.{[], ◌∷◌, length, Some, None, IfErr, OnOk};
 ghost use Rattle.xml_model.specs.Records.{Record};
 ghost use Rattle.xml_model.specs.Levels.{levels, no_child};
 ghost use Rattle.vtd_words.specs.Lists.{list_of};

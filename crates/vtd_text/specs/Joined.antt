@@ -121,7 +121,8 @@ record_by w prefix len = record {
 -- the record that a word packs
 unfoldable pub record_of_word : ℕ → Record
 record_of_word w =
-    cond (is_name_token (w / 2 ^ 60)) (record_by w (lengths w / 2048) (bit_and (lengths w) 2047)) (record_by w 0 (lengths w))
+    cond (is_name_token (w / 2 ^ 60)) (record_by w (lengths w / 2048) (bit_and (lengths w) 2047))
+    (record_by w 0 (lengths w))
 
 -- what is left: that of the rest of a token, and of the tokens of a row of words
 unfoldable pub left_of : List ℕ → List ℕ → Rule → List ℕ → ℕ → RowEnd → List ℕ

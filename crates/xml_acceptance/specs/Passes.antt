@@ -22,8 +22,8 @@ pub record Finds (bytes : List ℕ) (found : Findings) (items : List Item) : Typ
   pub entity : found.entity ≡ first (over_items unknown_item (first_place bytes) items)
   pub encoding : found.encoding ≡ first (over_items encoding_item (first_place bytes) items)
 
--- some nest begins with the items: what is open, how many records and elements of each level there are, and which of them is the first that is
--- too wide
+-- some nest begins with the items: what is open, how many records and elements of each level there are, and which of
+-- them is the first that is too wide
 pub record Goes (bytes : List ℕ) (nest : NestSoFar) (items : List Item) : Type 0 where
   pub now : State
   pub ran : run [] whole items ≡ Some now

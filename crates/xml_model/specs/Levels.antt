@@ -1,6 +1,7 @@
 -- The location caches: the elements of depth 1 to 5, of the tree, and by the records alone; and the child elements of
 -- an element, by the records alone. All of it is this project's own.
-use Rattle.std.specs.Prelude.{◌≡◌, ℕ, suc, ◌+◌, ◌*◌, ◌^◌, ◌≤◌, Bool, true, false, cond, ◌&&◌, List, [], ◌∷◌, ◌++◌, map, length}
+use Rattle.std.specs.Prelude.{◌≡◌, ℕ, suc, ◌+◌, ◌*◌, ◌^◌, ◌≤◌, Bool, true, false, cond}
+use Rattle.std.specs.Prelude.{◌&&◌, List, [], ◌∷◌, ◌++◌, map, length}
 use Rattle.std.specs.Prelude.{drop, nat_le, nat_lt, ◌==◌, Option, Some, None, filter, position, option_and_then}
 use Rattle.std.specs.Option.{unwrap_or}
 use Rattle.xml_model.specs.Records.{Record}

@@ -1,6 +1,7 @@
 -- The records of a nest: for each token its type, the depth, the lengths of its prefix and of the whole, and its
 -- place. All of it is this project's own.
-use Rattle.std.specs.Prelude.{ℕ, zero, suc, ◌+◌, ◌-◌, ◌*◌, ◌/◌, ◌^◌, Bool, cond, ◌||◌, List, [], ◌∷◌, ◌++◌, codes, bytes_eq}
+use Rattle.std.specs.Prelude.{ℕ, zero, suc, ◌+◌, ◌-◌, ◌*◌, ◌/◌, ◌^◌, Bool, cond}
+use Rattle.std.specs.Prelude.{◌||◌, List, [], ◌∷◌, ◌++◌, codes, bytes_eq}
 use Rattle.std.specs.Prelude.{option_to_list}
 use Rattle.xml_model.specs.Chars.{size, prefix_of, begins}
 use Rattle.xml_model.specs.Items.{Attribute, Tag, Declaration, Leaf, text, cdata, declaration, doctype}

@@ -16,7 +16,8 @@ ghost use Rattle.xml_model.specs.Tree.{Entry, all, at_index, axis_list, kind_of,
 ghost use Rattle.xml_model.specs.Scan.{begins_by_scan, end_by_scan, holder_by_scan, kind_by_scan, past_by_scan};
 ghost use Rattle.xml_model.specs.Scan.{starts_by_scan, EndsAt};
 ghost use Rattle.xml_model.specs.Accepted.{Accepted, AcceptedTo, IsDocument, IsRefusal};
-ghost use Rattle.xml_model.specs.Levels.{at_depth, child_elements, child_tags, is_element, level_word, levels, levels_one};
+ghost use Rattle.xml_model.specs.Levels.{at_depth, child_elements, child_tags, is_element, level_word};
+ghost use Rattle.xml_model.specs.Levels.{levels, levels_one};
 ghost use Rattle.xml_model.specs.Levels.{record_level, tags_from, tree_levels, tree_levels_one, AreNested};
 ghost use Rattle.xml_model.specs.LevelScan.{level_from};
 ghost use Rattle.xml_model.specs.Slots.{holder_indexes, slots_after};
