@@ -54,9 +54,10 @@ impl<'n, 'a, W: Words> Model for AxisIter<'n, 'a, W> {
 }
 
 impl<'n, 'a, W: Words> AxisIter<'n, 'a, W> {
-    /// The next node in axis order; `None` exactly at the end. It reads the records from one node to the next; along the
-    /// parent, ancestor and ancestor-or-self axes those back to the first record of the node that it answers. A name test
-    /// with a URI reads back to the tags above each node of that local name; where many are met `next_by` reads less.
+    /// The next node in axis order; `None` exactly at the end. It reads the records from one node to the next; along
+    /// the parent, ancestor and ancestor-or-self axes those back to the first record of the node that it answers. A
+    /// name test with a URI reads back to the tags above each node of that local name; where many are met `next_by`
+    /// reads less.
     pub fn next(&mut self) -> Option<Node>
         ensures left { ForEachNest self.old.bytes (W.lists self.old.words) (λ nest.
             to_come self.old nest ≡ option_to_list result ++ to_come self.new nest) }
@@ -68,15 +69,16 @@ impl<'n, 'a, W: Words> AxisIter<'n, 'a, W> {
         ensures node { IfSome result (IsNodeOf self.old.bytes (W.lists self.old.words)) }
         // what bounds a loop over the nodes
         ensures fewer { IfSome result (λ node.
-            one_first self.new.first + records_left (length (list_of Part.Records (W.lists self.old.words))) self.new.rest
+            one_first self.new.first
+            + records_left (length (list_of Part.Records (W.lists self.old.words))) self.new.rest
             < one_first self.old.first
             + records_left (length (list_of Part.Records (W.lists self.old.words))) self.old.rest) }
     {
         self.next_by(&mut LookBack)
     }
 
-    /// The same, with name tests asked of a resolver of the document, or of another that knows its names. A resolver reads
-    /// each record once, as long as nodes come in document order, and nothing where the document declares no namespace.
+    /// The same, with name tests asked of a resolver of the document, or of another that knows its names. A resolver
+    /// reads each record once, as long as nodes come in document order, and nothing where the document declares no namespace.
     pub fn next_by<N: Names<W>>(&mut self, names: &mut N) -> Option<Node>
         requires { N.knows names.old (record { bytes = self.old.bytes; words = self.old.words }) }
         ensures left { ForEachNest self.old.bytes (W.lists self.old.words) (λ nest.
@@ -89,7 +91,8 @@ impl<'n, 'a, W: Words> AxisIter<'n, 'a, W> {
         ensures node { IfSome result (IsNodeOf self.old.bytes (W.lists self.old.words)) }
         // what bounds a loop over the nodes
         ensures fewer { IfSome result (λ node.
-            one_first self.new.first + records_left (length (list_of Part.Records (W.lists self.old.words))) self.new.rest
+            one_first self.new.first
+            + records_left (length (list_of Part.Records (W.lists self.old.words))) self.new.rest
             < one_first self.old.first
             + records_left (length (list_of Part.Records (W.lists self.old.words))) self.old.rest) }
         ensures names { N.knows names.new (record { bytes = self.old.bytes; words = self.old.words }) }
@@ -173,8 +176,8 @@ fn walk_of<W: Words>(table: &Table<'_, W>, node: Node, axis: Axis) -> Rest
 }
 
 /// The nodes on an axis of a node that pass a test, one after another in axis order, each once (XPath 1.0, sections 2.2
-/// to 2.4). The node is one of the document. It reads what is in the node on `following` and `following-sibling`, back to
-/// the tag of the parent on `parent`, and a constant number of records on the other axes.
+/// to 2.4). The node is one of the document. It reads what is in the node on `following` and `following-sibling`, back
+/// to the tag of the parent on `parent`, and a constant number of records on the other axes.
 pub fn axis_iter<'n, 'a, W: Words>(
     nav: &'n Nav<'a, W>,
     node: Node,

@@ -51,7 +51,8 @@ pub fn descendants_of_all<W: Words, N: Names<W>>(
 ) -> Result<NodeList, NoMemory>
     requires names { N.knows names.old table.now }
     requires contexts { AreNodesOf table.now.bytes (W.lists table.now.words) contexts.now }
-    ensures step { IfOk result (λ list. ForEachContexts table.now.bytes (W.lists table.now.words) contexts.now (λ nest cs.
+    ensures step { IfOk result (λ list.
+        ForEachContexts table.now.bytes (W.lists table.now.words) contexts.now (λ nest cs.
         list ≡ step_nodes axes.Descendant (node_test test.now) cs (nodes_of table.now.bytes nest))) }
     ensures names { N.knows names.new table.now }
 {
@@ -95,7 +96,8 @@ pub fn attributes_of_all<W: Words, N: Names<W>>(
 ) -> Result<NodeList, NoMemory>
     requires names { N.knows names.old table.now }
     requires contexts { AreNodesOf table.now.bytes (W.lists table.now.words) contexts.now }
-    ensures step { IfOk result (λ list. ForEachContexts table.now.bytes (W.lists table.now.words) contexts.now (λ nest cs.
+    ensures step { IfOk result (λ list.
+        ForEachContexts table.now.bytes (W.lists table.now.words) contexts.now (λ nest cs.
         list ≡ step_nodes axes.Attribute (node_test test.now) cs (nodes_of table.now.bytes nest))) }
     ensures names { N.knows names.new table.now }
 {
@@ -131,9 +133,9 @@ fn append_children<W: Words, N: Names<W>>(
     }
 }
 
-/// The children of nodes that pass a test, where none of the nodes begins before the end of an earlier one; `None` exactly
-/// where one does. The nodes are in document order, each once. It reads the records of each node, once. `NoMemory` comes
-/// where there is no memory for the list.
+/// The children of nodes that pass a test, where none of the nodes begins before the end of an earlier one; `None`
+/// exactly where one does. The nodes are in document order, each once. It reads the records of each node, once.
+/// `NoMemory` comes where there is no memory for the list.
 pub fn children_if_apart<W: Words, N: Names<W>>(
     alloc: Global,
     table: &Table<'_, W>,

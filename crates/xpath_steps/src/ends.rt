@@ -56,7 +56,8 @@ pub fn following_of_all<W: Words, N: Names<W>>(
 ) -> Result<NodeList, NoMemory>
     requires names { N.knows names.old table.now }
     requires contexts { AreNodesOf table.now.bytes (W.lists table.now.words) contexts.now }
-    ensures step { IfOk result (λ list. ForEachContexts table.now.bytes (W.lists table.now.words) contexts.now (λ nest cs.
+    ensures step { IfOk result (λ list.
+        ForEachContexts table.now.bytes (W.lists table.now.words) contexts.now (λ nest cs.
         list ≡ step_nodes axes.Following (node_test test.now) cs (nodes_of table.now.bytes nest))) }
     ensures names { N.knows names.new table.now }
 {
@@ -127,7 +128,8 @@ pub fn preceding_of_all<W: Words, N: Names<W>>(
 ) -> Result<NodeList, NoMemory>
     requires names { N.knows names.old table.now }
     requires contexts { AreNodesOf table.now.bytes (W.lists table.now.words) contexts.now }
-    ensures step { IfOk result (λ list. ForEachContexts table.now.bytes (W.lists table.now.words) contexts.now (λ nest cs.
+    ensures step { IfOk result (λ list.
+        ForEachContexts table.now.bytes (W.lists table.now.words) contexts.now (λ nest cs.
         list ≡ step_nodes axes.Preceding (node_test test.now) cs (nodes_of table.now.bytes nest))) }
     ensures names { N.knows names.new table.now }
 {

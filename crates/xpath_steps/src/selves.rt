@@ -35,8 +35,8 @@ fn append_if<W: Words, N: Names<W>>(
     Ok(())
 }
 
-/// Those of nodes that pass a test. The nodes are in document order, each once. `NoMemory` comes where there is no memory
-/// for the list.
+/// Those of nodes that pass a test. The nodes are in document order, each once. `NoMemory` comes where there is no
+/// memory for the list.
 pub fn selves_of_all<W: Words, N: Names<W>>(
     alloc: Global,
     table: &Table<'_, W>,
@@ -46,7 +46,8 @@ pub fn selves_of_all<W: Words, N: Names<W>>(
 ) -> Result<NodeList, NoMemory>
     requires names { N.knows names.old table.now }
     requires contexts { AreNodesOf table.now.bytes (W.lists table.now.words) contexts.now }
-    ensures step { IfOk result (λ list. ForEachContexts table.now.bytes (W.lists table.now.words) contexts.now (λ nest cs.
+    ensures step { IfOk result (λ list.
+        ForEachContexts table.now.bytes (W.lists table.now.words) contexts.now (λ nest cs.
         list ≡ step_nodes axes.Itself (node_test test.now) cs (nodes_of table.now.bytes nest))) }
     ensures names { N.knows names.new table.now }
 {
