@@ -78,8 +78,7 @@ impl<'n, 'a, W: Words> AxisIter<'n, 'a, W> {
     }
 
     /// The same, with name tests asked of a resolver of the document, or of another that knows its names. A resolver
-    /// reads each record once, as long as nodes come in document order, and nothing where the document declares no
-    /// namespace.
+    /// reads each record once, as long as nodes come in document order, and nothing where the document declares no namespace.
     pub fn next_by<N: Names<W>>(&mut self, names: &mut N) -> Option<Node>
         requires { N.knows names.old (record { bytes = self.old.bytes; words = self.old.words }) }
         ensures left { ForEachNest self.old.bytes (W.lists self.old.words) (λ nest.
@@ -177,8 +176,8 @@ fn walk_of<W: Words>(table: &Table<'_, W>, node: Node, axis: Axis) -> Rest
 }
 
 /// The nodes on an axis of a node that pass a test, one after another in axis order, each once (XPath 1.0, sections 2.2
-/// to 2.4). The node is one of the document. It reads what is in the node on `following` and `following-sibling`,
-/// back to the tag of the parent on `parent`, and a constant number of records on the other axes.
+/// to 2.4). The node is one of the document. It reads what is in the node on `following` and `following-sibling`, back
+/// to the tag of the parent on `parent`, and a constant number of records on the other axes.
 pub fn axis_iter<'n, 'a, W: Words>(
     nav: &'n Nav<'a, W>,
     node: Node,

@@ -22,8 +22,8 @@ AreNodesOf bytes lists nodes = (k : ℕ) (d : Node) → k < length nodes → IsN
 -- of every nest of a table, and of the entries in it that nodes denote, which are in document order, each once
 abbrev pub ForEachContexts : List ℕ → Lists → List Node → (Forest → List Entry → Type 0) → Type 0
 ForEachContexts bytes lists nodes P =
-    ForEachNest bytes lists
-    (λ nest. (cs : List Entry) → map node_of cs ≡ nodes → AreContexts cs (nodes_of bytes nest) → P nest cs)
+    ForEachNest bytes lists (λ nest. (cs : List Entry) → map node_of cs ≡ nodes →
+    AreContexts cs (nodes_of bytes nest) → P nest cs)
 
 -- no context begins before the end of an earlier one, nor before an index
 abbrev pub ApartFrom : ℕ → List Entry → Type 0

@@ -22,8 +22,8 @@ pub fn append_walk<W: Words, N: Names<W>>(
 ) -> Result<u32, NoMemory>
     requires { N.knows names.old table.now }
     ensures appended { IfOk result (λ stop. ForEachNest table.now.bytes (W.lists table.now.words) (λ nest.
-        held.new.items ≡ held.old.items
-        ++ nodes_left walk (node_test test.now) (records nest (first_place table.now.bytes))
+        held.new.items ≡ held.old.items ++ nodes_left walk (node_test test.now)
+        (records nest (first_place table.now.bytes))
         (nodes_of table.now.bytes nest))) }
     ensures stop { IfOk result (λ stop. ForEachNest table.now.bytes (W.lists table.now.words) (λ nest.
         stop ≡ stop_of walk (records nest (first_place table.now.bytes)))) }
