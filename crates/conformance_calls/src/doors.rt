@@ -1,6 +1,6 @@
 //! Which crate answers a table.
 
-use crate::{expressions, outside};
+use crate::{expressions, outside, values};
 use std::alloc::{AllocError, Global};
 use tables::Answers;
 
@@ -25,6 +25,7 @@ impl Answers for Doors {
             Some(("expressions", name)) => {
                 expressions::answer(alloc, &mut out, name, given, text)?
             }
+            Some(("values", name)) => values::answer(alloc, &mut out, name, text)?,
             _ => out.push_str("no such table")?,
         }
         Ok(out)
