@@ -146,7 +146,13 @@ module _ (nest : Forest) (first : ℕ) (n : is_nest nest ≡ true) where
       (λ k. let h : Holds (records nest first) y (suc (length y.holders)) = element_holds nest first n y d k in
       same_test _ _
       (λ t. elim (cases_lt from y.past) [
-        | inl within ↦ absurd (omega (arith, leb-true low (length y.holders) t, l.is, h.inside l.index (omega (arith, l.after)) (omega (arith, l.within, within))))
+        | inl within ↦ absurd (omega (
+          arith,
+          leb-true low (length y.holders) t,
+          l.is,
+          h.inside l.index (omega (arith, l.after)) (omega
+              (arith, l.within, within)),
+        ))
         | inr over ↦ le-leb y.past from over
       ])
       (λ t. let over = leb-true y.past from t in
@@ -270,7 +276,8 @@ module _ (nest : Forest) (first : ℕ) (n : is_nest nest ≡ true) where
         let above : nodes_above p ≡ level = omega (arith, l, above_held z no_root, eqb-true (nodes_above z) (suc (nodes_above p)) o.1) in
         let h : Holds rs p level = subst (λ m. Holds rs p m) above held.1.holds in
         let upward : on_axis axes.Child p.path z.path ≡ true = axis_of_two nest first n axes.Child p z held.1.there c ∙ and_from _ _ held.1.above child in
-        let reach : back_stop level at rs ≤ suc p.index = stop_low level (suc p.index) at rs (λ k a b. h.inside k (omega (arith, a)) (omega (arith, b, here, u.1))) in
+        let reach : back_stop level at rs ≤ suc p.index = stop_low level (suc p.index) at rs (λ k a b. h.inside k (omega (arith, a)) (omega
+        (arith, b, here, u.1))) in
         reversed axes.PrecedingSibling test z _ (λ y d.
         let known : by_indexes axes.PrecedingSibling z y ≡ (by_indexes axes.Child p y && nat_lt y.index z.index) =
         sym (axis_of_two nest first n axes.PrecedingSibling z y c d) ∙ (siblings_of_child nest first n p z y held.1.there c d upward).preceding in
@@ -337,7 +344,8 @@ module _ (bytes : List ℕ) (lists : Lists) (nest : Forest) (s : IsNestOf bytes 
   other_level level t l h f = none_here (is_sought b test) at (nodes_of bytes nest) (λ e c p q.
       let v = and_parts (wants_back b e) (passes test false e) q in
       let w = and_parts (nat_le e.past b.from) (level_is b.level (length e.holders) && is_child_thing e.what) v.0 in
-      false≢true (sym f ∙ h ∙ ap (level_is b.level) (sym (held_is level l e c p)) ∙ (and_parts (level_is b.level (length e.holders)) (is_child_thing e.what) w.1).0))
+      false≢true (sym f ∙ h ∙ ap (level_is b.level) (sym (held_is level l e c p))
+      ∙ (and_parts (level_is b.level (length e.holders)) (is_child_thing e.what) w.1).0))
 
   pub no_node : None ≡ option_map node_of (at_index at (nodes_of bytes nest)) →
       ◌≡◌ {A = List Node} [] (map node_of (filter (λ y. y.index == at && is_sought b test y) (nodes_of bytes nest)))

@@ -102,7 +102,8 @@ module _ (nest : Forest) (first : ℕ) (n : is_nest nest ≡ true) where
       by true = append_one (filter (λ y. is_under y p && passes test false y) (all nest first)) p
       by false = ap reverse (append-nil (filter (λ y. is_under y p && passes test false y) (all nest first)))
 
-  module _ (x : Entry) (c : Contains (all nest first) x) (test : Test) (at : ℕ) (here : x.index ≡ at) (owner : Node) (q : IsParent (all nest first) x owner) where
+  module _ (x : Entry) (c : Contains (all nest first) x) (test : Test) (at : ℕ) (here : x.index
+      ≡ at) (owner : Node) (q : IsParent (all nest first) x owner) where
     on_owner : (b : Bool) → b ≡ passes test false q.entry →
         nodes_above at test (all nest first)
         ≡ map node_of (cond b (q.entry ∷ above_index owner.at test (all nest first)) (above_index owner.at test (all nest first)))

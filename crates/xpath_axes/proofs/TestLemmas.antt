@@ -78,21 +78,28 @@ module _ (t : Tested) (b : Bool) (e : Entry) (kind : Kind) (k : kind_of e.what �
   pub target_other : (target : Bor (List ℕ)) (r : Bool) → t ≡ tested.Target target → r ≡ is_instruction_kind kind → r ≡ false → false ≡ passes (node_test t) b e
   unfolding passes
   target_other target r h i f =
-      sym (ap (λ x. x && bytes_eq (node_local e.what) (chars target.now)) (ap is_instruction_kind k ∙ sym i ∙ f)) ∙ sym (thing_instruction (λ x. bytes_eq x (chars target.now)) e.what) ∙ at_test (tested.Target target) h
+      sym (ap (λ x. x && bytes_eq (node_local e.what) (chars target.now)) (ap is_instruction_kind k ∙ sym i ∙ f))
+      ∙ sym (thing_instruction (λ x. bytes_eq x (chars target.now)) e.what) ∙ at_test (tested.Target target) h
 
-  pub target_passes : (target : Bor (List ℕ)) (q r : Bool) (bytes text : List ℕ) → t ≡ tested.Target target → q ≡ is_instruction_kind kind → q ≡ true → bytes ≡ encode_utf8_all (node_local e.what) → text ≡ target.now → IsUtf8 text → r ≡ bytes_eq bytes text → r ≡ passes (node_test t) b e
+  pub target_passes : (target : Bor (List ℕ)) (q r : Bool) (bytes text : List ℕ) → t ≡ tested.Target target → q ≡ is_instruction_kind kind → q ≡ true →
+      bytes ≡ encode_utf8_all (node_local e.what) → text ≡ target.now → IsUtf8 text → r ≡ bytes_eq bytes text → r ≡ passes (node_test t) b e
   unfolding passes
   target_passes target q r bytes text h i f n x u m =
       m ∙ ap (λ z. bytes_eq z text) n ∙ text_same (node_local e.what) text u ∙ ap (λ z. bytes_eq (node_local e.what) (chars z)) x
-      ∙ sym (ap (λ z. z && bytes_eq (node_local e.what) (chars target.now)) (ap is_instruction_kind k ∙ sym i ∙ f)) ∙ sym (thing_instruction (λ z. bytes_eq z (chars target.now)) e.what) ∙ at_test (tested.Target target) h
+      ∙ sym (ap (λ z. z && bytes_eq (node_local e.what) (chars target.now)) (ap is_instruction_kind k ∙ sym i ∙ f))
+      ∙ sym (thing_instruction (λ z. bytes_eq z (chars target.now)) e.what) ∙ at_test (tested.Target target) h
 
-  pub name_other : (name : Rattle.xml_model.specs.declared.NameTest.NameTest) (r : Bool) → t ≡ tested.Name name → r ≡ is_principal_kind b kind → r ≡ false → false ≡ passes (node_test t) b e
+  pub name_other : (name : Rattle.xml_model.specs.declared.NameTest.NameTest) (r : Bool) → t ≡ tested.Name name → r ≡ is_principal_kind b kind →
+      r ≡ false → false ≡ passes (node_test t) b e
   unfolding passes
-  name_other name r h i f = sym (ap (λ x. x && name_passes (test_of name) (expanded e)) (thing_principal b e.what ∙ ap (is_principal_kind b) k ∙ sym i ∙ f)) ∙ at_test (tested.Name name) h
+  name_other name r h i f = sym (ap (λ x. x && name_passes (test_of name) (expanded e)) (thing_principal b e.what ∙ ap (is_principal_kind b) k ∙ sym i
+      ∙ f)) ∙ at_test (tested.Name name) h
 
-  pub name_is : (name : Rattle.xml_model.specs.declared.NameTest.NameTest) (q r : Bool) → t ≡ tested.Name name → q ≡ is_principal_kind b kind → q ≡ true → r ≡ name_passes (test_of name) (expanded e) → r ≡ passes (node_test t) b e
+  pub name_is : (name : Rattle.xml_model.specs.declared.NameTest.NameTest) (q r : Bool) → t ≡ tested.Name name → q ≡ is_principal_kind b kind → q ≡ true →
+      r ≡ name_passes (test_of name) (expanded e) → r ≡ passes (node_test t) b e
   unfolding passes
-  name_is name q r h i f m = m ∙ sym (ap (λ x. x && name_passes (test_of name) (expanded e)) (thing_principal b e.what ∙ ap (is_principal_kind b) k ∙ sym i ∙ f)) ∙ at_test (tested.Name name) h
+  name_is name q r h i f m = m ∙ sym (ap (λ x. x && name_passes (test_of name) (expanded e)) (thing_principal b e.what ∙ ap (is_principal_kind b) k
+      ∙ sym i ∙ f)) ∙ at_test (tested.Name name) h
 
 pub principal_named : (b : Bool) (kind : Kind) (q : Bool) → q ≡ is_principal_kind b kind → q ≡ true → HasExpandedName kind
 principal_named b kinds.Root q h k = false≢true (sym h ∙ k)

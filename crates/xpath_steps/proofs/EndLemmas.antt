@@ -94,7 +94,8 @@ turned_back (x ∷ xs) =
     ∙ append_one (map node_of (reverse xs)) (node_of x) ∙ ap (λ ys. node_of x ∷ ys) (turned_back xs)
 
 -- what precedes the last context, turned round
-pub preceding_left : (nest : Forest) (first : ℕ) → is_nest nest ≡ true → (cs : List Entry) → AreContexts cs (all nest first) → (test : Test) (i : ℕ) (a : At cs i) →
+pub preceding_left : (nest : Forest) (first : ℕ) → is_nest nest ≡ true → (cs : List Entry) → AreContexts cs (all nest first) →
+    (test : Test) (i : ℕ) (a : At cs i) →
     i + 1 ≡ length cs →
     reverse (map node_of (passing axes.Preceding test a.entry (all nest first))) ≡ step_nodes axes.Preceding test cs (all nest first)
 preceding_left nest first n cs k test i a h =

@@ -101,7 +101,8 @@ pub each_ended : (axis : Axis) (test : Test) (es cs : List Entry) (i : ℕ) → 
 each_ended axis test es cs i h = ap (each_of axis test es) (drop_all i cs h)
 
 -- what a walk that covers an axis of a node appends
-pub appended : (nest : Forest) (first : ℕ) → is_nest nest ≡ true → (axis : Axis) → is_reverse axis ≡ false → (e : Entry) → Contains (all nest first) e → (w : Walk) →
+pub appended : (nest : Forest) (first : ℕ) → is_nest nest ≡ true → (axis : Axis) → is_reverse axis ≡ false → (e : Entry) → Contains (all nest first) e →
+    (w : Walk) →
     Covers axis w (records nest first) (all nest first) e → (test : Test) (old new : List Node) →
     new ≡ old ++ nodes_left w test (records nest first) (all nest first) → new ≡ old ++ one_of axis test (all nest first) e
 appended nest first n axis r e c w k test old new h =

@@ -46,7 +46,8 @@ fn least_end<W: Words>(table: &Table<'_, W>, contexts: &[Node]) -> u32
 }
 
 /// What follows some of the nodes and passes a test. The nodes are in document order, each once. It reads the records
-/// from the least end of them on. `NoMemory` comes where there is no memory for the list.
+/// of the first node and of those in one another in it, and then those from the least end on. `NoMemory` comes where
+/// there is no memory for the list.
 pub fn following_of_all<W: Words, N: Names<W>>(
     alloc: Global,
     table: &Table<'_, W>,

@@ -1,6 +1,6 @@
 //! Steps from lists of nodes along axes (XPath 1.0, sections 2 and 2.2): the nodes on an axis of some of the context
-//! nodes, in document order, each once. Each step is linear in the records that it reads, whatever the contexts, and
-//! none sorts.
+//! nodes, in document order, each once. No step sorts. Each reads a record at most once, whatever the contexts, but for
+//! the step along `following`, which first reads the contexts that are in one another, each whole.
 #![tactic(auto)]
 
 mod apart;

@@ -9,7 +9,8 @@ use Rattle.xpath_axes.proofs.back.find_before.Given as goal
 abbrev pub invariant-loop-rest : goal.invariant-loop-rest
 invariant-loop-rest g l = record {
   names : g.N.Names.knows l.names l.table;
-  back : ForEachNest l.table.bytes (g.W.Words.lists l.table.words) (λ nest. IsBack (records nest (first_place l.table.bytes)) (nodes_of l.table.bytes nest) l.rest);
+  back : ForEachNest l.table.bytes (g.W.Words.lists l.table.words) (λ nest. IsBack (records nest (first_place l.table.bytes))
+      (nodes_of l.table.bytes nest) l.rest);
   same : ForEachNest l.table.bytes (g.W.Words.lists l.table.words) (λ nest.
       nodes_before l.fn.back (node_test l.test) (records nest (first_place l.table.bytes)) (nodes_of l.table.bytes nest)
       ≡ nodes_before l.rest (node_test l.test) (records nest (first_place l.table.bytes)) (nodes_of l.table.bytes nest));

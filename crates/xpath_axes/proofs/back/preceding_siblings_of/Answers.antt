@@ -16,6 +16,14 @@ returns-clause-axis g c = λ nest s e w test.
 pub returns-clause-back : goal.returns-clause-back
 returns-clause-back g c = λ nest s.
     let e = c.requires.each nest s in
-    back_starts (records nest (first_place c.args.table.now.bytes)) (nodes_of c.args.table.now.bytes nest) e.0 e.1.0 (record { at = c.args.node.at; from = c.args.node.at; low = c.level_at-level.result; floor = c.level_at-level.result; level = Some c.level_at-level.result }) e.1.2 refl
+    back_starts (records nest (first_place c.args.table.now.bytes)) (nodes_of c.args.table.now.bytes nest) e.0 e.1.0
+    (record {
+      at = c.args.node.at;
+      from = c.args.node.at;
+      low = c.level_at-level.result;
+      floor = c.level_at-level.result;
+      level = Some
+          c.level_at-level.result;
+    }) e.1.2 refl
     (c.level_at-level.ensures.level nest s e.0 e.1 ∙ sym (levels_shown nest _ s.accepted.document.nests e.0 e.1.0)
     ∙ ap (λ n. level_of (record_at n (records nest (first_place c.args.table.now.bytes)))) e.1.2)

@@ -40,7 +40,8 @@ pub loop-owner-preserved : goal.loop-owner-preserved
 loop-owner-preserved g c =
     let i = c.loop-owner.invariant in
     let m = i.node in
-    let up = parent_before m.nest _ m.shown.accepted.document.nests m.entry m.holds.0 c.in-Some.owner (c.in-Some.ensures.parent m.nest m.shown m.entry m.holds) in
+    let up = parent_before m.nest _ m.shown.accepted.document.nests m.entry m.holds.0 c.in-Some.owner
+    (c.in-Some.ensures.parent m.nest m.shown m.entry m.holds) in
     record {
       names = c.passes.ensures.names;
       node = c.in-Some.ensures.owner;

@@ -7,7 +7,8 @@ use Rattle.xpath_axes.proofs.starts.attributes_of.Goals as goal
 
 pub returns-in-Element : goal.returns-in-Element
 returns-in-Element g c = λ nest s e w.
-    let h = at_element nest _ s.accepted.document.nests e w.0 (w.1 ∙ c.in-Element.is) c.inside-at.result.1 (omega (arith, c.inside-at.ensures.level nest s e w)) in
+    let h = at_element nest _ s.accepted.document.nests e w.0 (w.1
+    ∙ c.in-Element.is) c.inside-at.result.1 (omega (arith, c.inside-at.ensures.level nest s e w)) in
     attributes nest _ s.accepted.document.nests e w.0 c.inside-at.result.1 c.inside-at.result.0 (w.1 ∙ c.in-Element.is) h
     (omega (arith, c.inside-at.ensures.level nest s e w)) (omega (arith, c.inside-at.ensures.after, w.2))
 

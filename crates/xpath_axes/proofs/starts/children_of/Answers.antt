@@ -13,7 +13,8 @@ returns-in-Root-clause-axis g c = λ nest s e w.
 
 pub returns-in-Element-clause-axis : goal.returns-in-Element-clause-axis
 returns-in-Element-clause-axis g c = λ nest s e w.
-    let h = at_element nest _ s.accepted.document.nests e w.0 (w.1 ∙ c.in-Element.is) c.inside-at.result.1 (omega (arith, c.inside-at.ensures.level nest s e w)) in
+    let h = at_element nest _ s.accepted.document.nests e w.0 (w.1
+    ∙ c.in-Element.is) c.inside-at.result.1 (omega (arith, c.inside-at.ensures.level nest s e w)) in
     children nest _ s.accepted.document.nests e w.0 c.inside-at.result.1 c.inside-at.result.0 h (omega (arith, c.inside-at.ensures.after, w.2))
 
 pub returns-in_default-clause-axis : goal.returns-in_default-clause-axis
@@ -29,7 +30,8 @@ returns-in-Root-clause-stop g c = λ nest s e w k.
 
 pub returns-in-Element-clause-stop : goal.returns-in-Element-clause-stop
 returns-in-Element-clause-stop g c = λ nest s e w k.
-    let h = at_element nest _ s.accepted.document.nests e w.0 (w.1 ∙ c.in-Element.is) c.inside-at.result.1 (omega (arith, c.inside-at.ensures.level nest s e w)) in
+    let h = at_element nest _ s.accepted.document.nests e w.0 (w.1
+    ∙ c.in-Element.is) c.inside-at.result.1 (omega (arith, c.inside-at.ensures.level nest s e w)) in
     stop_holds nest _ s.accepted.document.nests e w.0 c.inside-at.result.1 c.inside-at.result.0 h (omega (arith, c.inside-at.ensures.after, w.2))
 
 pub returns-in_default-clause-stop : goal.returns-in_default-clause-stop

@@ -5,7 +5,8 @@ use Rattle.xml_model.specs.declared.Axis.TheVariants as axes
 use Rattle.xml_model.specs.declared.Node.{Node}
 use Rattle.vtd_words.specs.Table.{node_of, nodes_of}
 use Rattle.xpath_axes.specs.Tests.{node_test}
-use Rattle.xpath_steps.proofs.StepLemmas.{At, at_index, node_at, context_is, all_gathered, gathered_on, below, one_of, skipped, gone_down, none_below, all_below, as_many}
+use Rattle.xpath_steps.proofs.StepLemmas.{At, at_index, node_at, context_is, all_gathered, gathered_on}
+use Rattle.xpath_steps.proofs.StepLemmas.{below, one_of, skipped, gone_down, none_below, all_below, as_many}
 use Rattle.xpath_steps.proofs.apart.descendants_of_all.Goals as goal
 use Rattle.xpath_steps.proofs.apart.descendants_of_all.Goals.{then-low-context+in_ok-low, else-low-context}
 

@@ -18,5 +18,6 @@ loop-node-preserved g c =
       names = c.find_before-found.ensures.names;
       back = c.find_before-found.ensures.back;
       so_far = λ nest s.
-          gathered_on _ _ _ (c.in-Some.node ∷ []) _ _ (c.loop-node.invariant.so_far nest s) ((rw c.in-Some.is at c.find_before-found.ensures.found) nest s) more;
+          gathered_on _ _ _ (c.in-Some.node ∷ []) _ _ (c.loop-node.invariant.so_far nest s)
+          ((rw c.in-Some.is at c.find_before-found.ensures.found) nest s) more;
     }

@@ -14,7 +14,8 @@ use Rattle.xpath_steps.proofs.ends.least_end.Goals as goal
 pub loop-context-init : goal.loop-context-init
 loop-context-init g c = λ nest s cs e k.
     let rs = records nest (first_place c.args.table.now.bytes) in
-    let many : c.len-end.result ≡ length rs = (rw c.words.ensures.value at c.len-end.ensures) ∙ shown_length _ rs (nest_shown _ _ nest c.words.ensures.table.few s) in
+    let many : c.len-end.result ≡ length rs = (rw c.words.ensures.value at c.len-end.ensures)
+    ∙ shown_length _ rs (nest_shown _ _ nest c.words.ensures.table.few s) in
     record {
       within = omega (arith, many);
       so_far = least_first (length rs) cs ∙ ap (λ m. min m (least_past (length rs) cs)) (sym many);
