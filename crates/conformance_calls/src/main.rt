@@ -1,6 +1,6 @@
 //! Expressions, numbers and texts, and sources, sinks and files in memory, with what they are to answer, as tables in
-//! files: inputs and answers are those of the standards, worked out by hand. The program reads each file that its words name, asks every
-//! row, and prints the rows that answer otherwise and how many rows there were.
+//! files: inputs and answers are those of the standards, worked out by hand. The program reads each file that its
+//! words name, asks every row, and prints the rows that answer otherwise and how many rows there were.
 #![tactic(auto)]
 
 mod doors;

@@ -78,7 +78,8 @@ impl<'n, 'a, W: Words> AxisIter<'n, 'a, W> {
     }
 
     /// The same, with name tests asked of a resolver of the document, or of another that knows its names. A resolver
-    /// reads each record once, as long as nodes come in document order, and nothing where the document declares no namespace.
+    /// reads each record once, as long as nodes come in document order, and nothing where the document declares no
+    /// namespace.
     pub fn next_by<N: Names<W>>(&mut self, names: &mut N) -> Option<Node>
         requires { N.knows names.old (record { bytes = self.old.bytes; words = self.old.words }) }
         ensures left { ForEachNest self.old.bytes (W.lists self.old.words) (λ nest.

@@ -25,8 +25,8 @@ pub trait Names<W: Words> {
 }
 
 /// Looks for the declarations of a name's prefix where the name is met, back to the tags of the elements that hold it.
-/// It keeps nothing, and costs nothing where no name is asked for. Where many names follow one another a `Resolver` costs
-/// less.
+/// It keeps nothing, and costs nothing where no name is asked for. Where many names follow one another a `Resolver`
+/// costs less.
 #[derive(Clone, Copy)]
 pub struct LookBack;
 
