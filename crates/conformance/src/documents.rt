@@ -2,10 +2,21 @@
 
 ghost use Rattle.std.specs.Prelude.{◌≡◌, ◌==◌, ◌&&◌, ◌<◌, ◌≤◌, ◌^◌, length, nat_lt, not, take, slice_index, []};
 
+use crate::levels;
 use std::alloc::{AllocError, Global};
 use vtd_builder::{BuildFault, Doc, RecordSink, build, check, emit};
-use vtd_words::{Counts, Part, Parts, WordVec, Words, pack, unpack};
+use vtd_words::{Counts, Part, Parts, WordVec, WordView, Words, pack, unpack};
 use xml_model::{DocFault, Field};
+
+/// All parts of words.
+const PARTS: [Part; 6] = [
+    Part::Records,
+    Part::Level1,
+    Part::Level2,
+    Part::Level3,
+    Part::Level4,
+    Part::Level5,
+];
 
 /// The word of a refusal, and its place.
 fn fault_parts(fault: DocFault) -> (&'static str, u32) {
@@ -88,16 +99,11 @@ fn write_build(alloc: Global, out: &mut String, bytes: &[u8]) -> Result<(), Allo
     out.push_str(" with other bytes")
 }
 
-/// The words of the records of a document, in hexadecimal digits.
-fn write_words(out: &mut String, words: &WordVec) -> Result<(), AllocError> {
-    for at in 0..words.len(Part::Records) {
-        let word = words.word(Part::Records, at);
+/// The words of a part, in hexadecimal digits.
+fn write_words<W: Words>(out: &mut String, words: &W, part: Part) -> Result<(), AllocError> {
+    for at in 0..words.len(part) {
+        let word = words.word(part, at);
         write!(out, "{word:016x};")?;
-    }
-    for part in [Part::Level1, Part::Level2, Part::Level3] {
-        if words.len(part) > 0 {
-            out.push_str("levels")?;
-        }
     }
     Ok(())
 }
@@ -106,7 +112,7 @@ fn write_records(alloc: Global, out: &mut String, bytes: &[u8]) -> Result<(), Al
     requires { length bytes.now < 2 ^ 30 }
 {
     match built(alloc, bytes)? {
-        Ok(doc) => write_words(out, doc.words()),
+        Ok(doc) => write_words(out, doc.words(), Part::Records),
         Err(_) => out.push_str("refused"),
     }
 }
@@ -192,6 +198,43 @@ fn write_packed(out: &mut String, input: &str) -> Result<(), AllocError> {
     }
 }
 
+/// The lengths of six slices of zeros, written as numbers.
+fn lengths_in(input: &str) -> Option<[usize; 6]> {
+    let mut lengths = [0; 6];
+    let mut numbers = input.split(" ");
+    for length in &mut lengths {
+        *length = numbers.next()?.parse::<usize>().ok()?;
+    }
+    Some(lengths)
+}
+
+/// So many bytes, or all of them.
+fn first(bytes: &[u8], length: usize) -> &[u8] {
+    &bytes[..length.min(bytes.len())]
+}
+
+/// Whether six slices of zeros with these lengths, up to 64, are words that can be read, and how many of each.
+fn write_view(out: &mut String, input: &str) -> Result<(), AllocError> {
+    let zeros = [0; 64];
+    let Some(lengths) = lengths_in(input) else {
+        return out.push_str("no lengths");
+    };
+    let Some(view) = WordView::of(
+        first(&zeros, lengths[0]),
+        first(&zeros, lengths[1]),
+        first(&zeros, lengths[2]),
+        first(&zeros, lengths[3]),
+        first(&zeros, lengths[4]),
+        first(&zeros, lengths[5]),
+    ) else {
+        return out.push_str("none");
+    };
+    for part in PARTS {
+        write!(out, "{};", view.len(part))?;
+    }
+    Ok(())
+}
+
 /// Puts a word into each part, and writes how many each then has.
 fn write_word_of_each(alloc: Global, out: &mut String) -> Result<(), AllocError> {
     let mut words = WordVec::new(alloc);
@@ -200,6 +243,8 @@ fn write_word_of_each(alloc: Global, out: &mut String) -> Result<(), AllocError>
         level1: 1,
         level2: 1,
         level3: 1,
+        level4: 1,
+        level5: 1,
     };
     if words.reserve(counts).is_err() {
         return Err(AllocError);
@@ -208,7 +253,9 @@ fn write_word_of_each(alloc: Global, out: &mut String) -> Result<(), AllocError>
     words.push(Part::Level1, 1);
     words.push(Part::Level2, 2);
     words.push(Part::Level3, 3);
-    for part in [Part::Records, Part::Level1, Part::Level2, Part::Level3] {
+    words.push(Part::Level4, 4);
+    words.push(Part::Level5, 5);
+    for part in PARTS {
         write!(out, "{};", words.len(part))?;
     }
     Ok(())
@@ -230,6 +277,7 @@ pub fn answer(
         "prefixes" => return write_prefixes(out, input),
         "built" => return write_build(alloc, out, input),
         "records" => return write_records(alloc, out, input),
+        "levels" => return levels::write_levels(alloc, out, input),
         _ => (),
     }
     let Ok(text) = str::from_utf8(input) else {
@@ -242,6 +290,7 @@ pub fn answer(
         }
         "packed" => write_packed(out, text),
         "parts" => write_word_of_each(alloc, out),
+        "view" => write_view(out, text),
         _ => out.push_str("no such table"),
     }
 }

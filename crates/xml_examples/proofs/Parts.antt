@@ -10,12 +10,12 @@ use Rattle.xml_model.specs.Records.{cut_records, declares, records, word}
 use Rattle.xml_model.specs.Tree.{Step, Entry, kind_of, on_axis, axis_list, all, at_index, at_path}
 use Rattle.xml_model.specs.Content.{text_content, value_content, literal_content, content}
 use Rattle.xml_model.specs.Names.{binding, expanded, passes}
-use Rattle.xml_model.specs.Levels.{level, last_level, record_level, record_last_level, level_word}
+use Rattle.xml_model.specs.Levels.{level, last_level, record_level, level_word, tree_levels, levels, tree_levels_one, levels_one}
 use Rattle.xml_model.specs.Accepted.{first_wide}
 
 -- what a proof by computing opens
 unfoldable pub opened : Bool
-unfolding encode_utf8 in_ranges is_char is_space is_name_start is_name_char is_blank is_white is_name is_ncname is_qname prefix_of local_of size spelling meets first_place begins_at walk walk_to_end flat is_content is_tail is_body is_head is_nest declares cut_records records word on_axis axis_list all at_index at_path text_content value_content literal_content content binding expanded passes level last_level record_level record_last_level level_word first_wide
+unfolding encode_utf8 in_ranges is_char is_space is_name_start is_name_char is_blank is_white is_name is_ncname is_qname prefix_of local_of size spelling meets first_place begins_at walk walk_to_end flat is_content is_tail is_body is_head is_nest declares cut_records records word on_axis axis_list all at_index at_path text_content value_content literal_content content binding expanded passes level last_level record_level level_word tree_levels levels tree_levels_one levels_one first_wide
 opened = true
 
 -- literal characters; a text of them
