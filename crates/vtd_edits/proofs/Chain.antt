@@ -1,13 +1,13 @@
 -- Splices in order of which no two neighbours overlap are a chain, and then no two overlap.
-use Rattle.std.proofs.Common.{◌⊎◌, ◌≡◌, ℕ, zero, suc, ◌+◌, ◌*◌, ◌/◌, ◌%◌, ◌^◌, ◌<◌, ◌≤◌, Bool, true, false, cond, nat_eq, nat_lt, nat_le, not}
-use Rattle.std.proofs.Common.{◌&&◌, ◌||◌, List, [], ◌∷◌, length, map, filter, eqb, Option, Some, None, refl, sym, ap, ap₂, subst, ◌∙◌, arith, inl, inr}
-use Rattle.std.specs.List.{list_any, AllByRecursion}
-use Rattle.std.proofs.lemmas.Bool.{cases_Bool, cases_eq, cases_order, or_cases, or_from, and_parts, and_cases, and_from, and_left, and_right}
+use Rattle.std.proofs.Common.{◌⊎◌, ◌≡◌, ℕ, ◌<◌, ◌≤◌, Bool, true, false, cond, nat_eq, nat_lt, nat_le, not}
+use Rattle.std.proofs.Common.{◌&&◌, ◌||◌, List, [], ◌∷◌, refl, sym, ap, arith, inl, inr}
+use Rattle.std.specs.List.{list_any}
+use Rattle.std.proofs.lemmas.Bool.{cases_eq, or_cases, or_from, and_parts, and_cases, and_from, and_left, and_right}
 use Rattle.std.proofs.lemmas.Bool.{le-ltb, le-leb, both_ways, not-true, not-false, leb-true, ltb-false, eqb-true, eq-eqb, ne_eqb, false≢true}
 use Rattle.vtd_edits.specs.declared.splice.Splice.{Splice}
 use Rattle.vtd_edits.specs.declared.splice.Splice.TheVariants.{Replace, Insert}
-use Rattle.vtd_edits.specs.Splices.{ends_before, overlap, start_of, end_of, splice_at, IsWithin}
-use Rattle.vtd_edits.specs.Order.{IsChain, rank, slot_of, splice_of}
+use Rattle.vtd_edits.specs.Splices.{ends_before, overlap, start_of, end_of, IsWithin}
+use Rattle.vtd_edits.specs.Order.{IsChain, rank, slot_of}
 use Rattle.vtd_edits.proofs.Ordered.{strictly}
 
 -- whether only ranges start where a splice ends, after it

@@ -1,8 +1,7 @@
 -- What edits hold: nothing, with a list more, with the last splices taken off.
-use Rattle.std.proofs.Common.{◌≡◌, ℕ, ◌+◌, ◌-◌, ◌*◌, ◌%◌, ◌^◌, ◌<◌, ◌≤◌, true, false, nat_lt, List, [], ◌∷◌, ◌++◌, length, take, drop, filter}
-use Rattle.std.proofs.Common.{refl, sym, ap, subst, ◌∙◌, arith, inl, inr, length-append, take-append-drop, get_or, replicate}
+use Rattle.std.proofs.Common.{◌≡◌, ℕ, ◌+◌, ◌-◌, ◌%◌, ◌^◌, ◌<◌, ◌≤◌, true, false, nat_lt, List, [], ◌++◌, length, take, drop, filter}
+use Rattle.std.proofs.Common.{refl, sym, ap, subst, ◌∙◌, arith, inl, inr, length-append, take-append-drop, replicate}
 use Rattle.std.specs.List.{All}
-use Rattle.std.specs.List.Sorted.{IsPermutation, IsNonDecreasing}
 use Rattle.std.proofs.lemmas.Bool.{both_ways, cases_lt}
 use Rattle.std.proofs.lemmas.List.{length-replicate, length-take-le, get_or-take}
 use Rattle.std.proofs.lemmas.List.Elements.{All-append, All-nil, All-take, All-weaker}
@@ -12,8 +11,8 @@ use Rattle.vtd_edits.specs.declared.splice.Splice.{Splice}
 use Rattle.vtd_edits.specs.declared.splice.Splice.TheVariants.{Replace, Insert}
 use Rattle.vtd_edits.specs.declared.staging.Plan.{Plan}
 use Rattle.vtd_edits.specs.Splices.{end_of, overlap, splice_at, spliced, start_of, text_limit, text_of, text_size, AreApart, AreEdits, HasFirstOverlap}
-use Rattle.vtd_edits.specs.Splices.{IsWithin, Staged}
-use Rattle.vtd_edits.specs.Order.{apart_to, keys_from, order_of, taken_size, IsFirstPartner, IsHeld}
+use Rattle.vtd_edits.specs.Splices.{IsWithin}
+use Rattle.vtd_edits.specs.Order.{apart_to, order_of, taken_size, IsFirstPartner, IsHeld}
 use Rattle.vtd_edits.specs.Plans.{IsPlan}
 use Rattle.vtd_edits.proofs.Staged.{order_cut}
 use Rattle.vtd_edits.proofs.Overlaps.{all_apart, apart_all, AreApartTo}

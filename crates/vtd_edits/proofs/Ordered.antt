@@ -3,7 +3,7 @@ use Rattle.std.proofs.Common.{◌⊎◌, ◌≡◌, ℕ, zero, suc, ◌+◌, ◌
 use Rattle.std.proofs.Common.{◌++◌, length, take, drop, refl, sym, ap, ap₂, subst, ◌∙◌, arith, append_assoc, length-drop, inl, inr}
 use Rattle.std.specs.List.{flat_map, list_any}
 use Rattle.std.proofs.lemmas.List.{append-nil, drop-drop}
-use Rattle.std.proofs.lemmas.Bool.{cases_eq, cases_order, eqb-true, eq-eqb, ne_eqb, le-ltb, lt-ltb, le-leb, lt-leb, and_left, and_right, and_from, false≢true}
+use Rattle.std.proofs.lemmas.Bool.{cases_eq, cases_order, eq-eqb, ne_eqb, le-ltb, lt-ltb, le-leb, lt-leb, and_left, and_right, and_from, false≢true}
 use Rattle.vtd_edits.specs.declared.splice.Splice.{Splice}
 use Rattle.vtd_edits.specs.declared.splice.Splice.TheVariants.{Replace, Insert}
 use Rattle.vtd_edits.specs.Splices.{inserted, empty_replaced, replaced, covers, texts_at, spliced_from}

@@ -1,20 +1,19 @@
 -- The keys of staged splices: each shows its splice, no two are equal, and some more of them come at the end.
-use Rattle.std.proofs.Common.{◌≡◌, ℕ, zero, suc, ◌+◌, ◌*◌, ◌/◌, ◌%◌, ◌^◌, ◌<◌, ◌≤◌, Bool, true, false, cond, nat_eq, nat_lt, eqb}
-use Rattle.std.proofs.Common.{List, [], ◌∷◌, ◌++◌, length, map, take, drop, filter, get_or, refl, sym, ap, ap₂, subst, ◌∙◌, arith}
+use Rattle.std.proofs.Common.{◌≡◌, ℕ, zero, suc, ◌+◌, ◌/◌, ◌%◌, ◌^◌, ◌<◌, ◌≤◌, Bool, false, cond, nat_lt, eqb}
+use Rattle.std.proofs.Common.{List, [], ◌∷◌, ◌++◌, length, map, take, filter, refl, sym, ap, ap₂, subst, ◌∙◌, arith}
 use Rattle.std.proofs.Common.{append_assoc}
-use Rattle.std.specs.List.{AllByRecursion, All, IsDistinct}
+use Rattle.std.specs.List.{AllByRecursion, IsDistinct}
 use Rattle.std.specs.List.Sorted.{IsPermutation, IsNonDecreasing}
 use Rattle.std.proofs.lemmas.Bool.{lt-ltb, le-ltb, ne_eqb}
 use Rattle.std.proofs.lemmas.Nat.{div-mul-add, mod-mul-add, same_from_place}
-use Rattle.std.proofs.lemmas.List.{length-append, take_more}
+use Rattle.std.proofs.lemmas.List.{length-append}
 use Rattle.std.proofs.Math.Seq.{get_or-append_seam}
 use Rattle.std.proofs.lemmas.List.Sorted.{IsPermutation-append_left, IsPermutation-trans, IsPermutation-map}
-use Rattle.std.proofs.lemmas.Map.Keys.{IsDistinct-cons}
 use Rattle.vtd_edits.specs.declared.splice.Splice.{Splice}
 use Rattle.vtd_edits.specs.declared.splice.Splice.TheVariants.{Insert}
-use Rattle.vtd_edits.specs.Splices.{start_of, splice_at}
+use Rattle.vtd_edits.specs.Splices.{splice_at}
 use Rattle.vtd_edits.specs.Order.{key, keys_from, order_of, rising, slot_of, splice_of, in_order}
-use Rattle.vtd_edits.proofs.Keys.{Rising, filter_of_rising, rising_permutation, rising_rises, sorted_is_rising}
+use Rattle.vtd_edits.proofs.Keys.{filter_of_rising, rising_permutation, sorted_is_rising}
 
 pub key_slot : (x : Splice) (n : ℕ) → n < 2 ^ 32 → key x n / 2 ^ 32 ≡ slot_of x
 key_slot x n h = div-mul-add (slot_of x) (2 ^ 32) n h

@@ -1,10 +1,9 @@
 -- Splices in the order of the bytes (this project's own): what private functions promise.
-use Rattle.std.specs.Prelude.{◌≡◌, ℕ, zero, suc, ◌+◌, ◌-◌, ◌*◌, ◌%◌, ◌^◌, ◌<◌, ◌≤◌, Bool, true, false, cond}
+use Rattle.std.specs.Prelude.{◌≡◌, ℕ, suc, ◌+◌, ◌-◌, ◌*◌, ◌%◌, ◌^◌, ◌<◌, ◌≤◌, Bool, true, false, cond}
 use Rattle.std.specs.Prelude.{nat_eq, nat_lt, not, ◌&&◌, List, [], ◌∷◌, ◌++◌, length, take, drop, map}
 use Rattle.std.specs.Prelude.{filter, Option, Some, None}
-use Rattle.std.specs.List.{flat_map, list_any, sum_by}
-use Rattle.vtd_edits.specs.Splices.{start_of, end_of, text_of, text_size, splice_at, overlap, Staged, AreEdits}
-use Rattle.vtd_edits.specs.Splices.{inserted, empty_replaced, replaced, covers}
+use Rattle.std.specs.List.{sum_by}
+use Rattle.vtd_edits.specs.Splices.{start_of, end_of, text_of, text_size, splice_at, overlap, AreEdits}
 use Rattle.vtd_edits.specs.declared.splice.Splice.{Splice}
 use Rattle.vtd_edits.specs.declared.splice.Splice.TheVariants.{Replace, Insert}
 

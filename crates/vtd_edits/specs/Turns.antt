@@ -1,7 +1,7 @@
 -- The pieces of the new bytes (this project's own): what private functions promise.
-use Rattle.std.specs.Prelude.{◌≡◌, ℕ, ◌-◌, Bool, List, ◌++◌, length, take, drop}
+use Rattle.std.specs.Prelude.{◌≡◌, ℕ, Bool, List, ◌++◌, length, drop}
 use Rattle.vtd_edits.specs.declared.splice.Splice.{Splice}
-use Rattle.vtd_edits.specs.Splices.{start_of, end_of, text_of, spliced}
+use Rattle.vtd_edits.specs.Splices.{spliced}
 use Rattle.vtd_edits.specs.Order.{in_order, spliced_by, IsChain}
 
 -- splices that are a chain after a place

@@ -1,6 +1,6 @@
 -- How text is written so that a document says it (XML 1.0, sections 2.4, 2.11 and 3.3.3): what a byte of it becomes.
 -- All that is escaped is ASCII, which is a byte each in UTF-8.
-use Rattle.std.specs.Prelude.{ℕ, Bool, cond, ◌==◌, ◌&&◌, ◌||◌, List, [], ◌∷◌, codes}
+use Rattle.std.specs.Prelude.{ℕ, cond, ◌==◌, ◌&&◌, List, [], ◌∷◌, codes}
 use Rattle.std.specs.List.{flat_map}
 use Rattle.vtd_modifier.specs.declared.escaping.Escape.{Escape}
 use Rattle.vtd_modifier.specs.declared.escaping.Escape.TheVariants.{Text, Value}

@@ -1,4 +1,4 @@
-use Rattle.std.proofs.Common.{ℕ, List, ◌++◌, sym, ap, ap₂, ◌∙◌, subst, arith, drop}
+use Rattle.std.proofs.Common.{ℕ, List, ◌++◌, ap, ◌∙◌, subst, arith}
 use Rattle.vtd_edits.specs.Turns.{IsDone}
 use Rattle.vtd_edits.proofs.Turning.{all_done, begin_done, done_within, next_done, turn_room}
 use Rattle.vtd_edits.proofs.splicing.spliced.Goals as goal

@@ -1,4 +1,3 @@
-use Rattle.std.proofs.Common.{length}
 use Rattle.vtd_edits.specs.Turns.{IsDone}
 use Rattle.vtd_edits.proofs.splicing.spliced.Given as goal
 

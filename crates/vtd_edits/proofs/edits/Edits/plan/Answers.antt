@@ -1,8 +1,8 @@
-use Rattle.std.proofs.Common.{◌≡◌, ℕ, ◌+◌, ◌++◌, List, length, refl, sym, ap, subst, ◌∙◌, arith, length-append}
+use Rattle.std.proofs.Common.{◌≡◌, ℕ, ◌+◌, ◌++◌, List, refl, sym, ap, subst, ◌∙◌, arith}
 use Rattle.std.specs.List.{All}
 use Rattle.std.proofs.lemmas.List.Elements.{All-append}
 use Rattle.vtd_edits.specs.declared.splice.Splice.{Splice}
-use Rattle.vtd_edits.specs.Splices.{AreApart, IsWithin, Refuses, Staged}
+use Rattle.vtd_edits.specs.Splices.{IsWithin, Refuses, Staged}
 use Rattle.vtd_edits.specs.declared.splice.StageFault.TheVariants.{TextLong}
 use Rattle.vtd_edits.specs.declared.staging.Plan.{Plan}
 use Rattle.vtd_edits.specs.Order.{order_of}
