@@ -55,9 +55,9 @@ impl<'n, 'a, W: Words> Model for AxisIter<'n, 'a, W> {
 
 impl<'n, 'a, W: Words> AxisIter<'n, 'a, W> {
     /// The next node in axis order; `None` exactly at the end. It reads the records from one node to the next; along
-    /// the parent, ancestor and ancestor-or-self axes those back to the first record of the node that it answers. A
-    /// name test with a URI reads back to the tags above each node of that local name; where many are met `next_by`
-    /// reads less.
+    /// the ancestor axes those back to the first record of the node that it answers. A name test with a URI, the empty
+    /// one too, reads back to the tags above each node of that local name, and where nothing is declared over all
+    /// records before it; where many are met `next_by` reads less.
     pub fn next(&mut self) -> Option<Node>
         ensures left { ForEachNest self.old.bytes (W.lists self.old.words) (λ nest.
             to_come self.old nest ≡ option_to_list result ++ to_come self.new nest) }
@@ -79,7 +79,7 @@ impl<'n, 'a, W: Words> AxisIter<'n, 'a, W> {
 
     /// The same, with name tests asked of a resolver of the document, or of another that knows its names. A resolver
     /// reads each record once, as long as nodes come in document order, and nothing where the document declares no
-    /// namespace.
+    /// namespace. Asked against document order it begins anew at each name.
     pub fn next_by<N: Names<W>>(&mut self, names: &mut N) -> Option<Node>
         requires { N.knows names.old (record { bytes = self.old.bytes; words = self.old.words }) }
         ensures left { ForEachNest self.old.bytes (W.lists self.old.words) (λ nest.
@@ -126,19 +126,22 @@ fn before_walk<W: Words>(table: &Table<'_, W>, node: Node, axis: Axis) -> Option
 }
 
 /// A node, if there is one and it passes a test.
-fn if_passes<W: Words>(
+fn if_passes<W: Words, N: Names<W>>(
     table: &Table<'_, W>,
+    names: &mut N,
     node: Option<Node>,
     test: &NodeTest<'_>,
 ) -> Option<Node>
-    requires { IfSome node (IsNodeOf table.now.bytes (W.lists table.now.words)) }
+    requires names { N.knows names.old table.now }
+    requires node { IfSome node (IsNodeOf table.now.bytes (W.lists table.now.words)) }
     ensures passed { ForEachNest table.now.bytes (W.lists table.now.words) (λ nest.
         (xs : List Entry) → AreNodes node xs (nodes_of table.now.bytes nest) →
         option_to_list result ≡ map node_of (filter (passes_test (node_test test.now) false) xs)) }
     ensures node { IfSome result (IsNodeOf table.now.bytes (W.lists table.now.words)) }
+    ensures names { N.knows names.new table.now }
 {
     let found = node?;
-    if passes(table, &mut LookBack, found, false, test) {
+    if passes(table, names, found, false, test) {
         Some(found)
     } else {
         None
@@ -178,7 +181,8 @@ fn walk_of<W: Words>(table: &Table<'_, W>, node: Node, axis: Axis) -> Rest
 
 /// The nodes on an axis of a node that pass a test, one after another in axis order, each once (XPath 1.0, sections 2.2
 /// to 2.4). The node is one of the document. It reads what is in the node on `following` and `following-sibling`, back
-/// to the tag of the parent on `parent`, and a constant number of records on the other axes.
+/// to the tag of the parent on `parent`, and a constant number of records on the other axes; on `self`, `parent` and
+/// the axes `..-or-self` a name test looks back as in `AxisIter::next`.
 pub fn axis_iter<'n, 'a, W: Words>(
     nav: &'n Nav<'a, W>,
     node: Node,
@@ -192,10 +196,31 @@ pub fn axis_iter<'n, 'a, W: Words>(
     ensures words { result.words ≡ nav.entry.now.words }
     ensures test { result.test ≡ test.now }
 {
+    axis_iter_by(nav, &mut LookBack, node, axis, test)
+}
+
+/// The same, with the name test of the node itself, or of its parent, asked of a resolver of the document, or of
+/// another that knows its names. `AxisIter::next_by` asks it of the nodes after.
+pub fn axis_iter_by<'n, 'a, W: Words, N: Names<W>>(
+    nav: &'n Nav<'a, W>,
+    names: &mut N,
+    node: Node,
+    axis: Axis,
+    test: &NodeTest<'n>,
+) -> AxisIter<'n, 'a, W>
+    requires names { N.knows names.old (record { bytes = nav.now.bytes; words = nav.now.words }) }
+    requires node { IsNodeOf nav.now.bytes (W.lists nav.now.words) node }
+    ensures axis { ForEachEntry nav.now.bytes (W.lists nav.now.words) node (λ nest e.
+        to_come result nest ≡ nodes_on axis (node_test test.now) e (nodes_of nav.now.bytes nest)) }
+    ensures bytes { result.bytes ≡ nav.entry.now.bytes }
+    ensures words { result.words ≡ nav.entry.now.words }
+    ensures test { result.test ≡ test.now }
+    ensures names { N.knows names.new (record { bytes = nav.now.bytes; words = nav.now.words }) }
+{
     let table = nav.table();
     AxisIter {
         nav,
-        first: if_passes(table, before_walk(table, node, axis), test),
+        first: if_passes(table, names, before_walk(table, node, axis), test),
         rest: walk_of(table, node, axis),
         test: *test,
     }

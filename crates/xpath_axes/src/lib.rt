@@ -12,7 +12,7 @@ pub mod rest;
 pub mod starts;
 pub mod walk;
 
-pub use iter::{AxisIter, axis_iter};
+pub use iter::{AxisIter, axis_iter, axis_iter_by};
 pub use lists::{axis, order};
 pub use names::{LookBack, Names};
 pub use node_tests::passes;

@@ -4,11 +4,11 @@ use Rattle.vtd_words.proofs.Same.{node_holds}
 use Rattle.xpath_axes.specs.Iters.{comes_first}
 use Rattle.xpath_axes.specs.Tests.{node_test}
 use Rattle.xpath_axes.proofs.FirstLemmas.{first_then_rest}
-use Rattle.xpath_axes.proofs.iter.axis_iter.Goals as goal
+use Rattle.xpath_axes.proofs.iter.axis_iter_by.Goals as goal
 
 pub walk_of-requires-clause-each : goal.walk_of-requires-clause-each
 walk_of-requires-clause-each g c = rw c.table-table.ensures.value
-    (λ nest s. node_holds _ _ c.table-table.ensures.nav.few c.args.node c.requires nest s)
+    (λ nest s. node_holds _ _ c.table-table.ensures.nav.few c.args.node c.requires.node nest s)
 
 pub returns-clause-axis : goal.returns-clause-axis
 returns-clause-axis g c = λ nest s e w.
