@@ -61,12 +61,15 @@ fn compare_seen<W: Words>(
 }
 
 /// Two values compared (XPath 1.0, section 3.4): true where some member of the left compares so with some of the right,
-/// a node-set having its nodes as members and another value itself. Members are strings or numbers; beside a boolean
-/// all is one boolean. Where they are numbers, all members of the left are converted and then all of the right, in
-/// document order, before any are compared, and the first fault is the answer, also where the other side has no member.
+/// a node-set having its nodes as members and another value itself. Members are strings or numbers; beside a boolean a
+/// node-set is one boolean, and by `=` and `!=` every value is. Where they are numbers, all members of the left are
+/// converted and then all of the right, in document order, before any are compared, and the first fault is the answer,
+/// also where the other side has no member.
 ///
-/// It passes once over the string-values of each side. Two node-sets with `=` take memory for an index of the right one
-/// by hashes, and a look-up for each node of the left; nothing else takes memory.
+/// It passes once over the string-values of each side, and by `!=` of two node-sets reads the first one again beside
+/// each other. Two node-sets with `=` take memory for an index of the right one by hashes, and a look-up for each node
+/// of the left; a text of the same hash is read again, and where it is another text all pairs are read. Nothing else
+/// takes memory.
 ///
 /// # Errors
 /// `Fraction` where a digit after the sixth place is not 0; else `Range` where a number is out of range; `NoMemory`
