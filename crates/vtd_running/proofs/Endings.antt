@@ -16,7 +16,6 @@ use Rattle.vtd_script.specs.States.{Work, State, state_of}
 use Rattle.vtd_script.specs.Faults.{fault_line}
 use Rattle.vtd_script.specs.Runs.{EndsKnown}
 use Rattle.vtd_script.specs.declared.endings.End.{End}
-use Rattle.vtd_script.specs.declared.endings.End.TheVariants as ends
 use Rattle.vtd_script.proofs.Parts.{prefix_of}
 use Rattle.vtd_running.specs.Form.{Form, document, no_form}
 use Rattle.vtd_running.specs.Statuses.{status_of}

@@ -42,7 +42,7 @@ fn run_document<F: Files, S: Source, K: Sink>(
     ensures no_usage { EndsScript result }
 {
     match read_document(alloc, files, name) {
-        Ok(mut session) => run_script(alloc, &mut session, keep, files, script, out),
+        Ok(session) => run_script(alloc, session, keep, files, script, out),
         Err(NoDocument::Failed) => Status::FileFault,
         Err(NoDocument::NoMemory) => Status::NoMemory,
         Err(NoDocument::Long) => refuse(out, b"refused file-long\n"),
@@ -64,6 +64,8 @@ fn run_document<F: Files, S: Source, K: Sink>(
 /// How a run may end, `Runs` of `specs/Meaning.antt` says, and what is meant, `Means`. Where the objects say their
 /// bytes, `Done`, `Refused` and `Usage` come only with exactly what is meant. At every other status one k tells the
 /// output and the files: those of the first k lines of the script, and what the table of endings adds for the next one.
+/// But where the usage line, or the line of a refused document or script, is cut off, a prefix of it alone was sent,
+/// and the files are those at the call.
 ///
 /// # Errors
 /// `ReadFault` only where the count of faults of `script` rose in this call: nothing was printed, and no file changed.

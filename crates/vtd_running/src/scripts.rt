@@ -20,7 +20,7 @@ const SCRIPT_LIMIT: u32 = 16_777_216;
 /// Reads the script to its end, and carries out its lines in turn.
 pub fn run_script<F: Files, S: Source, K: Sink>(
     alloc: Global,
-    session: &mut Session,
+    session: Session,
     keep: bool,
     files: &mut F,
     script: &mut S,
@@ -31,7 +31,7 @@ pub fn run_script<F: Files, S: Source, K: Sink>(
         → S.left script.old ≡ Some left → K.taken out.old ≡ Some sent
         → Left (RunsScript (Rose (S.faults script.old) (S.faults script.new))
         (Rose (F.proper files.old) (F.proper files.new)) (Rose (K.faults out.old) (K.faults out.new)) keep
-        (state_of session.old map) left) (F.contents files.new) (S.left script.new) sent (K.taken out.new) result }
+        (state_of session map) left) (F.contents files.new) (S.left script.new) sent (K.taken out.new) result }
     ensures reads { ReadCounts result (S.faults script.old) (S.faults script.new) }
     ensures sends { WriteCounts result (K.faults out.old) (K.faults out.new) }
     ensures counts { RunFiles result

@@ -10,7 +10,8 @@ use vtd_script::End;
 pub enum Status {
     /// Every command was carried out.
     Done,
-    /// The document, the script or a command was refused, and one line said so.
+    /// The document, the script or a command was refused, and one line said so; with `-k` one line for each such
+    /// command.
     Refused,
     /// The words are not of the form, and the usage line was sent.
     Usage,

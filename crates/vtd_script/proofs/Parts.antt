@@ -9,7 +9,7 @@ use Rattle.vtd_script.specs.States.{Work, State, state_of, Answer, skipped, prin
 use Rattle.vtd_script.specs.Steps.{Binds, Answers, Step, ok_line, with_binding}
 use Rattle.vtd_script.specs.Commands.{read}
 use Rattle.vtd_script.specs.Runs.{IsPrefix, StepsKnown}
-use Rattle.vtd_script.specs.Changes.{Asks, Prepares, CompletesKnown, RefusesKnown}
+use Rattle.vtd_script.specs.Changes.{Asks, Prepares, CompletesKnown, RefusesKnown, StaysUnlessDone}
 use Rattle.vtd_script.specs.declared.commands.Command.{Command}
 use Rattle.xpath_grammar.specs.declared.bindings.BindFault.{BindFault}
 use Rattle.xpath_grammar.specs.declared.bindings.BindFault.TheVariants.{Name}
@@ -225,3 +225,18 @@ refuses_name false prefix uri s e = refl
 
 pub no_fault : (r : Result (Unit {0}) BindFault) (x : Unit {0}) (can : Bool) → r ≡ Ok x → (r ≡ Err Name) ↔ (can ≡ false) → can ≡ false → ⊥
 no_fault r x can e h f = let n = h.1 f in absurd cc
+
+-- a session that is as before
+pub stays : (result : Result Ending StepFault) (work now : Work) → now ≡ work → StaysUnlessDone result work now
+stays (Ok endings.Skipped) work now e = e
+stays (Ok endings.Done) work now e = tt
+stays (Ok (endings.Refused refusal)) work now e = e
+stays (Err faults.File) work now e = e
+stays (Err faults.Write) work now e = tt
+stays (Err faults.NoMemory) work now e = e
+
+pub stays_cut_off : (fault : StepFault) (work now : Work) → fault ≡ faults.Write → StaysUnlessDone (Err fault) work now
+stays_cut_off fault work now e = let P : StepFault → Type 0 = λ x. StaysUnlessDone (Err x) work now in subst P (sym e) tt
+
+pub same_work : (work now : Work) → ((files : NameMap) → state_of now files ≡ state_of work files) → now ≡ work
+same_work work now e = ap (λ (s : State). s.work) (e (λ name. None))

@@ -1,7 +1,7 @@
 -- The two parts of a command, and the counts of faults at the end of a line (this project's own).
 use Rattle.std.specs.Prelude.{◌⊎◌, ◌≡◌, ℕ, Bool, true, false, List, [], ◌++◌, Option, Some, None, Result, Ok, Err}
 use Rattle.vtd_outside.specs.Causes.{Rose, RoseAlone}
-use Rattle.vtd_script.specs.States.{State, printed, refused, refused_line}
+use Rattle.vtd_script.specs.States.{Work, State, printed, refused, refused_line}
 use Rattle.vtd_script.specs.Steps.{Does}
 use Rattle.vtd_script.specs.Runs.{IsPrefix}
 use Rattle.vtd_script.specs.declared.commands.Command.{Command}
@@ -66,6 +66,15 @@ abbrev pub FileCounts : Bool → ℕ → ℕ → ℕ → ℕ → Type 0
 FileCounts false missed_before missed proper_before proper = (missed ≡ missed_before) × (proper ≡ proper_before)
 FileCounts true missed_before missed proper_before proper =
     RoseAlone true missed_before missed proper_before proper ⊎ RoseAlone false missed_before missed proper_before proper
+
+-- The session is as before, but after a command that was carried out or whose lines were cut off.
+abbrev pub StaysUnlessDone : Result Ending StepFault → Work → Work → Type 0
+StaysUnlessDone (Ok endings.Skipped) before now = now ≡ before
+StaysUnlessDone (Ok endings.Done) before now = Unit {0}
+StaysUnlessDone (Ok (endings.Refused refusal)) before now = now ≡ before
+StaysUnlessDone (Err faults.File) before now = now ≡ before
+StaysUnlessDone (Err faults.Write) before now = Unit {0}
+StaysUnlessDone (Err faults.NoMemory) before now = now ≡ before
 
 -- the count of what was sent to, by the answer
 abbrev pub SendCounts : {T : Type 0} → Result T StepFault → ℕ → ℕ → Type 0

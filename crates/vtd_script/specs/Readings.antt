@@ -1,5 +1,5 @@
 -- What the reading of a line answers, by what the line asks for (this project's own). Want of memory may come in place
--- of any other answer that takes memory.
+-- of any other answer.
 use Rattle.std.specs.Prelude.{◌≡◌, ℕ, List, [], Option, Some, None, Result, Ok, Err}
 use Rattle.vtd_script.specs.Fields.{fields}
 use Rattle.vtd_script.specs.declared.commands.Command.{Command}

@@ -54,7 +54,7 @@ fn carry_line<F: Files, K: Sink>(
 /// faults rises only at `FileFault` and `WriteFault`. `NoMemory` may come at any line; that line then has printed
 /// nothing and changed nothing.
 pub fn carry_out<F: Files, K: Sink>(
-    session: &mut Session,
+    mut session: Session,
     keep: bool,
     script: &[u8],
     files: &mut F,
@@ -64,7 +64,7 @@ pub fn carry_out<F: Files, K: Sink>(
     requires writing { F.is_writing files.old ≡ false }
     ensures known { (map : NameMap) (sent : List ℕ) → F.contents files.old ≡ Some map → K.taken out.old ≡ Some sent
         → EndsKnown (Rose (F.proper files.old) (F.proper files.new)) (Rose (K.faults out.old) (K.faults out.new)) keep
-        (state_of session.old map) (lines script.now) result (F.contents files.new) sent (K.taken out.new) }
+        (state_of session map) (lines script.now) result (F.contents files.new) sent (K.taken out.new) }
     ensures writing_stays { F.is_writing files.new ≡ false }
     ensures file_fault { EndFiles result
         (F.missed files.old) (F.missed files.new) (F.proper files.old) (F.proper files.new) }
@@ -74,7 +74,7 @@ pub fn carry_out<F: Files, K: Sink>(
     let mut refused = false;
     while let Some(line) = next_line(script, at) {
         let text = &script[line.start as usize..line.end as usize];
-        match carry_line(session, keep, text, files, out, refused) {
+        match carry_line(&mut session, keep, text, files, out, refused) {
             Ok(now) => refused = now,
             Err(end) => return end,
         }

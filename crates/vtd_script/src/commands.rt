@@ -120,8 +120,8 @@ fn read_fields(alloc: Global, line: &str) -> Result<Command, LineFault>
 ///
 /// # Errors
 /// The first that applies: `Long` for more than 65,536 bytes; `Utf8`; `Command` where no command has this word with so
-/// many fields; `Escape` where a backslash in a field begins no escape. `NoMemory` may come in place of a command or of
-/// the last two.
+/// many fields; `Escape` where a backslash in a field begins no escape. `NoMemory` may come in place of any other
+/// answer.
 pub fn read_line(alloc: Global, line: &[u8]) -> Result<Option<Command>, LineFault>
     ensures { Reads result (read line.now) }
 {

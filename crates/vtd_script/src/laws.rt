@@ -3,7 +3,7 @@
 ghost use Rattle.std.specs.Prelude.{◌⊎◌, ◌≡◌, ℕ, List, Bool};
 ghost use Rattle.vtd_outside.specs.Causes.{Rose};
 ghost use Rattle.vtd_outside.specs.Known.{NameMap};
-ghost use Rattle.vtd_script.specs.States.{State, Answer};
+ghost use Rattle.vtd_script.specs.States.{State, Answer, state_after};
 ghost use Rattle.vtd_script.specs.Steps.{Step, HasDocument};
 ghost use Rattle.vtd_script.specs.Runs.{Outcome, Means, Ends};
 ghost use Rattle.vtd_script.specs.declared.endings.End.{End};
@@ -17,7 +17,8 @@ pub fn one_answer()
 
 /// A line has some answer in each state that has a document, and leaves such a state.
 pub fn some_step()
-    ensures { (s : State) (line : List ℕ) → HasDocument s → (a : Answer) × Step s line a }
+    ensures { (s : State) (line : List ℕ) → HasDocument s →
+        (a : Answer) × Step s line a × HasDocument (state_after s a) }
 {}
 
 /// Lines mean at most one outcome from a state.

@@ -85,7 +85,7 @@ pub fn element_lines(alloc: Global, doc: &Doc) -> Result<Vec<u8>, NoMemory>
     span_lines(alloc, &spans)
 }
 
-/// The lines of all elements, and the nest that they are of.
+/// The same lines, as those of the nest that the document is accepted with.
 ///
 /// # Errors
 /// `NoMemory` where the memory for the lines was not to be had.

@@ -10,7 +10,7 @@ ghost use Rattle.vtd_script.specs.Commands.{read};
 ghost use Rattle.vtd_script.specs.States.{state_of};
 ghost use Rattle.vtd_script.specs.Runs.{StepsKnown};
 ghost use Rattle.vtd_script.specs.Changes.{Asks, Prepares, CompletesKnown, RefusesKnown, fails_at_file};
-ghost use Rattle.vtd_script.specs.Changes.{FileCounts, SendCounts};
+ghost use Rattle.vtd_script.specs.Changes.{FileCounts, SendCounts, StaysUnlessDone};
 ghost use Rattle.vtd_script.specs.declared.commands.Command.TheVariants.{Elements, Ns};
 
 use crate::commands::{Command, LineFault, read_line};
@@ -72,6 +72,7 @@ fn complete<K: Sink>(lines: &Bytes, out: &mut K) -> Result<(), StepFault>
         → CompletesKnown (Rose (K.faults out.old) (K.faults out.new)) lines.now result sent (K.taken out.new) }
     ensures sends { SendCounts result (K.faults out.old) (K.faults out.new) }
     ensures no_file { fails_at_file result ≡ false }
+    ensures cut_off { IfErr result (λ fault. fault ≡ StepFault.Write) }
 {
     match send(out, lines.held.as_slice()) {
         Ok(()) => Ok(()),
@@ -160,8 +161,9 @@ impl Session {
     /// Carries out one line of a script, without its line end. No file may be being written at the call, and none is
     /// after it.
     ///
-    /// After an `Ending` all lines of the command were sent, and session and files are those after it. A refused line
-    /// changes nothing. What a line means, `Step` of `specs/Steps.antt` says.
+    /// Where files and output say their bytes, after an `Ending` all lines of the command were sent, and session and
+    /// files are those after it. A line that is skipped or refused leaves the session as it was, whether they say their
+    /// bytes or not. What a line means, `Step` of `specs/Steps.antt` says.
     ///
     /// # Errors
     /// `File` where a file that the line names is not there, or could not be read or written; the session is then as
@@ -177,6 +179,7 @@ impl Session {
         ensures known { (map : NameMap) (sent : List ℕ) → F.contents files.old ≡ Some map → K.taken out.old ≡ Some sent
             → StepsKnown (Rose (F.proper files.old) (F.proper files.new)) (Rose (K.faults out.old) (K.faults out.new))
             (state_of self.old map) line.now result self.new (F.contents files.new) sent (K.taken out.new) }
+        ensures session_stays { StaysUnlessDone result self.old self.new }
         ensures writing_stays { F.is_writing files.new ≡ false }
         ensures counts { FileCounts (fails_at_file result)
             (F.missed files.old) (F.missed files.new) (F.proper files.old) (F.proper files.new) }

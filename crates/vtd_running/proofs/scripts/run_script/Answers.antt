@@ -16,7 +16,7 @@ returns-in-Err-Long-clause-known g c = λ map left sent files from to.
     script_too_long _ _ _ c.args.keep _ left _ _ _ sent _ c.in-Err-Long.field-0 c.refuse.result from c.in-Err-Long.ensures.prefix
     c.in-Err-Long.field-0-is files (c.refuse.ensures.known sent to)
 
-pub returns-in-Err-NoMemory-clause-known : goal.returns-in-Err-NoMemory-clause-known
-returns-in-Err-NoMemory-clause-known g c = λ map left sent files from to.
+pub returns-clause-known : goal.returns-clause-known
+returns-clause-known g c = λ map left sent files from to.
     script_no_memory _ _ _ c.args.keep _ left _ _ _ sent _ c.in-Err-NoMemory.field-0 from c.in-Err-NoMemory.ensures.prefix
     c.in-Err-NoMemory.field-0-is files to

@@ -1,5 +1,6 @@
+use Rattle.std.proofs.Common.{refl}
 use Rattle.vtd_script.proofs.Parts.{step_skipped, step_unread, step_refused, step_done, step_undone, step_no_memory, read_none, read_some, read_refused}
-use Rattle.vtd_script.proofs.Parts.{prepares_stop}
+use Rattle.vtd_script.proofs.Parts.{prepares_stop, stays, stays_cut_off, same_work}
 use Rattle.vtd_script.specs.declared.session.Stop.TheVariants as stop
 use Rattle.vtd_script.proofs.session.Session.step.Goals as goal
 
@@ -37,3 +38,18 @@ returns-clause-known g c = λ map sent files to.
     step_no_memory _ _ c.args.line.now _ _ map sent _ _
     (prepares_stop c.in-Ok-Some.command _ _ c.in-Err-NoMemory-prepare.field-0 stop.NoMemory c.in-Err-NoMemory-prepare.field-0-is (c.in-Err-NoMemory-prepare.ensures map))
     files to
+
+pub returns-in-Err-Refused-clause-session_stays : goal.returns-in-Err-Refused-clause-session_stays
+returns-in-Err-Refused-clause-session_stays g c = stays c.refuse.result _ _ refl
+
+pub returns-in-Ok-clause-session_stays : goal.returns-in-Ok-clause-session_stays
+returns-in-Ok-clause-session_stays g c = stays_cut_off c.in-Err.fault _ _ c.in-Err.ensures.cut_off
+
+pub returns-in-Err-Refused-prepare-clause-session_stays : goal.returns-in-Err-Refused-prepare-clause-session_stays
+returns-in-Err-Refused-prepare-clause-session_stays g c = stays c.refuse-in-Err-Refused-prepare.result _ _
+    (same_work _ _ (λ map. (prepares_stop _ _ _ _ _ c.in-Err-Refused-prepare.field-0-is (c.in-Err-Refused-prepare.ensures map)).0))
+
+pub returns-clause-session_stays : goal.returns-clause-session_stays
+returns-clause-session_stays g c = same_work _ _ (λ map.
+    prepares_stop c.in-Ok-Some.command _ _ c.in-Err-NoMemory-prepare.field-0 stop.NoMemory c.in-Err-NoMemory-prepare.field-0-is
+    (c.in-Err-NoMemory-prepare.ensures map))
