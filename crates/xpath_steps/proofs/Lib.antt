@@ -1,2 +1,4 @@
 pub mod StepLemmas
 pub mod EndLemmas
+pub mod AboveLemmas
+pub mod MergeLemmas

@@ -26,7 +26,7 @@ use Rattle.xpath_axes.specs.declared.walk.Walk.{Walk}
 use Rattle.xpath_axes.specs.Tests.{is_attribute_axis}
 use Rattle.xpath_axes.specs.Walks.{nodes_left, Covers}
 use Rattle.xpath_axes.proofs.ClimbLemmas.{filter_append}
-use Rattle.xpath_steps.specs.Steps.{step_nodes, ApartFrom}
+use Rattle.xpath_steps.specs.Steps.{step_nodes, AreAmong, ApartFrom}
 
 -- A context of a list.
 
@@ -60,12 +60,17 @@ as_many cs nodes h = sym (ap length h) ∙ map_length cs
 pub node_at : (cs : List Entry) (nodes : List Node) → map node_of cs ≡ nodes → (i : ℕ) (a : At cs i) (d : Node) → slice_index_or nodes i d ≡ node_of a.entry
 node_at cs nodes h i a d = ap (λ ns. slice_index_or ns i d) (sym h) ∙ a.node d
 
+-- an entry of a list is that of its node
+pub entry_is : (es cs : List Entry) → AreAmong cs es → (nodes : List Node) → map node_of cs ≡ nodes → (i : ℕ) (a : At cs i) (d : Node) →
+    Identifies (slice_index_or nodes i d).kind (slice_index_or nodes i d).at a.entry es
+entry_is es cs k nodes h i a d =
+    let here = node_at cs nodes h i a d in
+    (k a.entry a.there, sym (ap (λ n. n.kind) here), sym (ap (λ n. n.at) here))
+
 -- a context is the entry of its node
 pub context_is : (es cs : List Entry) → AreContexts cs es → (nodes : List Node) → map node_of cs ≡ nodes → (i : ℕ) (a : At cs i) (d : Node) →
     Identifies (slice_index_or nodes i d).kind (slice_index_or nodes i d).at a.entry es
-context_is es cs k nodes h i a d =
-    let here = node_at cs nodes h i a d in
-    (k.among a.entry a.there, sym (ap (λ n. n.kind) here), sym (ap (λ n. n.at) here))
+context_is es cs k nodes h i a d = entry_is es cs k.among nodes h i a d
 
 -- What was gathered, and what is left.
 

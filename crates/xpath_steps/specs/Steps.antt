@@ -1,5 +1,5 @@
 -- Steps from lists of nodes (XPath 1.0, sections 2 and 2.2).
-use Rattle.std.specs.Prelude.{◌≡◌, ℕ, ◌<◌, ◌≤◌, List, [], ◌∷◌, length, map, filter}
+use Rattle.std.specs.Prelude.{◌≡◌, ℕ, ◌<◌, ◌≤◌, List, [], ◌∷◌, length, map, filter, Contains}
 use Rattle.std.specs.List.{slice_index_or}
 use Rattle.xml_model.specs.declared.Axis.{Axis}
 use Rattle.xml_model.specs.declared.Node.{Node}
@@ -18,6 +18,10 @@ step_nodes axis t cs es = map node_of (filter (passes t (is_attribute_axis axis)
 -- the nodes of a list are those of a table
 abbrev pub AreNodesOf : List ℕ → Lists → List Node → Type 0
 AreNodesOf bytes lists nodes = (k : ℕ) (d : Node) → k < length nodes → IsNodeOf bytes lists (slice_index_or nodes k d)
+
+-- the entries of a list are nodes of a tree
+abbrev pub AreAmong : List Entry → List Entry → Type 0
+AreAmong cs es = (c : Entry) → Contains cs c → Contains es c
 
 -- of every nest of a table, and of the entries in it that nodes denote, which are in document order, each once
 abbrev pub ForEachContexts : List ℕ → Lists → List Node → (Forest → List Entry → Type 0) → Type 0

@@ -3,11 +3,16 @@
 //! the step along `following`, which first reads the contexts that are in one another, each whole.
 #![tactic(auto)]
 
+mod above;
 mod apart;
 mod ends;
 mod gather;
+mod merge;
+mod or_selves;
 mod selves;
 
+pub use above::ancestors_of_all;
 pub use apart::{attributes_of_all, children_if_apart, descendants_of_all};
 pub use ends::{following_of_all, preceding_of_all};
+pub use or_selves::{ancestors_or_selves_of_all, descendants_or_selves_of_all};
 pub use selves::selves_of_all;

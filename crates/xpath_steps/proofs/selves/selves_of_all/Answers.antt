@@ -1,30 +1,10 @@
-use Rattle.std.proofs.Common.{◌∙◌, [], ◌∷◌, sym, arith, refl, false, map, filter}
-use Rattle.xml_model.specs.declared.Kind.TheVariants as kinds
-use Rattle.xml_model.specs.declared.Node.{Node}
-use Rattle.xml_model.specs.Names.{passes}
-use Rattle.vtd_words.specs.Table.{node_of, nodes_of}
+use Rattle.std.proofs.Common.{◌∙◌, sym}
+use Rattle.std.proofs.lemmas.Result.{IfOk-weaker}
 use Rattle.xpath_axes.specs.Tests.{node_test}
-use Rattle.xpath_steps.proofs.StepLemmas.{At, at_index, context_is, all_gathered, gathered_on, self_at_index, self_ended, all_selves, as_many}
+use Rattle.xpath_steps.proofs.StepLemmas.{all_selves}
 use Rattle.xpath_steps.proofs.selves.selves_of_all.Goals as goal
 
-pub loop-context-init : goal.loop-context-init
-loop-context-init g c = record { names = c.requires.names; so_far = λ nest s cs e k. rw c.new-held.ensures.items refl }
-
-pub loop-context-preserved : goal.loop-context-preserved
-loop-context-preserved g c = record {
-  names = c.in_ok-append_if.ensures.names;
-  so_far = λ nest s cs e k.
-      let i = c.loop-context.context-index in
-      let test = node_test c.args.test.now in
-      let a : At cs i = at_index cs i (omega (arith, as_many cs _ e, c.loop-context-test.true)) in
-      let d : Node = record { kind = kinds.Root; at = 0 } in
-      let in_it = context_is (nodes_of c.args.table.now.bytes nest) cs k c.args.contexts.now e i a d in
-      gathered_on _ _ _ (map node_of (filter (passes test false) (a.entry ∷ []))) _ _ (c.loop-context.invariant.so_far nest s cs e k)
-      (self_at_index test cs i a) (c.in_ok-append_if.ensures.appended nest s a.entry in_it);
-}
-
 pub returns-clause-step : goal.returns-clause-step
-returns-clause-step g c = λ nest s cs e k.
-    all_gathered _ _ _ (c.loop-context.invariant.so_far nest s cs e k)
-    (self_ended (node_test c.args.test.now) cs c.loop-context.context-index (omega (arith, as_many cs _ e, c.loop-context-test.false)))
-    ∙ sym (all_selves nest _ s.accepted.document.nests cs k (node_test c.args.test.now))
+returns-clause-step g c = IfOk-weaker c.those_passing.result _ _
+    (λ list h nest s cs e k. h nest s cs e k.among ∙ sym (all_selves nest _ s.accepted.document.nests cs k (node_test c.args.test.now)))
+    c.those_passing.ensures.passing
