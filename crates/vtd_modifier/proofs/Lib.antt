@@ -1,0 +1,5 @@
+pub mod BytesThere
+pub mod AttributePlaces
+pub mod ElementPlaces
+pub mod NodePlaces
+pub mod Joined

@@ -1,2 +1,4 @@
 pub mod Escapes
 pub mod Rows
+pub mod Parts
+pub mod Outcomes

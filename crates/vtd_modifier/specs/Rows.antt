@@ -8,7 +8,7 @@ use Rattle.vtd_modifier.specs.declared.operation.Operation.{Operation}
 use Rattle.vtd_modifier.specs.declared.operation.Operation.TheVariants as operations
 use Rattle.vtd_modifier.specs.declared.parts.Part.{Part}
 use Rattle.vtd_modifier.specs.declared.parts.Part.TheVariants as parts
-use Rattle.vtd_modifier.specs.declared.parts.Tags.{Tags}
+use Rattle.vtd_cursor.specs.declared.spans.Tags.{Tags}
 use Rattle.vtd_modifier.specs.declared.escaping.Escape.TheVariants as escapes
 use Rattle.vtd_modifier.specs.Escapes.{escaped}
 

@@ -1,19 +1,7 @@
 //! Where the parts of a node are, in bytes.
 
+use vtd_cursor::Tags;
 use xml_model::Span;
-
-/// Where the tags of an element are.
-#[derive(Clone, Copy)]
-pub(crate) struct Tags {
-    /// The name in the first tag.
-    pub(crate) name: Span,
-    /// The place after the first tag.
-    pub(crate) head_end: u32,
-    /// The `<` of the end tag; the place after the tag where there is none.
-    pub(crate) tail_start: u32,
-    /// Whether the element is one empty tag, with no end tag.
-    pub(crate) empty: bool,
-}
 
 /// What a node is, and where its parts are.
 #[derive(Clone, Copy)]

@@ -10,8 +10,9 @@ ghost use Rattle.vtd_edits.specs.declared.splice.Splice.{Splice};
 
 use crate::escaping::{Escape, escaped};
 use crate::operation::Operation;
-use crate::parts::{Part, Tags};
+use crate::parts::Part;
 use std::alloc::Global;
+use vtd_cursor::Tags;
 use vtd_edits::Splice;
 use xml_model::{Bytes, NoMemory, Span};
 
