@@ -200,7 +200,7 @@ each_index P (x ∷ xs) h (suc i) d l = each_index P xs h.1 i d (omega (arith, l
 abbrev pub gathered_from : List Entry → ℕ → List Entry → List Node
 gathered_from es stop ds = reverse (map node_of (new_ancestors es stop ds))
 
-map_reverse : (xs : List Entry) → map node_of (reverse xs) ≡ reverse (map node_of xs)
+pub map_reverse : (xs : List Entry) → map node_of (reverse xs) ≡ reverse (map node_of xs)
 map_reverse [] = refl
 map_reverse (x ∷ xs) = ap (map node_of) (reverse-append (x ∷ []) xs) ∙ map-append node_of (reverse xs) (x ∷ [])
     ∙ ap (λ ys. ys ++ node_of x ∷ []) (map_reverse xs) ∙ sym (reverse-append (node_of x ∷ []) (map node_of xs))
