@@ -3,21 +3,20 @@ use Rattle.std.proofs.Common.{◌≡◌, ℕ, zero, suc, ◌+◌, ◌<◌, ◌�
 use Rattle.std.proofs.Common.{drop, reverse, refl, ap, ap₂, sym, ◌∙◌, subst, arith, filter, nat_lt, nat_le, inl, inr, Some, None, option_map, replicate}
 use Rattle.std.specs.List.{AllByRecursion as Each, Contains, list_any, slice_index_or}
 use Rattle.std.proofs.lemmas.Bool.{false≢true, and_parts, and_from, or_cases, or_left, or_right, cases_lt, ltb-true, leb-true, eqb-true, eq-eqb}
-use Rattle.std.proofs.lemmas.Bool.{lt-ltb, le-leb, lt-leb}
+use Rattle.std.proofs.lemmas.Bool.{lt-ltb, le-leb}
 use Rattle.std.proofs.lemmas.List.{reverse-append, reverse-reverse, map-append}
 use Rattle.xml_model.specs.declared.Axis.TheVariants as axes
 use Rattle.xml_model.specs.declared.Kind.TheVariants as kinds
 use Rattle.xml_model.specs.declared.Node.{Node}
 use Rattle.xml_model.specs.Contexts.{is_parent_of_any, AreContexts, Rises}
-use Rattle.xml_model.specs.Laws.{by_indexes, holder_index, is_one_under, is_root_thing, is_under, nodes_above}
+use Rattle.xml_model.specs.Laws.{holder_index, is_root_thing, is_under, nodes_above}
 use Rattle.xml_model.specs.Names.{Test, passes}
 use Rattle.xml_model.specs.Nest.{Forest, is_nest}
 use Rattle.xml_model.specs.Records.{records}
-use Rattle.xml_model.specs.Scan.{level_of, record_at}
 use Rattle.xml_model.specs.Items.{first_place}
 use Rattle.xml_model.specs.Tree.{Entry, Identifies, all, at_index, kind_of}
 use Rattle.xml_model.proofs.Contexts.{union_by_indexes, parents_of_contexts}
-use Rattle.xml_model.proofs.Each.{contains_here, contains_next, each_at, each_more}
+use Rattle.xml_model.proofs.Each.{each_at, each_more}
 use Rattle.xml_model.proofs.Filters.{any_out, any_same, filter_same, none_of, one_here, same_test, split_or}
 use Rattle.xml_model.proofs.Indexes.{all_rise, one_kind, one_node}
 use Rattle.xml_model.proofs.Inside.{above_held, above_root, held_by, levels_shown, root_first, Holds}

@@ -1,5 +1,6 @@
 -- Contexts that wait for the node that holds them (this project's own).
-use Rattle.std.specs.Prelude.{◌≡◌, ℕ, zero, suc, ◌≤◌, ◌⊎◌, Bool, false, not, ◌&&◌, ◌==◌, nat_le, nat_lt, List, map, filter, length, reverse, Contains}
+use Rattle.std.specs.Prelude.{◌≡◌, ℕ, ◌≤◌, ◌⊎◌, Bool, false, not, ◌&&◌, ◌==◌, nat_le, nat_lt, List}
+use Rattle.std.specs.Prelude.{map, filter, length, reverse, Contains}
 use Rattle.std.specs.List.{AllByRecursion, list_any, slice_index_or}
 use Rattle.xml_model.specs.declared.Kind.TheVariants as kinds
 use Rattle.xml_model.specs.declared.Node.{Node}
@@ -21,8 +22,8 @@ waits n level c = not (is_root_thing c.what) && (length c.holders == level && na
 abbrev pub parents_from : List Entry → ℕ → List Entry → List Node
 parents_from es n ds = map node_of (reverse (filter (λ y. nat_le n y.index && is_parent_of_any ds y) es))
 
--- going backward, at an index: the contexts were passed, it is flagged at which levels some wait, and the parents of the
--- others were gathered
+-- going backward, at an index: the contexts were passed, it is flagged at which levels some wait, and the parents of
+-- the others were gathered
 pub record Gathered (es ds : List Entry) (n : ℕ) (flags : ℕ → Bool) (held : List Node) : Type 0 where
   pub among : AreAmong ds es
   pub passed : AllByRecursion (λ c. n ≤ c.index) ds

@@ -103,7 +103,8 @@ fn append_parents<W: Words>(
 /// Has a node wait for its parent, if it has one.
 fn await_parent<W: Words>(table: &Table<'_, W>, node: Node, waiting: &mut Flags)
     requires { IsNodeOf table.now.bytes (W.lists table.now.words) node }
-    ensures { ForEachEntry table.now.bytes (W.lists table.now.words) node (λ nest c. (ds : List Entry) → (held : List Node) →
+    ensures { ForEachEntry table.now.bytes (W.lists table.now.words) node (λ nest c.
+        (ds : List Entry) → (held : List Node) →
         Gathered (nodes_of table.now.bytes nest) ds node.at (flagged waiting.old) held →
         Gathered (nodes_of table.now.bytes nest) (c ∷ ds) node.at (flagged waiting.new) held) }
 {

@@ -1,4 +1,4 @@
-use Rattle.std.proofs.Common.{◌≡◌, ◌-◌, ◌≤◌, suc, ap, subst, arith}
+use Rattle.std.proofs.Common.{◌≡◌, ◌-◌, suc, subst, arith}
 use Rattle.vtd_words.specs.Table.{nodes_of}
 use Rattle.xpath_steps.specs.Waits.{flagged, Gathered}
 use Rattle.xpath_steps.proofs.parents.append_parents.Goals as goal

@@ -1,9 +1,8 @@
-use Rattle.std.proofs.Common.{◌≡◌, ◌-◌, ◌+◌, ◌≤◌, ◌∙◌, ◌∷◌, [], List, suc, drop, ap, sym, subst, arith, length}
+use Rattle.std.proofs.Common.{◌≡◌, ◌-◌, ◌+◌, ◌≤◌, ◌∙◌, ◌∷◌, [], suc, drop, ap, sym, subst, arith, length}
 use Rattle.std.specs.List.{AllByRecursion as Each, slice_index_or}
 use Rattle.std.proofs.lemmas.List.{drop_all}
 use Rattle.xml_model.specs.declared.Kind.TheVariants as kinds
 use Rattle.xml_model.specs.declared.Node.{Node}
-use Rattle.xml_model.specs.Tree.{Entry}
 use Rattle.vtd_words.specs.Table.{IsNodeOf, nodes_of}
 use Rattle.xpath_steps.specs.Holders.{index_before}
 use Rattle.xpath_steps.specs.Waits.{flagged, Gathered}
@@ -19,7 +18,8 @@ loop-rest-init g c = record {
   gathered = λ nest s cs e k.
       let none : drop (length c.args.contexts.now) cs ≡ [] = drop_all (length c.args.contexts.now) cs (omega (arith, as_many cs _ e)) in
       rw c.new-held.ensures.items
-      (subst (λ ds. Gathered (nodes_of c.args.table.now.bytes nest) ds (index_before c.args.contexts.now (length c.args.contexts.now)) (flagged c.new-waiting.result) [])
+      (subst (λ ds. Gathered (nodes_of c.args.table.now.bytes nest) ds (index_before c.args.contexts.now (length c.args.contexts.now))
+      (flagged c.new-waiting.result) [])
       (sym none) (none_yet nest _ s.accepted.document.nests (index_before c.args.contexts.now (length c.args.contexts.now)) (flagged c.new-waiting.result)
       c.new-waiting.ensures));
 }
