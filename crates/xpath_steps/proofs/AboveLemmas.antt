@@ -1,6 +1,6 @@
 -- Climbs from contexts to the nodes that they are in.
-use Rattle.std.proofs.Common.{◌≡◌, ℕ, zero, suc, ◌+◌, ◌<◌, ◌≤◌, ◌⊎◌, Bool, true, false, cond, ◌&&◌, ◌||◌, ◌==◌, List, [], ◌∷◌, ◌++◌, length, drop}
-use Rattle.std.proofs.Common.{map, reverse, refl, ap, ap₂, sym, ◌∙◌, subst, arith, filter, nat_lt, nat_le, min, inl, inr, Option, Some, None, option_map}
+use Rattle.std.proofs.Common.{◌≡◌, ℕ, zero, suc, ◌+◌, ◌<◌, ◌≤◌, Bool, true, false, cond, ◌&&◌, ◌||◌, ◌==◌, List, [], ◌∷◌, ◌++◌, length, drop}
+use Rattle.std.proofs.Common.{map, reverse, refl, ap, ap₂, sym, ◌∙◌, subst, arith, filter, nat_lt, nat_le, inl, inr, Option, Some, None, option_map}
 use Rattle.std.specs.Option.{option_to_list}
 use Rattle.std.specs.Prelude.{IfSome}
 use Rattle.std.specs.List.{AllByRecursion as Each, Contains, slice_index_or}
@@ -11,14 +11,14 @@ use Rattle.xml_model.specs.declared.Axis.TheVariants as axes
 use Rattle.xml_model.specs.declared.Kind.{Kind}
 use Rattle.xml_model.specs.declared.Kind.TheVariants as kinds
 use Rattle.xml_model.specs.declared.Node.{Node}
-use Rattle.xml_model.specs.Contexts.{new_ancestors, AreContexts, Rises}
+use Rattle.xml_model.specs.Contexts.{new_ancestors, AreContexts}
 use Rattle.xml_model.specs.Items.{first_place}
-use Rattle.xml_model.specs.Laws.{is_root_thing, is_under}
+use Rattle.xml_model.specs.Laws.{is_under}
 use Rattle.xml_model.specs.Names.{Test, passes}
 use Rattle.xml_model.specs.Nest.{Forest, is_nest}
-use Rattle.xml_model.specs.Records.{Record, records}
+use Rattle.xml_model.specs.Records.{records}
 use Rattle.xml_model.specs.Scan.{level_of, record_at}
-use Rattle.xml_model.specs.Tree.{Entry, Identifies, all, kind_of, at_index}
+use Rattle.xml_model.specs.Tree.{Entry, all, kind_of, at_index}
 use Rattle.xml_model.proofs.Contexts.{union_by_indexes, ancestors_of_contexts}
 use Rattle.xml_model.proofs.Each.{contains_next}
 use Rattle.xml_model.proofs.Filters.{same_test, filter_same, none_of, one_here, split_or}
@@ -33,9 +33,8 @@ use Rattle.vtd_words.specs.Table.{IsNestOf, node_of, nodes_of}
 use Rattle.vtd_words.proofs.Found.{none_at}
 use Rattle.xpath_axes.specs.declared.back.Back.{Back}
 use Rattle.xpath_axes.specs.Backs.{IsBack, IsLow}
-use Rattle.xpath_axes.proofs.ClimbLemmas.{filter_append}
 use Rattle.xpath_axes.proofs.WalkLemmas.{none_here, node_here}
-use Rattle.xpath_steps.specs.Holders.{goes_over, holders_left, index_before}
+use Rattle.xpath_steps.specs.Holders.{goes_over, holders_left}
 use Rattle.xpath_steps.specs.Steps.{step_nodes, AreAmong}
 use Rattle.xpath_steps.proofs.StepLemmas.{At}
 
@@ -200,7 +199,7 @@ each_index P (x ∷ xs) h (suc i) d l = each_index P xs h.1 i d (omega (arith, l
 abbrev pub gathered_from : List Entry → ℕ → List Entry → List Node
 gathered_from es stop ds = reverse (map node_of (new_ancestors es stop ds))
 
-map_reverse : (xs : List Entry) → map node_of (reverse xs) ≡ reverse (map node_of xs)
+pub map_reverse : (xs : List Entry) → map node_of (reverse xs) ≡ reverse (map node_of xs)
 map_reverse [] = refl
 map_reverse (x ∷ xs) = ap (map node_of) (reverse-append (x ∷ []) xs) ∙ map-append node_of (reverse xs) (x ∷ [])
     ∙ ap (λ ys. ys ++ node_of x ∷ []) (map_reverse xs) ∙ sym (reverse-append (node_of x ∷ []) (map node_of xs))

@@ -1,7 +1,7 @@
 -- Two lists of nodes in document order, made one.
-use Rattle.std.proofs.Common.{◌≡◌, ℕ, zero, suc, ◌+◌, ◌<◌, ◌≤◌, ◌⊎◌, Bool, true, false, cond, ◌&&◌, ◌||◌, ◌==◌, List, [], ◌∷◌, ◌++◌, length, drop, map}
-use Rattle.std.proofs.Common.{refl, ap, ap₂, sym, ◌∙◌, arith, filter, nat_le, inl, inr, Option, Some, None}
-use Rattle.std.specs.List.{AllByRecursion as Each, list_any, slice_index_or}
+use Rattle.std.proofs.Common.{◌≡◌, ℕ, zero, suc, ◌+◌, ◌<◌, ◌≤◌, Bool, true, false, cond, ◌&&◌, ◌||◌, ◌==◌, List, [], ◌∷◌, ◌++◌, length, drop, map}
+use Rattle.std.proofs.Common.{refl, ap, ap₂, sym, ◌∙◌, arith, filter, nat_le, Some, None}
+use Rattle.std.specs.List.{AllByRecursion as Each, slice_index_or}
 use Rattle.std.proofs.lemmas.Bool.{false≢true, eq-eqb, eqb-true, le-leb, lt-leb}
 use Rattle.std.proofs.lemmas.List.{drop_all}
 use Rattle.xml_model.specs.declared.Axis.{Axis}
@@ -223,7 +223,8 @@ two_steps nest first n axis one other x y z h cs k test held m =
 pub above_or_self : (c y : Entry) → by_indexes axes.AncestorOrSelf c y ≡ (by_indexes axes.Ancestor c y || by_indexes axes.Itself c y)
 above_or_self c y =
     or_turn (y.index == c.index) (is_under y c)
-    ∙ ap (λ b. is_under y c || b) (same_test _ _ (λ t. eq-eqb c.index y.index (sym (eqb-true y.index c.index t))) (λ t. eq-eqb y.index c.index (sym (eqb-true c.index y.index t))))
+    ∙ ap (λ b. is_under y c || b) (same_test _ _ (λ t. eq-eqb c.index y.index (sym (eqb-true y.index c.index t)))
+    (λ t. eq-eqb y.index c.index (sym (eqb-true c.index y.index t))))
 
 pub under_or_self : (c y : Entry) → by_indexes axes.DescendantOrSelf c y ≡ (by_indexes axes.Descendant c y || by_indexes axes.Itself c y)
 under_or_self c y = or_turn (c.index == y.index) (is_under c y && is_child_thing y.what)

@@ -1,5 +1,6 @@
 -- Two lists of nodes in document order (this project's own).
-use Rattle.std.specs.Prelude.{◌≡◌, Bool, true, false, ◌||◌, nat_le, List, [], ◌∷◌, ◌++◌, map, filter, Option, option_to_list, IfNone}
+use Rattle.std.specs.Prelude.{◌≡◌, Bool, true, false, ◌||◌, nat_le, List, [], ◌∷◌, ◌++◌}
+use Rattle.std.specs.Prelude.{map, filter, Option, option_to_list, IfNone}
 use Rattle.xml_model.specs.declared.Node.{Node}
 use Rattle.xml_model.specs.Contexts.{Rises}
 use Rattle.xml_model.specs.Tree.{Entry}

@@ -102,7 +102,8 @@ fn append_some(node: Option<Node>, held: &mut Vec<Node>) -> Result<(), NoMemory>
     Ok(())
 }
 
-/// Appends the nodes from an index on that a climb passes, the last one first. It reads each record from there on once.
+/// Appends the nodes from an index on that a climb passes, the last one first. It goes over each record from there on
+/// once.
 fn append_holders<W: Words>(
     table: &Table<'_, W>,
     back: Back,
@@ -129,7 +130,7 @@ fn append_holders<W: Words>(
 }
 
 /// The index of the node before one of a list, and 0 before the first.
-fn before(nodes: &[Node], at: usize) -> u32
+pub fn before(nodes: &[Node], at: usize) -> u32
     requires { at ≤ length nodes.now }
     ensures { result ≡ index_before nodes.now at }
 {
@@ -139,7 +140,7 @@ fn before(nodes: &[Node], at: usize) -> u32
     nodes[at - 1].at
 }
 
-/// The nodes that nodes are in, in document order, each once. It reads each record before the last of them at most
+/// The nodes that nodes are in, in document order, each once. It goes over each record before the last of them at most
 /// once.
 fn holders_of_all<W: Words>(
     alloc: Global,
@@ -164,8 +165,8 @@ fn holders_of_all<W: Words>(
     Ok(held)
 }
 
-/// The ancestors of nodes that pass a test. The nodes are in document order, each once. It reads each record before the
-/// last of the contexts at most once. `NoMemory` comes where there is no memory for the list of all ancestors.
+/// The ancestors of nodes that pass a test. The nodes are in document order, each once. It goes over each record before
+/// the last of the contexts at most once. `NoMemory` comes where there is no memory for the list of all ancestors.
 pub fn ancestors_of_all<W: Words, N: Names<W>>(
     alloc: Global,
     table: &Table<'_, W>,

@@ -1,6 +1,7 @@
 //! Two lists of nodes in document order, made one.
 
-ghost use Rattle.std.specs.Prelude.{◌≡◌, ◌<◌, ◌+◌, ◌-◌, ◌||◌, List, Bool, drop, length, map, filter, IfOk, IfSome, IsTrue};
+ghost use Rattle.std.specs.Prelude.{◌≡◌, ◌<◌, ◌+◌, ◌-◌, ◌||◌, List, Bool, drop, length, map, filter};
+ghost use Rattle.std.specs.Prelude.{IfOk, IfSome, IsTrue};
 ghost use Rattle.xml_model.specs.Contexts.{Rises};
 ghost use Rattle.xml_model.specs.Tree.{Entry};
 ghost use Rattle.vtd_words.specs.Table.{node_of};

@@ -15,9 +15,9 @@ use vtd_words::{Table, Words};
 use xml_model::{NoMemory, Node, NodeList, NodeTest};
 use xpath_axes::Names;
 
-/// Those of nodes that pass a test, with their ancestors that do. The nodes are in document order, each once. It reads
-/// each record before the last of the contexts at most once. `NoMemory` comes where there is no memory for the lists of
-/// both.
+/// Those of nodes that pass a test, with their ancestors that do. The nodes are in document order, each once. It goes
+/// over each record before the last of the contexts at most once. `NoMemory` comes where there is no memory for the
+/// lists of both.
 pub fn ancestors_or_selves_of_all<W: Words, N: Names<W>>(
     alloc: Global,
     table: &Table<'_, W>,

@@ -1,4 +1,4 @@
-use Rattle.std.proofs.Common.{◌∙◌, sym, ap₂, arith}
+use Rattle.std.proofs.Common.{sym, ap₂, arith}
 use Rattle.xml_model.specs.declared.Kind.TheVariants as kinds
 use Rattle.xpath_steps.specs.Merges.{is_first}
 use Rattle.xpath_steps.proofs.MergeLemmas.{drop_here, none_left}

@@ -1,4 +1,4 @@
-use Rattle.std.proofs.Common.{◌≡◌, ◌+◌, ◌-◌, ◌++◌, Bool, List, drop, length, map, filter}
+use Rattle.std.proofs.Common.{◌≡◌, ◌+◌, ◌-◌, Bool, List, drop, length, map, filter}
 use Rattle.xml_model.specs.Contexts.{Rises}
 use Rattle.xml_model.specs.Tree.{Entry}
 use Rattle.vtd_words.specs.Table.{node_of}

@@ -10,4 +10,5 @@ pub returns-clause-step : goal.returns-clause-step
 returns-clause-step g c = λ nest s cs e k.
     two_steps nest _ s.accepted.document.nests axes.AncestorOrSelf axes.Ancestor axes.Itself refl refl refl above_or_self cs k (node_test c.args.test.now) _
     (λ P Q h i. c.in_ok-held.ensures (nodes_of c.args.table.now.bytes nest) (all_rise nest _) P Q
-    (c.deref.ensures.value ∙ c.ancestors.view_is ∙ c.in_ok-ancestors.ensures.step nest s cs e k ∙ h) (c.deref-2.ensures.value ∙ c.selves.view_is ∙ c.in_ok-selves.ensures.step nest s cs e k ∙ i))
+    (c.deref.ensures.value ∙ c.ancestors.view_is ∙ c.in_ok-ancestors.ensures.step nest s cs e k ∙ h)
+    (c.deref-2.ensures.value ∙ c.selves.view_is ∙ c.in_ok-selves.ensures.step nest s cs e k ∙ i))

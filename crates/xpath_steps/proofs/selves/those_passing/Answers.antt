@@ -1,4 +1,4 @@
-use Rattle.std.proofs.Common.{◌∙◌, [], ◌∷◌, sym, arith, refl, false, map, filter}
+use Rattle.std.proofs.Common.{[], ◌∷◌, arith, refl, false, map, filter}
 use Rattle.xml_model.specs.declared.Kind.TheVariants as kinds
 use Rattle.xml_model.specs.declared.Node.{Node}
 use Rattle.xml_model.specs.Names.{passes}
