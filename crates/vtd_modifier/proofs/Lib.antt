@@ -3,3 +3,5 @@ pub mod AttributePlaces
 pub mod ElementPlaces
 pub mod NodePlaces
 pub mod Joined
+pub mod NodeEnds
+pub mod RowsWithin

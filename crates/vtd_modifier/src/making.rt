@@ -1,6 +1,8 @@
 //! Which splices an operation makes of nodes.
 
-ghost use Rattle.std.specs.Prelude.{◌≡◌, Ok, IfErr, IfOk, OnOk};
+ghost use Rattle.std.specs.Prelude.{◌≡◌, length, Ok, IfErr, IfOk, OnOk};
+ghost use Rattle.std.specs.List.{All, AllByRecursion};
+ghost use Rattle.vtd_edits.specs.Splices.{IsWithin};
 ghost use Rattle.vtd_words.specs.Table.{ForEachEntry, IsNodeOf};
 ghost use Rattle.vtd_modifier.specs.Outcomes.{has_name, outcome, AreNodesOf, ForEachEntries, IsRefused, IsRowRefused};
 ghost use Rattle.vtd_modifier.specs.Outcomes.{TakesRow};
@@ -41,6 +43,8 @@ fn push_node<W: Words>(
         TakesRow (row nav.now.bytes operation.entry (part_of nav.now.bytes e)) out.old.items out.new.items)) }
     ensures refused { IfErr result (λ fault. ForEachEntry nav.now.bytes (W.lists nav.now.words) node (λ nest e.
         IsRowRefused (row nav.now.bytes operation.entry (part_of nav.now.bytes e)) e.start fault)) }
+    ensures within { OnOk result (AllByRecursion (IsWithin (length nav.now.bytes)) out.old.items →
+        AllByRecursion (IsWithin (length nav.now.bytes)) out.new.items) }
 {
     let part = part_of(nav, node);
     match push_row(alloc, out, nav.table().bytes(), operation, part) {
@@ -52,9 +56,9 @@ fn push_node<W: Words>(
     }
 }
 
-/// The splices of an operation on nodes of a document: those of each node, in the order of the list. Texts are raw, but
-/// that of `Set` is escaped; what they make of the document is not checked. It is linear in the list, the texts and
-/// what is in the elements of the list.
+/// The splices of an operation on nodes of a document: those of each node, in the order of the list; they are within
+/// the document. Texts are raw, but that of `Set` is escaped; what they make of the document is not checked. It is
+/// linear in the list, the texts and what is in the elements of the list.
 ///
 /// # Errors
 /// `Name` exactly where the new name of `Rename` is no QName (Namespaces in XML 1.0, production 7); then `Kind` exactly
@@ -71,6 +75,7 @@ pub fn splices_of<W: Words>(
         outcome nav.now.bytes operation.entry es ≡ Ok splices)) }
     ensures refused { IfErr result (λ fault. ForEachEntries nav.now.bytes (W.lists nav.now.words) nodes.now (λ es.
         IsRefused (outcome nav.now.bytes operation.entry es) fault)) }
+    ensures within { IfOk result (All (IsWithin (length nav.now.bytes))) }
 {
     if !has_name(operation) {
         return Err(EditFault::Name);
