@@ -1,5 +1,6 @@
 -- What an operation on some nodes of a document answers (this project's own).
-use Rattle.std.specs.Prelude.{◌≡◌, ℕ, ◌<◌, Bool, true, cond, List, [], ◌∷◌, ◌++◌, length, Option, Some, None, Result, Ok, Err}
+use Rattle.std.specs.Prelude.{◌≡◌, ℕ, ◌<◌, Bool, true, cond, List, [], ◌∷◌, ◌++◌}
+use Rattle.std.specs.Prelude.{length, Option, Some, None, Result, Ok, Err}
 use Rattle.std.specs.Prelude.{slice_index_or}
 use Rattle.std.specs.Str.{chars}
 use Rattle.xml_model.specs.Chars.{is_qname}
