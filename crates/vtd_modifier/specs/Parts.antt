@@ -22,7 +22,8 @@ parts_of bytes (Thing.attribute a) start stop =
     (span_from (start + size (before_value a)) (written_pieces a.value)) (quote_char a.quote)
 parts_of bytes (Thing.text xs) start stop = parts.Text (span_of start stop)
 parts_of bytes (Thing.comment cs) start stop = parts.Comment (span_of start stop)
-parts_of bytes (Thing.instruction i) start stop = parts.Instruction (span_of start stop) (span_from (start + 2) i.target)
+parts_of bytes (Thing.instruction i) start stop =
+    parts.Instruction (span_of start stop) (span_from (start + 2) i.target)
 
 abbrev pub part_of : List ℕ → Entry → Part
 part_of bytes e = parts_of bytes e.what e.start e.stop
