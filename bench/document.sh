@@ -1,8 +1,9 @@
 #!/usr/bin/env bash
 # Writes a document of about so many megabytes to standard output: bench/document.sh KIND [MEGABYTES], 100 if no number is given.
-# The kinds: orders (a short element with an attribute inside another), text (long texts), references (long texts with a reference
-# in each 105 bytes), returns (long texts in lines of 104 bytes that end with CR LF), attributes (many in each tag), accented
-# (texts that are not ASCII), elements (densest in elements: <b/>), records (densest in records: <b/>x), deep (elements 250 deep).
+# The kinds: orders (a short element with an attribute inside another), text (long texts), single (one text), references (long texts
+# with a reference in each 105 bytes), returns (long texts in lines of 104 bytes that end with CR LF), attributes (many in each tag),
+# accented (texts that are not ASCII), elements (densest in elements: <b/>), records (densest in records: <b/>x), deep (elements 250
+# deep).
 # Hard ones, for the checks of names: prefixed (20 attributes with prefixes in each tag), scopes (1,000 declarations in the root
 # element, and a prefixed name in each of its children), names (one tag of that many attributes), declarations (one tag of as many
 # declarations as attributes with those prefixes).
@@ -34,6 +35,10 @@ case $kind in
     text)
         words='The quick brown fox jumps over the lazy dog, and then it goes home and sleeps until the evening comes. '
         repeated '<book>' "<p>$words$words$words$words$words$words$words$words$words$words</p>" '</book>'
+        ;;
+    single)
+        words='The quick brown fox jumps over the lazy dog, and then it goes home and sleeps until the evening comes. '
+        repeated '<book>' "$words$words$words$words$words$words$words$words$words$words" '</book>'
         ;;
     references)
         words='The quick brown fox jumps over the lazy dog, and then it goes home &amp; sleeps until the evening comes. '

@@ -1,10 +1,11 @@
 //! Sources, sinks and files in memory, gathered from and sent to.
 
-ghost use Rattle.std.specs.Prelude.{◌<◌, ◌≤◌};
+ghost use Rattle.std.specs.Prelude.{◌≡◌, ◌<◌, ◌≤◌, None, OnOk};
 
 use std::alloc::{AllocError, Global};
 use vtd_outside::{
-    GatherFault, MemoryFiles, MemorySink, MemorySource, gather_file, gather_source, send,
+    Failed, Files, GatherFault, MemoryFiles, MemorySink, MemorySource, append_all, gather_file,
+    gather_source, send,
 };
 
 /// How an object in memory answers: the number of its call that fails, the most bytes of a call, and a cap or a room.
@@ -68,10 +69,9 @@ fn write_file(alloc: Global, out: &mut String, plan: Plan, bytes: &str) -> Resul
     if files.put("f", bytes.as_bytes().to_vec(alloc)?).is_err() {
         return Err(AllocError);
     }
-    for name in ["f", "f", "g"] {
-        write_gathered(out, gather_file(alloc, &mut files, name, plan.cap))?;
-    }
-    Ok(())
+    write_gathered(out, gather_file(alloc, &mut files, "f", plan.cap))?;
+    write_gathered(out, gather_file(alloc, &mut files, "f", plan.cap))?;
+    write_gathered(out, gather_file(alloc, &mut files, "g", plan.cap))
 }
 
 /// Puts files, written as `name=bytes`, and writes those that are asked for, as `name?`.
@@ -83,6 +83,69 @@ fn write_files(alloc: Global, out: &mut String, words: &str) -> Result<(), Alloc
                 return Err(AllocError);
             }
         } else if let Some(name) = word.strip_suffix("?") {
+            match files.bytes_of(name) {
+                Some(bytes) => out.push_str(str::from_utf8(bytes).unwrap_or("?"))?,
+                None => out.push_str("none")?,
+            }
+            out.push_str(";")?;
+        }
+    }
+    Ok(())
+}
+
+/// Writes a file: begins it, adds a text and finishes it.
+fn save(files: &mut MemoryFiles, name: &str, text: &str) -> Result<(), Failed>
+    requires { files.old.writing ≡ None }
+    ensures { files.new.writing ≡ None }
+{
+    if let Err(failed) = files.begin_write(name) {
+        return Err(failed);
+    }
+    if let Err(failed) = append_all(files, text.as_bytes()) {
+        return Err(failed);
+    }
+    files.finish()
+}
+
+/// Puts files, written as `name=bytes`, and makes room for others, `name:room`.
+fn put_files(alloc: Global, files: &mut MemoryFiles, words: &str) -> Result<(), AllocError>
+    requires not_read { files.old.opened ≡ None }
+    requires not_written { files.old.writing ≡ None }
+    ensures { OnOk result (files.new.writing ≡ None) }
+{
+    for word in words.split_whitespace() {
+        if let Some((name, bytes)) = word.split_once("=") {
+            if files.put(name, bytes.as_bytes().to_vec(alloc)?).is_err() {
+                return Err(AllocError);
+            }
+        } else if let Some((name, room)) = word.split_once(":") {
+            let room = room.parse::<u64>().unwrap_or(0);
+            if files.prepare(name, room).is_err() {
+                return Err(AllocError);
+            }
+        }
+    }
+    Ok(())
+}
+
+/// Puts files and makes room for others, and then writes files, `name>text`: how each of these went, and what the file
+/// then holds.
+fn write_writings(
+    alloc: Global,
+    out: &mut String,
+    plan: Plan,
+    words: &str,
+) -> Result<(), AllocError> {
+    let failing = [plan.failing].to_vec(alloc)?;
+    let mut files = MemoryFiles::new(alloc, failing, plan.piece);
+    put_files(alloc, &mut files, words)?;
+    for word in words.split_whitespace() {
+        if let Some((name, text)) = word.split_once(">") {
+            match save(&mut files, name, text) {
+                Ok(()) => out.push_str("written")?,
+                Err(fault) => write!(out, "{fault}")?,
+            }
+            out.push_str(", ")?;
             match files.bytes_of(name) {
                 Some(bytes) => out.push_str(str::from_utf8(bytes).unwrap_or("?"))?,
                 None => out.push_str("none")?,
@@ -136,6 +199,7 @@ pub fn answer(alloc: Global, out: &mut String, table: &str, input: &str) -> Resu
         "sources" => write_source(alloc, out, plan, rest),
         "files" => write_file(alloc, out, plan, rest),
         "sinks" => write_sink(alloc, out, plan, rest),
+        "writes" => write_writings(alloc, out, plan, rest),
         _ => out.push_str("no such table"),
     }
 }

@@ -3,6 +3,7 @@
 //! prints the rows that answer otherwise and how many rows there were.
 #![tactic(auto)]
 
+mod files;
 mod splices;
 
 use std::alloc::{AllocError, Global};

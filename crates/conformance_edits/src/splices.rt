@@ -4,9 +4,13 @@ ghost use Rattle.std.specs.Prelude.{◌≡◌, ◌<◌, ◌≤◌, ◌^◌, leng
 ghost use Rattle.std.specs.List.{All};
 ghost use Rattle.vtd_edits.specs.Splices.{IsWithin};
 
+use crate::files::{compare_written, write_saved};
 use std::alloc::{AllocError, Global};
 use vtd_edits::{Edits, Splice, Splices, StageFault, spliced};
 use xml_model::Bytes;
+
+/// The longest text that a word stands for.
+const LONGEST: u32 = 200_000;
 
 /// A text as bytes.
 fn bytes_of(alloc: Global, text: &str) -> Result<Bytes, AllocError> {
@@ -47,12 +51,37 @@ fn replacement(
     }
 }
 
+/// The insertion of so many letters that is written as `AT*COUNT`, where it is within a length.
+fn long_insertion(
+    alloc: Global,
+    len: u32,
+    at: &str,
+    count: &str,
+) -> Result<Option<Splice>, AllocError>
+    ensures { IfOk result (λ o. IfSome o (IsWithin len)) }
+{
+    let mut held = Vec::new(alloc);
+    for _ in 0..count.parse::<u32>().unwrap_or(0).min(LONGEST) {
+        held.push(b'x')?;
+    }
+    match at.parse::<u32>() {
+        Ok(at) if at <= len => Ok(Some(Splice::Insert {
+            at,
+            text: Bytes { held },
+        })),
+        _ => Ok(None),
+    }
+}
+
 /// The splice that a word writes.
 fn splice_in(alloc: Global, len: u32, word: &str) -> Result<Option<Splice>, AllocError>
     ensures { IfOk result (λ o. IfSome o (IsWithin len)) }
 {
     if let Some((range, text)) = word.split_once("=") {
         return replacement(alloc, len, range, text);
+    }
+    if let Some((at, count)) = word.split_once("*") {
+        return long_insertion(alloc, len, at, count);
     }
     match word.split_once("+") {
         Some((at, text)) => insertion(alloc, len, at, text),
@@ -116,6 +145,34 @@ fn cut(out: &mut String, edits: &mut Edits, count: &str) -> Result<(), AllocErro
     }
 }
 
+/// Writes the new bytes to a file, as a word asks: `saveK:P` where call K fails, or `sameP` to compare the file with
+/// the new bytes; a call moves P bytes at most.
+fn save(
+    alloc: Global,
+    out: &mut String,
+    document: &[u8],
+    edits: &Edits,
+    word: &str,
+) -> Result<(), AllocError>
+    requires { length document.now ≡ edits.now.len }
+{
+    if let Some(piece) = word.strip_prefix("same") {
+        let piece = piece.parse::<usize>().unwrap_or(1).max(1);
+        return compare_written(alloc, out, document, edits, piece);
+    }
+    match word
+        .strip_prefix("save")
+        .and_then(|plan| plan.split_once(":"))
+    {
+        Some((failing, piece)) => {
+            let failing = failing.parse::<u32>().unwrap_or(0);
+            let piece = piece.parse::<usize>().unwrap_or(1).max(1);
+            write_saved(alloc, out, document, edits, failing, piece)
+        }
+        None => out.push_str("no such word;"),
+    }
+}
+
 /// Carries a word out that writes no splice.
 fn carry_out(
     alloc: Global,
@@ -135,7 +192,7 @@ fn carry_out(
         }
         _ => match word.strip_prefix("cut") {
             Some(count) => cut(out, edits, count),
-            None => out.push_str("no such word;"),
+            None => save(alloc, out, document, edits, word),
         },
     }
 }

@@ -15,7 +15,7 @@ use xml_model::{Axis, NameTest, Node, NodeTest};
 use xpath_axes::{axis, axis_iter};
 
 /// The axis of a name.
-fn axis_of(name: &str) -> Option<Axis> {
+pub fn axis_of(name: &str) -> Option<Axis> {
     match name {
         "child" => Some(Axis::Child),
         "descendant" => Some(Axis::Descendant),
@@ -46,7 +46,7 @@ fn name_test(text: &str) -> NameTest<'_> {
 }
 
 /// The node test of a text.
-fn test_of(text: &str) -> NodeTest<'_> {
+pub fn test_of(text: &str) -> NodeTest<'_> {
     match text {
         "node()" => NodeTest::Node,
         "text()" => NodeTest::Text,

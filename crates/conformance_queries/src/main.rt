@@ -1,10 +1,11 @@
-//! The nodes on the axes of nodes of documents, as tables in files: inputs and answers are those of the standards,
-//! worked out by hand. The program reads each file that its words name, asks every row, and prints the rows that answer
-//! otherwise and how many rows there were.
+//! The nodes on the axes of nodes of documents, and of lists of nodes, as tables in files: inputs and answers are those
+//! of the standards, worked out by hand. The program reads each file that its words name, asks every row, and prints
+//! the rows that answer otherwise and how many rows there were.
 #![tactic(auto)]
 
 mod axes;
 mod doors;
+mod steps;
 
 use std::{env, fs, io};
 use tables::walk;

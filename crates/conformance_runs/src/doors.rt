@@ -21,6 +21,7 @@ impl Answers for Doors {
             "runs" => runs::answer(alloc, &mut out, words, given, input)?,
             "feeds" => runs::answer_feeds(alloc, &mut out, words, given, input)?,
             "changed" => runs::answer_changed(alloc, &mut out, words, given, input)?,
+            "files" => runs::answer_files(alloc, &mut out, words, given, input)?,
             "faults" => faults::answer(alloc, &mut out, words, given, input)?,
             _ => out.push_str("no such table")?,
         }

@@ -29,19 +29,32 @@ fn is_fault(status: Status) -> bool {
     }
 }
 
-/// Whether a run took a prefix of what a whole one takes, and left the file.
+/// Whether a file is not there, or holds a prefix of what it holds after a whole run.
+fn is_front(left: &Left, whole: &Left, name: &str) -> bool {
+    match (left.files.bytes_of(name), whole.files.bytes_of(name)) {
+        (None, _) => true,
+        (Some(bytes), Some(all)) => all.starts_with(bytes),
+        (Some(_), None) => false,
+    }
+}
+
+/// Whether a run took a prefix of what a whole one takes, left the document, and wrote of a file `f` a prefix at most.
 fn is_prefix(left: &Left, whole: &Left, doc: &[u8]) -> bool {
     whole.out.taken().starts_with(left.out.taken())
         && whole.err.taken().starts_with(left.err.taken())
         && left.files.bytes_of("doc") == Some(doc)
+        && is_front(left, whole, "f")
 }
 
-/// The number of a status, and how many bytes were sent.
+/// The number of a status, how many bytes were sent, and how many the file `f` has, where it is there.
 fn write_end(out: &mut String, left: &Left, whole: &Left, doc: &[u8]) -> Result<(), AllocError> {
     let number = left.status.number();
     let printed = left.out.taken().len();
     let said = left.err.taken().len();
     write!(out, "{number}:{}", printed.saturating_add(said))?;
+    if let Some(bytes) = left.files.bytes_of("f") {
+        write!(out, ":{}", bytes.len())?;
+    }
     if !is_prefix(left, whole, doc) {
         out.push_str("?")?;
     }

@@ -1,6 +1,6 @@
 //! Runs over objects in memory, and what they leave.
 
-ghost use Rattle.std.specs.Prelude.{◌<◌};
+ghost use Rattle.std.specs.Prelude.{◌≡◌, ◌<◌, None, IfOk};
 
 use memchr::memchr;
 use std::alloc::{AllocError, Global};
@@ -47,6 +47,12 @@ pub struct Left {
 /// Room for what a run writes.
 const ROOM: u64 = 65_536;
 
+/// The bytes of the file `g`.
+const OTHER: &[u8] = b"<g><h/></g>";
+
+/// The bytes of the file `bad`, which is no document.
+const BAD: &[u8] = b"<g></h>";
+
 /// The numbers of the calls of an object that fail.
 fn failing_of(alloc: Global, plan: Plan, object: Object) -> Result<Vec<u32>, AllocError> {
     match plan.failing {
@@ -76,7 +82,28 @@ fn sink_of(alloc: Global, plan: Plan, object: Object) -> Result<MemorySink, Allo
     }
 }
 
-/// Runs over one file, `doc`, with these bytes.
+/// The file `doc` with these bytes, the files `g` and `bad`, and room for a file `f`.
+fn files_of(alloc: Global, doc: &[u8], plan: Plan) -> Result<MemoryFiles, AllocError>
+    ensures { IfOk result (λ files. files.writing ≡ None) }
+{
+    let failing = failing_of(alloc, plan, Object::Files)?;
+    let mut files = MemoryFiles::new(alloc, failing, plan.piece);
+    if files.put("doc", doc.to_vec(alloc)?).is_err() {
+        return Err(AllocError);
+    }
+    if files.put("g", OTHER.to_vec(alloc)?).is_err() {
+        return Err(AllocError);
+    }
+    if files.put("bad", BAD.to_vec(alloc)?).is_err() {
+        return Err(AllocError);
+    }
+    match files.prepare("f", ROOM) {
+        Ok(()) => Ok(files),
+        Err(NoMemory) => Err(AllocError),
+    }
+}
+
+/// Runs over the file `doc` with these bytes, beside those of `files_of`.
 pub fn run_over(
     alloc: Global,
     words: &str,
@@ -85,11 +112,7 @@ pub fn run_over(
     plan: Plan,
 ) -> Result<Left, AllocError> {
     let words = words_in(alloc, words)?;
-    let failing = failing_of(alloc, plan, Object::Files)?;
-    let mut files = MemoryFiles::new(alloc, failing, plan.piece);
-    if files.put("doc", doc.to_vec(alloc)?).is_err() {
-        return Err(AllocError);
-    }
+    let mut files = files_of(alloc, doc, plan)?;
     let failing = failing_of(alloc, plan, Object::Script)?;
     let mut script = MemorySource::new(script, failing, plan.piece);
     let mut out = sink_of(alloc, plan, Object::Out)?;
@@ -139,6 +162,29 @@ pub fn answer(
 ) -> Result<(), AllocError> {
     let left = run_over(alloc, words, doc, script.to_vec(alloc)?, plain(7))?;
     write_left(out, &left)
+}
+
+/// A file where it is there, after a mark.
+fn write_file(out: &mut String, left: &Left, name: &str) -> Result<(), AllocError> {
+    if let Some(bytes) = left.files.bytes_of(name) {
+        let text = str::from_utf8(bytes).unwrap_or("?");
+        write!(out, " | {name} {text}")?;
+    }
+    Ok(())
+}
+
+/// What a script leaves, with the files `doc` and `f`.
+pub fn answer_files(
+    alloc: Global,
+    out: &mut String,
+    words: &str,
+    doc: &[u8],
+    script: &[u8],
+) -> Result<(), AllocError> {
+    let left = run_over(alloc, words, doc, script.to_vec(alloc)?, plain(7))?;
+    write_left(out, &left)?;
+    write_file(out, &left, "doc")?;
+    write_file(out, &left, "f")
 }
 
 /// So many line feeds.

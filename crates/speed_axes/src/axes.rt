@@ -3,6 +3,7 @@
 ghost use Rattle.std.specs.Prelude.{◌<◌, ◌^◌};
 ghost use Rattle.vtd_words.specs.Table.{IsNodeOf};
 
+use crate::steps;
 use std::io;
 use std::rt::Clock;
 use std::time::Instant;
@@ -100,9 +101,10 @@ pub fn time<R: Clock + Print + Eprint + AllocGlobal>(rt: &R, bytes: Vec<u8>) -> 
         Ok(doc) => {
             let nav = doc.nav();
             match nav.table().node_at(0) {
-                Some(root) => time_all(rt, &nav, root),
-                None => Ok(()),
+                Some(root) => time_all(rt, &nav, root)?,
+                None => (),
             }
+            steps::time(rt, nav.table())
         }
         Err(_) => eprintln!(rt; "refused"),
     }

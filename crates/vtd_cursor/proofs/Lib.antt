@@ -11,3 +11,8 @@ pub mod AxisEnds
 pub mod Families
 pub mod MoveLemmas
 pub mod CursorLemmas
+pub mod SlotLemmas
+pub mod Reaching
+pub mod PassLemmas
+pub mod PassSteps
+pub mod ElementLists

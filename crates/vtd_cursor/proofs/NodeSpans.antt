@@ -7,7 +7,7 @@ use Rattle.xml_model.specs.declared.Kind.TheVariants as kinds
 use Rattle.xml_model.specs.Items.{Leaf, written_pieces, first_place}
 use Rattle.xml_model.specs.Nest.{Forest}
 use Rattle.xml_model.specs.Chars.{size}
-use Rattle.xml_model.specs.Records.{Record, cut, cut_records, full_cuts, leaf_records, declares, named, plain, records, run_records, tag_records, forest_records, past_leaf, past_run, past_start}
+use Rattle.xml_model.specs.Records.{Record, cut, cut_records, full_cuts, leaf_records, declares, named, records, run_records, tag_records, forest_records, past_leaf, past_run, past_start}
 use Rattle.xml_model.specs.Tree.{Thing, Entry, Identifies, all, kind_of, is_text}
 use Rattle.xml_model.specs.Scan.{record_at}
 use Rattle.xml_model.specs.Laws.{HasRecords, records_of}

@@ -2,7 +2,6 @@
 use Rattle.std.proofs.Common.{◌≡◌, ℕ, suc, ◌+◌, ◌-◌, ◌<◌, Bool, true, false, not, List, refl, ap, sym, ◌∙◌, subst, arith}
 use Rattle.std.specs.Str.{IsUtf8}
 use Rattle.std.proofs.lemmas.Bool.{false≢true}
-use Rattle.std.proofs.lemmas.Str.{IsUtf8-drop}
 use Rattle.xml_model.specs.Items.{Tag, Item, end_tag, begins_at}
 use Rattle.xml_model.specs.Records.{Record}
 use Rattle.xml_model.specs.Tree.{one_if}
@@ -16,7 +15,6 @@ use Rattle.xml_items.specs.Reading.{tag_item}
 use Rattle.xml_items.specs.Shown.{item_shown, tag_kind, IsItemAt}
 use Rattle.xml_items.proofs.OneItem.{one_item}
 use Rattle.vtd_cursor.specs.Endings.{ends_tag, is_tag_item, EndTagAt, EndTags, HasTagAt, IsTagOf, IsLastPiece, in_leaf, in_tag, IsEnding}
-use Rattle.vtd_cursor.proofs.TagPlaces.{tag_place}
 
 -- an item found at a place is the one that begins there
 pub item_is : (bytes : List ℕ) (at : ℕ) (found : ItemShown) (i : Item) → IsUtf8 bytes → HasTagAt bytes at → IsItemAt bytes at found → begins_at bytes at i ≡ true → found ≡ item_shown at i

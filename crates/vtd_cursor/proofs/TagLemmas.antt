@@ -2,7 +2,6 @@
 use Rattle.std.proofs.Common.{◌≡◌, ℕ, suc, ◌+◌, ◌-◌, ◌<◌, ◌^◌, Bool, true, false, List, ◌++◌, length, refl, ap, sym, ◌∙◌, subst, arith, length-append}
 use Rattle.std.specs.Str.{IsUtf8}
 use Rattle.std.proofs.lemmas.Bool.{false≢true, false_from_ne_true}
-use Rattle.std.proofs.lemmas.Str.{IsUtf8-drop}
 use Rattle.xml_model.specs.declared.Kind.{Kind}
 use Rattle.xml_model.specs.declared.Kind.TheVariants as kinds
 use Rattle.xml_model.specs.declared.Node.{Node}
@@ -36,9 +35,8 @@ use Rattle.vtd_cursor.proofs.Closing.{Closes, ClosesIn, ElementCloses, by_itself
 use Rattle.vtd_cursor.proofs.LastPieces.{inside_ending, start_spelled, empty_spelled}
 use Rattle.xml_model.proofs.Inside.{in_place}
 use Rattle.vtd_cursor.proofs.NodeSpans.{first_in, NodeShown, node_shown}
-use Rattle.vtd_cursor.proofs.PieceLemmas.{tag_there, FindsTag, empty_kind, start_kind, tag_kind_of}
+use Rattle.vtd_cursor.proofs.PieceLemmas.{FindsTag, empty_kind, start_kind, tag_kind_of}
 use Rattle.vtd_cursor.proofs.SpanLemmas.{PastOf}
-use Rattle.vtd_cursor.proofs.TagPlaces.{tag_place}
 
 -- what the first record of an element and the bytes say of its tags
 pub record TagsShown (bytes : List ℕ) (rs : List Record) (t : Tag) (inside : Forest) (l start stop place past : ℕ) : Type 0 where

@@ -129,13 +129,13 @@ pub fn after_end_tags(bytes: &[u8], from: u32, count: u32) -> u32
 
 /// Where a piece ends, and how many elements are open there.
 #[derive(Clone, Copy)]
-struct LastPiece {
-    end: u32,
-    opened: u32,
+pub struct LastPiece {
+    pub end: u32,
+    pub opened: u32,
 }
 
 /// The piece whose last record has an index.
-fn last_piece<W: Words>(bytes: &[u8], words: &W, last: u32) -> LastPiece
+pub fn last_piece<W: Words>(bytes: &[u8], words: &W, last: u32) -> LastPiece
     requires utf8 { IsUtf8 bytes.now }
     requires few { length bytes.now < 2 ^ 30 }
     requires within { last < length (list_of Part.Records (W.lists words.now)) }

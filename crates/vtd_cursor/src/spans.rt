@@ -30,7 +30,7 @@ pub struct Tags {
 }
 
 /// Where a node begins that is not the root.
-fn node_start<W: Words>(table: &Table<'_, W>, node: Node) -> u32
+pub fn node_start<W: Words>(table: &Table<'_, W>, node: Node) -> u32
     requires node { IsNodeOf table.now.bytes (W.lists table.now.words) node }
     requires below { node.kind ≡ Kind.Root → ⊥ }
     ensures { ForEachEntry table.now.bytes (W.lists table.now.words) node (λ nest e. result ≡ e.start) }

@@ -161,8 +161,8 @@ impl Edits {
         self.len + self.text - self.taken
     }
 
-    /// How many splices there are in the order of the bytes.
-    pub(crate) fn turns(&self) -> usize
+    /// How many splices there are in the order of the bytes, which are as many as are staged.
+    pub fn turns(&self) -> usize
         ensures value { result ≡ length self.now.splices }
         ensures few { length self.now.splices < 2 ^ 32 }
         ensures edits { AreEdits self.now }
@@ -170,8 +170,9 @@ impl Edits {
         self.order.len()
     }
 
-    /// The splice with an index in the order of the bytes.
-    pub(crate) fn splice(&self, i: usize) -> &Splice
+    /// The splice with an index in the order of the bytes: by where it starts, an insertion before an empty range before
+    /// another range, and then in staging order.
+    pub fn splice(&self, i: usize) -> &Splice
         requires { i < length self.now.splices }
         ensures { result.now ≡ splice_at (in_order self.now.splices) i }
     {

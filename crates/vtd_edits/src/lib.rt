@@ -8,4 +8,4 @@ mod staging;
 
 pub use edits::Edits;
 pub use splice::{Splice, Splices, StageFault};
-pub use splicing::spliced;
+pub use splicing::{Turn, rest_of, spliced, turn_of};

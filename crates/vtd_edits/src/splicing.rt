@@ -10,16 +10,18 @@ use xml_model::NoMemory;
 
 /// What one splice gives the new bytes.
 #[derive(Clone, Copy)]
-struct Turn<'a> {
+pub struct Turn<'a> {
     /// The old bytes from where the splice before it ends up to where it starts.
-    kept: &'a [u8],
-    text: &'a [u8],
-    /// Where it ends.
-    end: u32,
+    pub kept: &'a [u8],
+    /// Its text, which comes after them.
+    pub text: &'a [u8],
+    /// Where it ends in the old bytes.
+    pub end: u32,
 }
 
-/// What a splice gives the new bytes, where the one before it ended at `done`.
-fn turn_of<'a>(splice: &'a Splice, bytes: &'a [u8], done: u32) -> Turn<'a>
+/// What a splice gives the new bytes, where the one before it in the order of the bytes ended at `done`. The splices of
+/// edits, taken in that order, and then the bytes from where the last one ends (`rest_of`) give all new bytes.
+pub fn turn_of<'a>(splice: &'a Splice, bytes: &'a [u8], done: u32) -> Turn<'a>
     requires after { done ≤ start_of splice.now }
     requires within { start_of splice.now ≤ length bytes.now }
     ensures kept { result.kept.now ≡ take (start_of splice.now - done) (drop done bytes.now) }
@@ -35,7 +37,7 @@ fn turn_of<'a>(splice: &'a Splice, bytes: &'a [u8], done: u32) -> Turn<'a>
 }
 
 /// The bytes from a place on.
-fn rest_of(bytes: &[u8], done: u32) -> &[u8]
+pub fn rest_of(bytes: &[u8], done: u32) -> &[u8]
     requires { done ≤ length bytes.now }
     ensures { result.now ≡ drop done bytes.now }
 {

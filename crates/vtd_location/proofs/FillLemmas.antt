@@ -1,12 +1,12 @@
 -- Levels that are filled, one starting tag after another.
-use Rattle.std.proofs.Common.{inl, inr, ◌≡◌, ℕ, zero, suc, ◌+◌, ◌-◌, ◌<◌, ◌≤◌, ◌^◌, Bool, true, false, cond, ◌&&◌, ◌==◌, List, [], ◌∷◌, ◌++◌, length, drop, Option, Some, None, refl, ap, ap₂, sym, subst, ◌∙◌, arith, append_assoc, append-nil, add-one}
+use Rattle.std.proofs.Common.{inl, inr, ◌≡◌, ℕ, suc, ◌+◌, ◌-◌, ◌<◌, ◌≤◌, ◌^◌, Bool, true, false, cond, ◌&&◌, ◌==◌, List, [], ◌∷◌, ◌++◌, length, drop, Option, Some, None, refl, ap, ap₂, sym, subst, ◌∙◌, arith, append_assoc, append-nil}
 use Rattle.std.proofs.lemmas.Bool.Decides.{nat_tests}
 use Rattle.std.proofs.lemmas.Bool.{cases_Bool, eqb-true}
 use Rattle.std.proofs.lemmas.List.{length-append, drop_all}
 use Rattle.xml_model.specs.Records.{Record}
 use Rattle.xml_model.specs.Scan.{record_at}
 use Rattle.xml_model.specs.Levels.{is_tag, level_word, no_child, tags_from, levels}
-use Rattle.xml_model.specs.LevelScan.{child_of, is_tag_of, count_in, level_from}
+use Rattle.xml_model.specs.LevelScan.{child_of, count_in, level_from}
 use Rattle.xml_model.proofs.LevelScan.{by_scan}
 use Rattle.xml_model.proofs.ScanSteps.{from_index}
 use Rattle.xml_model.proofs.TagCounts.{count_within}

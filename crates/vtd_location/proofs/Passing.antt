@@ -1,15 +1,15 @@
 -- One step of a comparison of levels, and its end.
-use Rattle.std.proofs.Common.{◌≡◌, ℕ, suc, ◌+◌, ◌<◌, ◌≤◌, Bool, true, false, cond, ◌&&◌, ◌==◌, nat_lt, List, [], ◌∷◌, length, drop, slice_index, Option, Some, None, refl, ap, sym, ◌∙◌, arith, drop-cons, inl, inr, ◌⊎◌, map, ap₂, subst}
+use Rattle.std.proofs.Common.{◌≡◌, ℕ, suc, ◌+◌, ◌<◌, ◌≤◌, Bool, true, false, cond, ◌&&◌, ◌==◌, nat_lt, List, [], ◌∷◌, length, drop, slice_index, Option, Some, None, refl, ap, sym, ◌∙◌, arith, drop-cons, inl, inr, ◌⊎◌, ap₂, subst}
 use Rattle.std.proofs.lemmas.Bool.Decides.{nat_tests}
 use Rattle.std.proofs.lemmas.Bool.{cases_eq}
 use Rattle.std.proofs.lemmas.List.{drop_all}
 use Rattle.xml_model.specs.Records.{Record}
-use Rattle.xml_model.specs.Levels.{Levels, level_word, no_child, is_tag, record_level, tags_from, levels}
+use Rattle.xml_model.specs.Levels.{Levels, no_child, is_tag, levels}
 use Rattle.xml_model.specs.LevelScan.{child_of, level_from}
 use Rattle.xml_model.specs.Scan.{record_at}
 use Rattle.xml_model.proofs.LevelScan.{by_scan}
 use Rattle.xml_model.proofs.ScanSteps.{from_index}
-use Rattle.vtd_words.specs.Table.{Shows, ArePartsAt}
+use Rattle.vtd_words.specs.Table.{ArePartsAt}
 use Rattle.vtd_words.specs.Packed.{record_of}
 use Rattle.vtd_words.specs.declared.packing.Parts.{Parts}
 use Rattle.vtd_words.proofs.Shown.{shown_length}
@@ -80,10 +80,10 @@ pub passed_other_last : (stored : List ℕ) (k : ℕ) (s : Scan) (at next : ℕ)
 passed_other_last stored k s at next r ws e t = rw (e, t) refl
 
 -- one record on
-scanned : (stored : List ℕ) (k n : ℕ) (s t : Scan) (r : Record) (rs : List Record) (o : Option ℕ) → n < length rs → r ≡ record_at n rs → PassesOn k stored s n r t → value_of stored k s n (drop n rs) ≡ o → value_of stored k t (n + 1) (drop (n + 1) rs) ≡ o
+pub scanned : (stored : List ℕ) (k n : ℕ) (s t : Scan) (r : Record) (rs : List Record) (o : Option ℕ) → n < length rs → r ≡ record_at n rs → PassesOn k stored s n r t → value_of stored k s n (drop n rs) ≡ o → value_of stored k t (n + 1) (drop (n + 1) rs) ≡ o
 scanned stored k n s t r rs o within e p v = p (drop (n + 1) rs) ∙ sym (ap (value_of stored k s n) (from_index rs n within ∙ ap (λ (x : Record). x ∷ drop (n + 1) rs) (sym e))) ∙ v
 
-scanned_last : (stored : List ℕ) (k n : ℕ) (s t : Scan) (r : Record) (rs : List Record) (o : Option ℕ) → n < length rs → r ≡ record_at n rs → PassesOnLast k stored s n r t → last_of stored k s n (drop n rs) ≡ o → last_of stored k t (n + 1) (drop (n + 1) rs) ≡ o
+pub scanned_last : (stored : List ℕ) (k n : ℕ) (s t : Scan) (r : Record) (rs : List Record) (o : Option ℕ) → n < length rs → r ≡ record_at n rs → PassesOnLast k stored s n r t → last_of stored k s n (drop n rs) ≡ o → last_of stored k t (n + 1) (drop (n + 1) rs) ≡ o
 scanned_last stored k n s t r rs o within e p v = p (drop (n + 1) rs) ∙ sym (ap (last_of stored k s n) (from_index rs n within ∙ ap (λ (x : Record). x ∷ drop (n + 1) rs) (sym e))) ∙ v
 
 pub scanning_on : (stored : Levels) (records : List ℕ) (l t : Lanes) (n : ℕ) (parts : Parts) → n < length records → ArePartsAt records n parts → LanesTo t (n + 1) →
@@ -136,10 +136,10 @@ first_scan stored records l s e f =
     zero_to = record { settled = omega arith; deeper = omega arith }
 
 -- after the last record
-end_is : (stored : List ℕ) (k : ℕ) (s : Scan) (n : ℕ) (rs : List Record) → length rs ≤ n → value_of stored k s n (drop n rs) ≡ end_of stored s
+pub end_is : (stored : List ℕ) (k : ℕ) (s : Scan) (n : ℕ) (rs : List Record) → length rs ≤ n → value_of stored k s n (drop n rs) ≡ end_of stored s
 end_is stored k s n rs past = rw (drop_all n rs past) refl
 
-last_end : (stored : List ℕ) (k : ℕ) (s : Scan) (n : ℕ) (rs : List Record) → length rs ≤ n → s.waiting ≡ None → last_of stored k s n (drop n rs) ≡ end_of stored s
+pub last_end : (stored : List ℕ) (k : ℕ) (s : Scan) (n : ℕ) (rs : List Record) → length rs ≤ n → s.waiting ≡ None → last_of stored k s n (drop n rs) ≡ end_of stored s
 last_end stored k s n rs past e = rw (drop_all n rs past, e) refl
 
 -- all levels are compared
@@ -154,7 +154,7 @@ compared stored l n rs s w past =
     rw (one, two, three, four, five) refl
 
 -- lists that do not differ are the same
-same_list : (n : ℕ) (xs ys : List ℕ) → differ n xs ys ≡ None → xs ≡ ys
+pub same_list : (n : ℕ) (xs ys : List ℕ) → differ n xs ys ≡ None → xs ≡ ys
 same_list n [] [] h = refl
 same_list n [] (y ∷ ys) h = absurd cc
 same_list n (x ∷ xs) [] h = absurd cc
@@ -170,7 +170,7 @@ same_list n (x ∷ xs) (y ∷ ys) h = by (cases_eq x y) (λ r. same_list (suc n)
         let none : Some n ≡ None = sym (ap (λ (b : Bool). cond b (differ (suc n) xs ys) (Some n)) t) ∙ h in
         absurd cc
 
-or_none : (level : ℕ) (o : Option ℕ) (other : Option CacheDiff) → or_differ level o other ≡ None → (o ≡ None) × (other ≡ None)
+pub or_none : (level : ℕ) (o : Option ℕ) (other : Option CacheDiff) → or_differ level o other ≡ None → (o ≡ None) × (other ≡ None)
 or_none level None other h = (refl, h)
 or_none level (Some at) other h = absurd cc
 

@@ -4,7 +4,7 @@ use Rattle.std.specs.Prelude.{[], ◌∷◌, ◌++◌, length, drop, Option, Som
 use Rattle.xml_model.specs.Records.{Record}
 use Rattle.xml_model.specs.Levels.{no_child, tags_from}
 use Rattle.xml_model.specs.LevelScan.{level_from}
-use Rattle.vtd_words.specs.Lists.{Lists, Room, Growing}
+use Rattle.vtd_words.specs.Lists.{Lists, Growing}
 use Rattle.vtd_words.specs.Table.{Shows}
 use Rattle.vtd_location.specs.Scanning.{entry_word, left_of}
 use Rattle.vtd_location.specs.declared.filling.Waiting.{Waiting}

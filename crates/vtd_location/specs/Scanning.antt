@@ -1,5 +1,5 @@
 -- What private functions promise: levels that are compared with stored ones, by one scan of the records.
-use Rattle.std.specs.Prelude.{◌≡◌, ℕ, suc, ◌+◌, ◌≤◌, Bool, cond, ◌&&◌, ◌==◌, nat_lt, List}
+use Rattle.std.specs.Prelude.{◌≡◌, ℕ, ◌+◌, ◌≤◌, Bool, ◌&&◌, ◌==◌, nat_lt, List}
 use Rattle.std.specs.Prelude.{[], ◌∷◌, length, drop, slice_index, Option, Some, None}
 use Rattle.xml_model.specs.Records.{Record}
 use Rattle.xml_model.specs.Levels.{Levels, level_word, no_child, tags_from}

@@ -16,7 +16,7 @@ use vtd_words::{Part, Parts, Words, parts_at};
 use xml_model::TokenKind;
 
 /// The number of starting tags' records.
-const START_TAG: u8 = TokenKind::StartTag as u8;
+pub const START_TAG: u8 = TokenKind::StartTag as u8;
 
 /// What is written where there is no child.
 const NO_CHILD: u64 = 0xffff_ffff;
@@ -51,7 +51,7 @@ fn is_stored<W: Words>(words: &W, part: Part, at: u32, word: u64) -> bool
 
 /// How far a level is compared.
 #[derive(Clone, Copy)]
-struct Scan {
+pub struct Scan {
     /// How many entries are the stored ones.
     settled: u32,
     /// How many tags of the next level were met.
@@ -63,7 +63,7 @@ struct Scan {
 }
 
 /// A scan at the first record.
-const START: Scan = Scan {
+pub const START: Scan = Scan {
     settled: 0,
     deeper: 0,
     waiting: None,
@@ -128,7 +128,7 @@ fn settle<W: Words>(stored: &W, part: Part, scan: Scan, child: u64) -> Scan
 }
 
 /// Compares on over a starting tag.
-fn pass<W: Words>(stored: &W, part: Part, level: u8, at: u32, parts: Parts, scan: Scan) -> Scan
+pub fn pass<W: Words>(stored: &W, part: Part, level: u8, at: u32, parts: Parts, scan: Scan) -> Scan
     requires level { level < 2 ^ 7 }
     requires few { at < 2 ^ 32 - 1 }
     requires tag { parts.token ≡ 0 }
@@ -154,7 +154,7 @@ fn pass<W: Words>(stored: &W, part: Part, level: u8, at: u32, parts: Parts, scan
 }
 
 /// Compares on over a starting tag, in a last level, whose entries are records alone.
-fn pass_last<W: Words>(stored: &W, level: u8, at: u32, parts: Parts, scan: Scan) -> Scan
+pub fn pass_last<W: Words>(stored: &W, level: u8, at: u32, parts: Parts, scan: Scan) -> Scan
     requires few { at < 2 ^ 32 - 1 }
     requires tag { parts.token ≡ 0 }
     requires settled { scan.settled ≤ at }
@@ -172,7 +172,7 @@ fn pass_last<W: Words>(stored: &W, level: u8, at: u32, parts: Parts, scan: Scan)
 }
 
 /// What is left after the last record: the entry that waits, and what is stored beyond it.
-fn finish<W: Words>(stored: &W, part: Part, scan: Scan) -> Option<u32>
+pub fn finish<W: Words>(stored: &W, part: Part, scan: Scan) -> Option<u32>
     requires { scan.settled < 2 ^ 32 - 1 }
     ensures { result ≡ found_or (list_of part (W.lists stored.now)) scan.found scan.settled
         (with_entry scan.waiting no_child []) }

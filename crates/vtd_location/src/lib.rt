@@ -3,16 +3,21 @@
 #![tactic(auto)]
 
 ghost use Rattle.std.specs.Prelude.{◌≡◌, List, ℕ};
+ghost use Rattle.vtd_location.specs.Children.{IsLeveled};
 ghost use Rattle.vtd_location.specs.Nav.{IsNav};
 
 use std::marker::Model;
 use vtd_words::{Meter, Table, Words};
 
 mod checking;
+mod checking_one;
+mod children;
 mod filling;
 pub mod laws;
 
 pub use checking::{CacheDiff, check_levels};
+pub use checking_one::check_levels_one;
+pub use children::{Children, child_elements};
 pub use filling::{count_levels, fill_levels};
 
 /// A document with its records and levels, of which it is known that no check of a document refuses it.
@@ -54,6 +59,7 @@ impl<'a, W: Words> Nav<'a, W> {
         ensures lists { result.lists ≡ W.lists self.now.words }
         ensures reads { result.reads ≡ 0 }
         ensures nav { IsNav self.now.bytes result.lists }
+        ensures leveled { IsLeveled result.lists }
     {
         Meter::over(self.table.words())
     }

@@ -1,3 +1,5 @@
+pub mod Activities
+pub mod Adds
 pub mod Causes
 pub mod Gathers
 pub mod Held

@@ -1,7 +1,7 @@
 -- What one call does to bytes that are known. An object says its bytes (`Some`) or not (`None`), and no call changes
 -- which of the two it is. This project's own.
 use Rattle.std.specs.Prelude.{◌≡◌, ℕ, ◌≤◌, ◌<◌, List, [], ◌++◌, length, take, drop, Option, Some, None, Result, Ok, Err}
-use Rattle.std.specs.Prelude.{IsSome, option_map}
+use Rattle.std.specs.Prelude.{IsSome, option_map, Bool, cond, bytes_eq}
 
 -- from names, as the bytes of their text, to the bytes of the files of these names
 abbrev pub NameMap : Type 0
@@ -11,6 +11,18 @@ NameMap = List ℕ → Option (List ℕ)
 pub record OpenFile : Type 0 where
   pub name : List ℕ
   pub rest : List ℕ
+
+-- Files as contracts see them: which names are there and the bytes of each, where that is known; the file being read
+-- and the name of the file being written, where that is known; whether one is being read or written; and the two
+-- counts of faults.
+pub record SeenFiles : Type 0 where
+  pub contents : Option NameMap
+  pub opened : Option OpenFile
+  pub writing : Option (List ℕ)
+  pub is_reading : Bool
+  pub is_writing : Bool
+  pub missed : ℕ
+  pub proper : ℕ
 
 -- n bytes of `rest` were put into the start of a buffer, and taken. None come only at the end, or for an empty buffer
 pub record ReadsPrefix (rest left old new : List ℕ) (n : ℕ) : Type 0 where
@@ -54,3 +66,31 @@ ReadsFile (Some file) (Some after) old new (Ok n) = (after.name ≡ file.name)
 ReadsFile (Some file) None old new (Err e) = Unit {0}
 ReadsFile (Some file) None old new (Ok n) = ⊥
 ReadsFile (Some file) (Some after) old new (Err e) = ⊥
+
+-- what is there after the file of that name holds these bytes: every other file stays
+abbrev pub put_into : NameMap → List ℕ → List ℕ → NameMap
+put_into contents name bytes other = cond (bytes_eq name other) (Some bytes) (contents other)
+
+-- A file begins to be written: it is there and empty, and every other file stays. After a failure all stay.
+abbrev pub BeginsWrite : {T E : Type 0} → Option NameMap → Option NameMap → List ℕ → Option (List ℕ) → Result T E →
+    Type 0
+BeginsWrite None None name writing result = writing ≡ None
+BeginsWrite (Some before) (Some after) name writing (Ok x) = (after ≡ put_into before name []) × (writing ≡ Some name)
+BeginsWrite (Some before) (Some after) name writing (Err e) = after ≡ before
+BeginsWrite None (Some after) name writing result = ⊥
+BeginsWrite (Some before) None name writing result = ⊥
+
+-- These files are there but for the file being written, of that name, which holds these bytes.
+pub record Holds (files : SeenFiles) (base : NameMap) (name held : List ℕ) : Type 0 where
+  pub contents_are : files.contents ≡ Some (put_into base name held)
+  pub named : files.writing ≡ Some name
+
+-- how many bytes a call took; one that failed takes none
+abbrev pub count_taken : {E : Type 0} → Result ℕ E → ℕ
+count_taken (Ok n) = n
+count_taken (Err e) = 0
+
+-- an appending of `bytes`, the first n of which were added to the file being written, whatever the others are
+abbrev pub Appends : SeenFiles → Option NameMap → List ℕ → ℕ → Type 0
+Appends before after bytes n = (base : NameMap) (name held : List ℕ) → Holds before base name held →
+    after ≡ Some (put_into base name (held ++ take n bytes))

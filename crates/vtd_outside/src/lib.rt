@@ -1,23 +1,27 @@
 //! What lies outside the program: where bytes come from, where they go, and files. Each is a trait with a count of
 //! faults, so that a caller can be proved to fail only where something outside really failed. Beside the traits are
 //! objects that hold all in memory, for tests and for whoever embeds the program, and the loops that take all bytes
-//! of a source or a file, or give all bytes to a sink.
+//! of a source or a file, or give all bytes to a sink or a file.
 //!
 //! What an object holds is known or not, and no call changes which of the two it is. Clauses on bytes hold where it is
 //! known: `left`, `taken` and `contents` are then `Some`.
 #![tactic(auto)]
 
+mod body;
 mod calls;
+mod file_list;
 mod gather;
 mod memory_files;
 mod memory_sink;
 mod memory_source;
 mod sending;
+mod writing;
 
-ghost use Rattle.std.specs.Prelude.{◌≡◌, ℕ, ◌<◌, ◌≤◌, Bool, true, false, List, Option, Some, None, length, IfOk, OnOk};
+ghost use Rattle.std.specs.Prelude.{◌≡◌, ℕ, ◌<◌, ◌≤◌, true, false, List, Option, None, length, IfOk, OnOk};
 ghost use Rattle.std.specs.Prelude.{OnErr, IsSome, is_some};
 ghost use Rattle.vtd_outside.specs.Causes.{HasCause, HasFileCause, is_missing};
-ghost use Rattle.vtd_outside.specs.Known.{NameMap, OpenFile, Reads, Takes, Begins, ReadsFile};
+ghost use Rattle.vtd_outside.specs.Known.{SeenFiles, Reads, Takes, Begins, ReadsFile, BeginsWrite};
+ghost use Rattle.vtd_outside.specs.Known.{Appends, count_taken};
 
 pub use gather::{gather_file, gather_source};
 pub use memory_files::MemoryFiles;
@@ -25,6 +29,7 @@ pub use memory_sink::MemorySink;
 pub use memory_source::MemorySource;
 pub use sending::send;
 use thiserror::Error;
+pub use writing::append_all;
 
 /// A call failed, and its object counted that.
 #[derive(Clone, Copy, Debug, PartialEq, Eq, Error)]
@@ -83,23 +88,14 @@ pub trait Sink {
         ensures cause { HasCause (faults self.old) (faults self.new) result };
 }
 
-/// Files by name, one of which may be read at a time.
+/// Files by name, one of which may be read or written at a time.
 ///
-/// `contents` says which names are there and the bytes of each, where that is known; `opened` is then the file being
-/// read. Whether a file is being read or written is known always. The count of faults is the sum of two that never
-/// fall: `missed` rises where a name is known not to be there, `proper` at every other fault.
+/// `seen` is what contracts see of them: `contents` says which names are there and the bytes of each, where that is
+/// known; `opened` is then the file being read, and `writing` the name of the file being written. Whether a file is
+/// being read or written is known always. The count of faults is the sum of two that never fall: `missed` rises where a
+/// name is known not to be there, `proper` at every other fault.
 pub trait Files {
-    ghost contents: { Self → Option NameMap };
-
-    ghost opened: { Self → Option OpenFile };
-
-    ghost is_reading: { Self → Bool };
-
-    ghost is_writing: { Self → Bool };
-
-    ghost missed: { Self → ℕ };
-
-    ghost proper: { Self → ℕ };
+    ghost seen: { Self → SeenFiles };
 
     /// Begins to read the file of that name from its start. The file read before is closed.
     ///
@@ -107,31 +103,76 @@ pub trait Files {
     /// `Failed` where the name is not there, and otherwise only where the proper count rose. No file is being read
     /// then.
     fn begin_read(&mut self, name: &str) -> Result<(), Failed>
-        requires { is_writing self.old ≡ false }
-        ensures begins { Begins (contents self.old) name.now (opened self.new) result }
-        ensures ok { OnOk result (is_reading self.new ≡ true) }
-        ensures err { OnErr result (is_reading self.new ≡ false) }
-        ensures files_stay { contents self.new ≡ contents self.old }
-        ensures writing_stays { is_writing self.new ≡ is_writing self.old }
-        ensures cause { HasFileCause (is_missing (contents self.old) name.now) (missed self.old) (missed self.new)
-            (proper self.old) (proper self.new) result };
+        requires { (seen self.old).is_writing ≡ false }
+        ensures begins { Begins (seen self.old).contents name.now (seen self.new).opened result }
+        ensures ok { OnOk result ((seen self.new).is_reading ≡ true) }
+        ensures err { OnErr result ((seen self.new).is_reading ≡ false) }
+        ensures files_stay { (seen self.new).contents ≡ (seen self.old).contents }
+        ensures writing_stays { (seen self.new).is_writing ≡ (seen self.old).is_writing }
+        ensures cause { HasFileCause (is_missing (seen self.old).contents name.now) (seen self.old).missed
+            (seen self.new).missed (seen self.old).proper (seen self.new).proper result };
 
     /// Reads on in the file being read, as `Source::read` does. The same file is then still being read.
     ///
     /// # Errors
     /// `Failed` only where the proper count rose in this call. No file is being read then.
     fn read(&mut self, into: &mut [u8]) -> Result<usize, Failed>
-        requires { is_reading self.old ≡ true }
+        requires { (seen self.old).is_reading ≡ true }
         ensures bound { IfOk result (λ n. n ≤ length into.old) }
-        ensures bytes { ReadsFile (opened self.old) (opened self.new) into.old into.new result }
-        ensures ok { OnOk result (is_reading self.new ≡ true) }
-        ensures err { OnErr result (is_reading self.new ≡ false) }
-        ensures files_stay { contents self.new ≡ contents self.old }
-        ensures writing_stays { is_writing self.new ≡ is_writing self.old }
-        ensures cause { HasFileCause false (missed self.old) (missed self.new) (proper self.old)
-            (proper self.new) result };
+        ensures bytes { ReadsFile (seen self.old).opened (seen self.new).opened into.old into.new result }
+        ensures ok { OnOk result ((seen self.new).is_reading ≡ true) }
+        ensures err { OnErr result ((seen self.new).is_reading ≡ false) }
+        ensures files_stay { (seen self.new).contents ≡ (seen self.old).contents }
+        ensures writing_stays { (seen self.new).is_writing ≡ (seen self.old).is_writing }
+        ensures cause { HasFileCause false (seen self.old).missed (seen self.new).missed (seen self.old).proper
+            (seen self.new).proper result };
 
-    ghost reading_known: { (s : Self) → IsSome (contents s) → is_some (opened s) ≡ is_reading s };
+    /// Begins to write the file of that name, which is then there and empty. The file read before is closed, and every
+    /// other file stays.
+    ///
+    /// # Errors
+    /// `Failed` only where the proper count rose in this call. No file is being written then, and all files stay.
+    fn begin_write(&mut self, name: &str) -> Result<(), Failed>
+        requires { (seen self.old).is_writing ≡ false }
+        ensures begins { BeginsWrite (seen self.old).contents (seen self.new).contents name.now
+            (seen self.new).writing result }
+        ensures ok { OnOk result ((seen self.new).is_writing ≡ true) }
+        ensures err { OnErr result ((seen self.new).is_writing ≡ false) }
+        ensures closes { OnOk result ((seen self.new).is_reading ≡ false) }
+        ensures cause { HasFileCause false (seen self.old).missed (seen self.new).missed (seen self.old).proper
+            (seen self.new).proper result };
 
-    ghost missed_known: { (s : Self) → contents s ≡ None → missed s ≡ 0 };
+    /// Adds the first bytes of `bytes` to the file being written and answers how many, at least 1 for a nonempty piece.
+    /// The same file is then still being written, and every other file stays.
+    ///
+    /// # Errors
+    /// `Failed` only where the proper count rose in this call. Nothing is added then, and no file is being written.
+    fn append(&mut self, bytes: &[u8]) -> Result<usize, Failed>
+        requires { (seen self.old).is_writing ≡ true }
+        ensures bound { IfOk result (λ n. n ≤ length bytes.now) }
+        ensures moves { 0 < length bytes.now → IfOk result (λ n. 0 < n) }
+        ensures bytes { Appends (seen self.old) (seen self.new).contents bytes.now (count_taken result) }
+        ensures known { is_some (seen self.new).contents ≡ is_some (seen self.old).contents }
+        ensures same_file { OnOk result ((seen self.new).writing ≡ (seen self.old).writing) }
+        ensures ok { OnOk result ((seen self.new).is_writing ≡ true) }
+        ensures err { OnErr result ((seen self.new).is_writing ≡ false) }
+        ensures cause { HasFileCause false (seen self.old).missed (seen self.new).missed (seen self.old).proper
+            (seen self.new).proper result };
+
+    /// Ends the writing; the file holds what was added, after a failure too.
+    ///
+    /// # Errors
+    /// `Failed` only where the proper count rose in this call.
+    fn finish(&mut self) -> Result<(), Failed>
+        requires { (seen self.old).is_writing ≡ true }
+        ensures writing_ends { (seen self.new).is_writing ≡ false }
+        ensures files_stay { (seen self.new).contents ≡ (seen self.old).contents }
+        ensures cause { HasFileCause false (seen self.old).missed (seen self.new).missed (seen self.old).proper
+            (seen self.new).proper result };
+
+    ghost reading_known: { (s : Self) → IsSome (seen s).contents → is_some (seen s).opened ≡ (seen s).is_reading };
+
+    ghost writing_known: { (s : Self) → IsSome (seen s).contents → is_some (seen s).writing ≡ (seen s).is_writing };
+
+    ghost missed_known: { (s : Self) → (seen s).contents ≡ None → (seen s).missed ≡ 0 };
 }

@@ -2,7 +2,7 @@
 //! They say nothing of the bytes.
 
 ghost use Rattle.std.specs.Prelude.{◌≡◌, ℕ, ◌+◌, ◌<◌, ◌≤◌, Bool, true, false, List, Option, None, length, IfOk, OnOk};
-ghost use Rattle.std.specs.Prelude.{OnErr};
+ghost use Rattle.std.specs.Prelude.{OnErr, is_none};
 
 use std::fs::File;
 use std::io::{Read, Write};
@@ -74,22 +74,27 @@ impl<W: Write> Sink for Output<W> {
     }
 }
 
-/// The files of the system. One at a time is read, and none is written; each call that fails counts as a fault.
+/// The files of the system. One at a time is read or written; each call that fails counts as a fault.
+///
+/// A file that is begun to be written is emptied at once, so a write that fails leaves a prefix of the new bytes there.
 #[derive(Drop)]
 pub struct SystemFiles<'r, R: Runtime> {
     rt: &'r R,
     reading: Option<R::File>,
+    writing: Option<R::File>,
     faults: u64,
 }
 
 impl<'r, R: Runtime> SystemFiles<'r, R> {
-    /// No file is being read, and there was no fault so far.
+    /// No file is being read or written, and there was no fault so far.
     pub fn new(rt: &'r R) -> SystemFiles<'r, R>
-        ensures { result.faults ≡ 0 }
+        ensures faults { result.faults ≡ 0 }
+        ensures not_writing { is_none result.writing ≡ true }
     {
         SystemFiles {
             rt,
             reading: None,
+            writing: None,
             faults: 0,
         }
     }
@@ -98,19 +103,19 @@ impl<'r, R: Runtime> SystemFiles<'r, R> {
 impl<'r, R: Runtime> Files for SystemFiles<'r, R> {
     ghost use Rattle.std.specs.Prelude.{is_some, refl};
 
-    ghost contents = { λ _. None };
-
-    ghost opened = { λ _. None };
-
-    ghost is_reading = { λ s. is_some s.reading };
-
-    ghost is_writing = { λ _. false };
-
-    ghost missed = { λ _. 0 };
-
-    ghost proper = { λ s. s.faults };
+    ghost seen = { λ s. record {
+      contents = None;
+      opened = None;
+      writing = None;
+      is_reading = is_some s.reading;
+      is_writing = is_some s.writing;
+      missed = 0;
+      proper = s.faults;
+    } };
 
     ghost reading_known = { λ s known. absurd Prim.cc };
+
+    ghost writing_known = { λ s known. absurd Prim.cc };
 
     ghost missed_known = { λ s unknown. refl };
 
@@ -135,6 +140,45 @@ impl<'r, R: Runtime> Files for SystemFiles<'r, R> {
             }
         }
         self.reading = None;
+        self.faults = self.faults.saturating_add(1);
+        Err(Failed)
+    }
+
+    fn begin_write(&mut self, name: &str) -> Result<(), Failed> {
+        self.reading = None;
+        match File::create(self.rt, name) {
+            Ok(file) => {
+                self.writing = Some(file);
+                Ok(())
+            }
+            Err(_) => {
+                self.faults = self.faults.saturating_add(1);
+                Err(Failed)
+            }
+        }
+    }
+
+    fn append(&mut self, bytes: &[u8]) -> Result<usize, Failed> {
+        if let Some(file) = &mut self.writing {
+            if let Ok(count) = file.write(bytes) {
+                if count > 0 || bytes.is_empty() {
+                    return Ok(count);
+                }
+            }
+        }
+        self.writing = None;
+        self.faults = self.faults.saturating_add(1);
+        Err(Failed)
+    }
+
+    fn finish(&mut self) -> Result<(), Failed> {
+        if let Some(file) = &mut self.writing {
+            if file.flush().is_ok() {
+                self.writing = None;
+                return Ok(());
+            }
+        }
+        self.writing = None;
         self.faults = self.faults.saturating_add(1);
         Err(Failed)
     }

@@ -19,8 +19,9 @@ use Rattle.vtd_script.specs.declared.endings.End.{End}
 use Rattle.vtd_script.proofs.Parts.{prefix_of}
 use Rattle.vtd_running.specs.Form.{Form, document, no_form}
 use Rattle.vtd_running.specs.Statuses.{status_of}
+use Rattle.vtd_script.specs.Steps.{document_limit}
 use Rattle.vtd_running.specs.Meaning.{Outcome, EndsWith, RunsScript, RunsName, Runs, Ran, script_limit}
-use Rattle.vtd_running.specs.Meaning.{document_limit, script_long_line, document_long_line, usage_line}
+use Rattle.vtd_running.specs.Meaning.{script_long_line, document_long_line, usage_line}
 use Rattle.vtd_running.specs.Meaning.{script_unread, script_unkept, script_long, carried, document_long, document_unfit, accepted}
 use Rattle.vtd_running.specs.Meaning.{document_missing, document_unread, document_unkept, there, words_unkept, told, nothing_done, only_printed}
 use Rattle.vtd_running.specs.Parts.{LineSent, Begins, ReadsDocument, DocumentCause, Left}

@@ -18,8 +18,9 @@ use Rattle.vtd_script.specs.declared.endings.End.TheVariants as ends
 use Rattle.vtd_script.proofs.RunLaws as laws
 use Rattle.vtd_running.specs.Form.{Form, document, no_form}
 use Rattle.vtd_running.specs.Statuses.{status_of, IsMeant}
+use Rattle.vtd_script.specs.Steps.{document_limit}
 use Rattle.vtd_running.specs.Meaning.{Outcome, EndsWith, RunsScript, RunsDocument, RunsName, RunsUsage, Runs, Ran, Means}
-use Rattle.vtd_running.specs.Meaning.{script_limit, document_limit, script_long_line, document_long_line, usage_line, first_state}
+use Rattle.vtd_running.specs.Meaning.{script_limit, script_long_line, document_long_line, usage_line, first_state}
 use Rattle.vtd_running.specs.Meaning.{script_unread, script_unkept, script_long, carried, document_long, document_unfit, accepted}
 use Rattle.vtd_running.specs.Meaning.{document_missing, document_unread, document_unkept, there, words_unkept, told, only_printed}
 use Rattle.vtd_running.specs.declared.status.Status.{Status}

@@ -11,6 +11,7 @@ use Rattle.vtd_script.specs.Lines.{lines}
 use Rattle.vtd_script.specs.Listing.{line_feed}
 use Rattle.vtd_script.specs.Faults.{fault_line}
 use Rattle.vtd_script.specs.States.{State, state_of}
+use Rattle.vtd_script.specs.Steps.{document_limit}
 use Rattle.vtd_script.specs.Runs.{Ends, IsPrefix}
 use Rattle.vtd_script.specs.declared.endings.End.{End}
 use Rattle.vtd_running.specs.Form.{Form, document, no_form}
@@ -24,9 +25,6 @@ pub record Outcome : Type 0 where
   pub files : NameMap
   pub left : List ℕ
   pub status : Status
-
-abbrev pub document_limit : ℕ
-document_limit = 1_073_741_823
 
 abbrev pub script_limit : ℕ
 script_limit = 16_777_216
@@ -54,9 +52,9 @@ abbrev pub EndsWith : Type 0 → List ℕ → Status → List ℕ → Status →
 EndsWith rose line status sent result =
     ((sent ≡ line) × (result ≡ status)) ⊎ (IsPrefix sent line × rose × (result ≡ statuses.WriteFault))
 
--- a session that begins over a document: nothing but `xml` is bound
+-- a session that begins over a document: nothing but `xml` is bound, and nothing is staged
 abbrev pub first_state : List ℕ → NameMap → State
-first_state bytes files = state_of (record { bytes = bytes; bound = [] }) files
+first_state bytes files = state_of (record { bytes = bytes; bound = []; staged = [] }) files
 
 -- A script over a session, which is read to its end before its first line is carried out: it could not be read; there
 -- was no memory for it; it is too long; or its lines were carried out, as their table of endings says.

@@ -5,7 +5,8 @@ use Rattle.vtd_outside.specs.Known.{NameMap}
 use Rattle.xml_model.specs.Nest.{Forest}
 use Rattle.xml_model.specs.Accepted.{Accepted, IsRefusal}
 use Rattle.vtd_script.specs.States.{Work}
-use Rattle.vtd_running.specs.Meaning.{Outcome, EndsWith, document_limit}
+use Rattle.vtd_script.specs.Steps.{document_limit}
+use Rattle.vtd_running.specs.Meaning.{Outcome, EndsWith}
 use Rattle.vtd_running.specs.declared.reading.NoDocument.{NoDocument}
 use Rattle.vtd_running.specs.declared.reading.NoDocument.TheVariants as no
 use Rattle.vtd_running.specs.declared.status.Status.{Status}
@@ -24,7 +25,7 @@ pub record Begins (files : NameMap) (name : List ℕ) (work : Work) : Type 0 whe
   pub within : length bytes ≤ document_limit
   pub nest : Forest
   pub accepted : Accepted 8 bytes nest
-  pub first : work ≡ record { bytes = bytes; bound = [] }
+  pub first : work ≡ record { bytes = bytes; bound = []; staged = [] }
 
 -- Why no session begins over the file of a name, or that one does.
 abbrev pub ReadsDocument : NameMap → List ℕ → Result Work NoDocument → Type 0

@@ -8,11 +8,8 @@ ghost use Rattle.vtd_running.specs.Parts.{DocumentCause, ReadsDocument};
 use std::alloc::Global;
 use vtd_builder::BuildFault;
 use vtd_outside::{Files, GatherFault, gather_file};
-use vtd_script::Session;
+use vtd_script::{DOCUMENT_LIMIT, Session};
 use xml_model::DocFault;
-
-/// The longest document, in bytes.
-const DOCUMENT_LIMIT: u32 = 1_073_741_823;
 
 /// Why there is no document.
 #[derive(Clone, Copy)]
@@ -36,13 +33,13 @@ pub fn read_document<F: Files>(
     files: &mut F,
     name: &str,
 ) -> Result<Session, NoDocument>
-    requires { F.is_writing files.old ≡ false }
-    ensures reads { (map : NameMap) → F.contents files.old ≡ Some map → ReadsDocument map name.now result }
-    ensures cause { DocumentCause (is_missing (F.contents files.old) name.now) (F.missed files.old) (F.missed files.new)
-        (F.proper files.old) (F.proper files.new) result }
-    ensures missing { IsTrue (is_missing (F.contents files.old) name.now) → result ≡ Err NoDocument.Failed }
-    ensures files_stay { F.contents files.new ≡ F.contents files.old }
-    ensures writing_stays { F.is_writing files.new ≡ false }
+    requires { (F.seen files.old).is_writing ≡ false }
+    ensures reads { (map : NameMap) → (F.seen files.old).contents ≡ Some map → ReadsDocument map name.now result }
+    ensures cause { DocumentCause (is_missing (F.seen files.old).contents name.now) (F.seen files.old).missed
+        (F.seen files.new).missed (F.seen files.old).proper (F.seen files.new).proper result }
+    ensures missing { IsTrue (is_missing (F.seen files.old).contents name.now) → result ≡ Err NoDocument.Failed }
+    ensures files_stay { (F.seen files.new).contents ≡ (F.seen files.old).contents }
+    ensures writing_stays { (F.seen files.new).is_writing ≡ false }
 {
     let bytes = match gather_file(alloc, files, name, DOCUMENT_LIMIT) {
         Ok(bytes) => bytes,

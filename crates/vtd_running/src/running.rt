@@ -27,18 +27,18 @@ fn run_document<F: Files, S: Source, K: Sink>(
     script: &mut S,
     out: &mut K,
 ) -> Status
-    requires { F.is_writing files.old ≡ false }
-    ensures known { (map : NameMap) (left sent : List ℕ) → F.contents files.old ≡ Some map
+    requires { (F.seen files.old).is_writing ≡ false }
+    ensures known { (map : NameMap) (left sent : List ℕ) → (F.seen files.old).contents ≡ Some map
         → S.left script.old ≡ Some left → K.taken out.old ≡ Some sent
         → Left (RunsName (Rose (S.faults script.old) (S.faults script.new))
-        (Rose (F.proper files.old) (F.proper files.new)) (Rose (K.faults out.old) (K.faults out.new)) keep
-        map name.now left) (F.contents files.new) (S.left script.new) sent (K.taken out.new) result }
+        (Rose (F.seen files.old).proper (F.seen files.new).proper) (Rose (K.faults out.old) (K.faults out.new)) keep
+        map name.now left) (F.seen files.new).contents (S.left script.new) sent (K.taken out.new) result }
     ensures reads { ReadCounts result (S.faults script.old) (S.faults script.new) }
     ensures sends { WriteCounts result (K.faults out.old) (K.faults out.new) }
     ensures counts { RunFiles result
-        (F.missed files.old) (F.missed files.new) (F.proper files.old) (F.proper files.new) }
-    ensures missing { IsTrue (is_missing (F.contents files.old) name.now) → EndsMissing result }
-    ensures writing_stays { F.is_writing files.new ≡ false }
+        (F.seen files.old).missed (F.seen files.new).missed (F.seen files.old).proper (F.seen files.new).proper }
+    ensures missing { IsTrue (is_missing (F.seen files.old).contents name.now) → EndsMissing result }
+    ensures writing_stays { (F.seen files.new).is_writing ≡ false }
     ensures no_usage { EndsScript result }
 {
     match read_document(alloc, files, name) {
@@ -80,31 +80,33 @@ pub fn run<F: Files, S: Source, K: Sink, E: Sink>(
     out: &mut K,
     err: &mut E,
 ) -> Status
-    requires { F.is_writing files.old ≡ false }
+    requires { (F.seen files.old).is_writing ≡ false }
     // Where the bytes of all objects are known, the run ended as the table of endings says.
-    ensures ends { (contents : NameMap) (left taken known : List ℕ) → F.contents files.old ≡ Some contents
+    ensures ends { (contents : NameMap) (left taken known : List ℕ) → (F.seen files.old).contents ≡ Some contents
         → S.left script.old ≡ Some left → K.taken out.old ≡ Some taken → E.taken err.old ≡ Some known
-        → Ran (Runs (Rose (S.faults script.old) (S.faults script.new)) (Rose (F.proper files.old) (F.proper files.new))
+        → Ran (Runs (Rose (S.faults script.old) (S.faults script.new))
+        (Rose (F.seen files.old).proper (F.seen files.new).proper)
         (Rose (K.faults out.old) (K.faults out.new)) (Rose (E.faults err.old) (E.faults err.new))
-        (form (map string_bytes words.now)) contents left) (F.contents files.new) (S.left script.new)
+        (form (map string_bytes words.now)) contents left) (F.seen files.new).contents (S.left script.new)
         taken (K.taken out.new) known (E.taken err.new) result }
     // It left exactly what is meant, or there was no memory, where no count rose but for a name that is not there.
-    ensures exact { (contents : NameMap) (left taken known : List ℕ) → F.contents files.old ≡ Some contents
+    ensures exact { (contents : NameMap) (left taken known : List ℕ) → (F.seen files.old).contents ≡ Some contents
         → S.left script.old ≡ Some left → K.taken out.old ≡ Some taken → E.taken err.old ≡ Some known
-        → ¬ Rose (S.faults script.old) (S.faults script.new) → ¬ Rose (F.proper files.old) (F.proper files.new)
+        → ¬ Rose (S.faults script.old) (S.faults script.new)
+        → ¬ Rose (F.seen files.old).proper (F.seen files.new).proper
         → ¬ Rose (K.faults out.old) (K.faults out.new) → ¬ Rose (E.faults err.old) (E.faults err.new)
         → (result ≡ Status.NoMemory) ⊎ Ran (Means (form (map string_bytes words.now)) contents left)
-        (F.contents files.new) (S.left script.new) taken (K.taken out.new) known (E.taken err.new) result }
+        (F.seen files.new).contents (S.left script.new) taken (K.taken out.new) known (E.taken err.new) result }
     // Whether the bytes are known or not: a fault comes only by its cause, and the words tell of the status.
     ensures read_fault { ReadCounts result (S.faults script.old) (S.faults script.new) }
     ensures write_fault { SendCounts (form (map string_bytes words.now)) result
         (K.faults out.old) (K.faults out.new) (E.faults err.old) (E.faults err.new) }
     ensures file_fault { RunFiles result
-        (F.missed files.old) (F.missed files.new) (F.proper files.old) (F.proper files.new) }
+        (F.seen files.old).missed (F.seen files.new).missed (F.seen files.old).proper (F.seen files.new).proper }
     ensures usage { FitsForm (form (map string_bytes words.now)) result }
     ensures missing { (name : List ℕ) (keep : Bool) → form (map string_bytes words.now) ≡ document name keep
-        → IsTrue (is_missing (F.contents files.old) name) → EndsMissing result }
-    ensures writing_stays { F.is_writing files.new ≡ false }
+        → IsTrue (is_missing (F.seen files.old).contents name) → EndsMissing result }
+    ensures writing_stays { (F.seen files.new).is_writing ≡ false }
 {
     match read_words(alloc, words) {
         Ok(Words::Document(name, keep)) => run_document(alloc, name, keep, files, script, out),

@@ -26,17 +26,17 @@ pub fn run_script<F: Files, S: Source, K: Sink>(
     script: &mut S,
     out: &mut K,
 ) -> Status
-    requires { F.is_writing files.old ≡ false }
-    ensures known { (map : NameMap) (left sent : List ℕ) → F.contents files.old ≡ Some map
+    requires { (F.seen files.old).is_writing ≡ false }
+    ensures known { (map : NameMap) (left sent : List ℕ) → (F.seen files.old).contents ≡ Some map
         → S.left script.old ≡ Some left → K.taken out.old ≡ Some sent
         → Left (RunsScript (Rose (S.faults script.old) (S.faults script.new))
-        (Rose (F.proper files.old) (F.proper files.new)) (Rose (K.faults out.old) (K.faults out.new)) keep
-        (state_of session map) left) (F.contents files.new) (S.left script.new) sent (K.taken out.new) result }
+        (Rose (F.seen files.old).proper (F.seen files.new).proper) (Rose (K.faults out.old) (K.faults out.new)) keep
+        (state_of session map) left) (F.seen files.new).contents (S.left script.new) sent (K.taken out.new) result }
     ensures reads { ReadCounts result (S.faults script.old) (S.faults script.new) }
     ensures sends { WriteCounts result (K.faults out.old) (K.faults out.new) }
     ensures counts { RunFiles result
-        (F.missed files.old) (F.missed files.new) (F.proper files.old) (F.proper files.new) }
-    ensures writing_stays { F.is_writing files.new ≡ false }
+        (F.seen files.old).missed (F.seen files.new).missed (F.seen files.old).proper (F.seen files.new).proper }
+    ensures writing_stays { (F.seen files.new).is_writing ≡ false }
     ensures no_usage { EndsScript result }
 {
     match gather_source(alloc, script, SCRIPT_LIMIT) {

@@ -4,7 +4,7 @@ use Rattle.std.specs.Str.{chars, is_utf8}
 use Rattle.vtd_script.specs.Lines.{lines}
 use Rattle.vtd_script.specs.Fields.{fields, unescaped}
 use Rattle.vtd_script.specs.Commands.{read}
-use Rattle.vtd_script.specs.declared.commands.Command.TheVariants.{Elements, Ns}
+use Rattle.vtd_script.specs.declared.commands.Command.TheVariants.{Elements, Ns, Discard, Apply, Save, Open}
 use Rattle.vtd_script.specs.declared.refusals.Refusal.TheVariants as no
 
 no_lines : lines [] ≡ []
@@ -46,6 +46,34 @@ binds = refl
 empty_fields : read (codes "ns\t\t") ≡ Some (Ok (Ns [] []))
 unfolding read is_utf8 chars lib.Utf8.encode
 empty_fields = refl
+
+discards : read (codes "discard") ≡ Some (Ok Discard)
+unfolding read is_utf8 chars lib.Utf8.encode
+discards = refl
+
+applies : read (codes "apply") ≡ Some (Ok Apply)
+unfolding read is_utf8 chars lib.Utf8.encode
+applies = refl
+
+saves : read (codes "save\ta\\tb") ≡ Some (Ok (Save (codes "a\tb")))
+unfolding read is_utf8 chars lib.Utf8.encode
+saves = refl
+
+opens : read (codes "open\t") ≡ Some (Ok (Open []))
+unfolding read is_utf8 chars lib.Utf8.encode
+opens = refl
+
+no_file : read (codes "save") ≡ Some (Err no.Command)
+unfolding read is_utf8 chars lib.Utf8.encode
+no_file = refl
+
+two_files : read (codes "open\ta\\q\tb") ≡ Some (Err no.Command)
+unfolding read is_utf8 chars lib.Utf8.encode
+two_files = refl
+
+wrong_name : read (codes "open\ta\\q") ≡ Some (Err no.Escape)
+unfolding read is_utf8 chars lib.Utf8.encode
+wrong_name = refl
 
 nothing : read [] ≡ None
 unfolding read

@@ -2,7 +2,6 @@ pub mod LineLemmas
 pub mod FieldLemmas
 pub mod ReadLemmas
 mod Examples
-mod Elements
 pub mod StepLaws
 pub mod RunLaws
 pub mod Parts

@@ -1,22 +1,44 @@
 -- The two parts of a command, joined.
-use Rattle.std.proofs.Common.{◌≡◌, ◌↔◌, ℕ, Bool, true, false, List, [], ◌++◌, take, drop, Option, Some, None, Result, Ok, Err, refl, sym, ap}
-use Rattle.std.proofs.Common.{ap₂, subst, ◌∙◌}
+use Rattle.std.proofs.Common.{◌⊎◌, ◌≡◌, ◌↔◌, ◌≤◌, ◌<◌, ◌+◌, ℕ, Bool, true, false, List, [], ◌∷◌, ◌++◌, length, take, drop, Option, Some, None}
+use Rattle.std.specs.Prelude.{is_none}
+use Rattle.std.proofs.Common.{Result, Ok, Err, OnErr, refl, sym, ap, ap₂, subst, ◌∙◌, inl, inr, arith}
 use Rattle.std.proofs.lemmas.List.{append-nil, take-append-drop}
+use Rattle.xml_model.specs.Items.{first_place}
+use Rattle.xml_model.specs.Records.{records}
+use Rattle.xml_model.specs.Nest.{Forest}
+use Rattle.xml_model.specs.Accepted.{Accepted, IsRefusal}
+use Rattle.xml_model.specs.declared.DocFault.{DocFault}
 use Rattle.vtd_outside.specs.declared.Failed.{Failed}
-use Rattle.vtd_outside.specs.Known.{NameMap}
-use Rattle.vtd_outside.specs.Gathered.{Sends}
-use Rattle.vtd_script.specs.States.{Work, State, state_of, Answer, skipped, printed, refused, refused_line}
-use Rattle.vtd_script.specs.Steps.{Binds, Answers, Step, ok_line, with_binding}
+use Rattle.vtd_outside.specs.declared.GatherFault.{GatherFault}
+use Rattle.vtd_outside.specs.declared.GatherFault.TheVariants.{Long}
+use Rattle.vtd_outside.specs.declared.GatherFault.TheVariants as gather
+use Rattle.vtd_outside.specs.Causes.{Rose, RoseAlone, HasFileCause, GatherFileCause, is_missing}
+use Rattle.vtd_outside.specs.Known.{NameMap, OpenFile, put_into}
+use Rattle.vtd_outside.specs.Gathered.{Sends, GathersFile, GathersFilePrefix}
+use Rattle.vtd_outside.specs.Written.{Writes}
+use Rattle.vtd_edits.specs.Splices.{spliced}
+use Rattle.vtd_edits.specs.declared.splice.Splice.{Splice}
+use Rattle.vtd_script.specs.States.{Work, State, state_of, Answer, skipped, printed, refused, missing, refused_line, new_bytes}
+use Rattle.vtd_script.specs.Steps.{Binds, Answers, Does, Step, ok_line, with_binding, with_document, with_file, has_file, asks_file, name_of}
+use Rattle.vtd_script.specs.Steps.{Takes, too_long, unfit, accepted, Opens, document_limit, document_line, refusal_of, saved_line}
+use Rattle.vtd_script.specs.Listing.{listed}
 use Rattle.vtd_script.specs.Commands.{read}
 use Rattle.vtd_script.specs.Runs.{IsPrefix, StepsKnown}
-use Rattle.vtd_script.specs.Changes.{Asks, Prepares, CompletesKnown, RefusesKnown, StaysUnlessDone}
+use Rattle.vtd_script.specs.Changes.{Asks, Changes, ChangesKnown, MakesDocument, OpensDocument, Prepares, ReadsDocument, CompletesKnown}
+use Rattle.vtd_script.specs.Changes.{RefusesKnown, stops_at_file}
+use Rattle.vtd_script.specs.Changes.{StaysUnlessDone, StaysUnlessReady, FileCounts, fails_at_file, writes}
 use Rattle.vtd_script.specs.declared.commands.Command.{Command}
+use Rattle.vtd_script.specs.declared.commands.Command.TheVariants.{Apply, Discard, Elements, Ns, Open, Save}
 use Rattle.xpath_grammar.specs.declared.bindings.BindFault.{BindFault}
 use Rattle.xpath_grammar.specs.declared.bindings.BindFault.TheVariants.{Name}
 use Rattle.vtd_script.specs.declared.refusals.Refusal.{Refusal}
 use Rattle.vtd_script.specs.declared.refusals.Refusal.TheVariants as no
-use Rattle.vtd_script.specs.declared.session.Stop.{Stop}
-use Rattle.vtd_script.specs.declared.session.Stop.TheVariants as stop
+use Rattle.vtd_script.specs.declared.ready.Made.{Made}
+use Rattle.vtd_script.specs.declared.ready.Ready.{Ready}
+use Rattle.vtd_script.specs.declared.ready.Change.{Change}
+use Rattle.vtd_script.specs.declared.ready.Change.TheVariants as change
+use Rattle.vtd_script.specs.declared.ready.Stop.{Stop}
+use Rattle.vtd_script.specs.declared.ready.Stop.TheVariants as stop
 use Rattle.vtd_script.specs.declared.endings.Ending.{Ending}
 use Rattle.vtd_script.specs.declared.endings.Ending.TheVariants as endings
 use Rattle.vtd_script.specs.declared.endings.StepFault.{StepFault}
@@ -25,29 +47,73 @@ use Rattle.vtd_script.specs.declared.endings.StepFault.TheVariants as faults
 nothing_more : (taken : Option (List ℕ)) (sent : List ℕ) → taken ≡ Some sent → taken ≡ Some (sent ++ [])
 nothing_more taken sent e = e ∙ ap (λ (xs : List ℕ). Some xs) (sym (append-nil sent))
 
+-- a file that takes bytes
+make_file : (rose : Type 0) (name : List ℕ) (work : Work) (map : NameMap) (after : Option NameMap) (result : Result (Unit {0}) Failed)
+    → Writes (Some map) after (name_of name) (new_bytes work) result → OnErr result rose
+    → ChangesKnown rose (change.File name) (state_of work map) result work after
+make_file rose name work map None result w o = absurd w
+make_file rose name work map (Some a) (Ok x) w o = record { files = a; files_are = refl; makes = ap (λ (f : NameMap). state_of work f) w }
+make_file rose name work map (Some a) (Err x) w o = record {
+  files = a;
+  files_are = refl;
+  makes = record {
+    writes_file = refl;
+    cause = o;
+    work_stays = refl;
+    name = name_of name;
+    bytes = new_bytes work;
+    after = state_of work (put_into map (name_of name) (new_bytes work));
+    changes = refl;
+    one_file = refl;
+    prefix = w;
+  };
+}
+
+pub change_file : (rose : Type 0) (left : Change) (name : List ℕ) (work : Work) (map : NameMap) (before after : Option NameMap) (named bytes : List ℕ)
+    (result : Result (Unit {0}) Failed) → left ≡ change.File name → named ≡ name_of name → bytes ≡ new_bytes work → before ≡ Some map
+    → Writes before after named bytes result → OnErr result rose → ChangesKnown rose left (state_of work map) result work after
+change_file rose left name work map before after named bytes result e n b f w o =
+    let P : Change → Type 0 = λ c. ChangesKnown rose c (state_of work map) result work after in
+    let Q : Option NameMap → Type 0 = λ o. Writes o after named bytes result in
+    let R : List ℕ → Type 0 = λ x. Writes (Some map) after x bytes result in
+    let S : List ℕ → Type 0 = λ x. Writes (Some map) after (name_of name) x result in
+    subst P (sym e) (make_file rose name work map after result (subst S b (subst R n (subst Q f w))) o)
+
+pub rose_by : (mb ma pb pa : ℕ) (result : Result (Unit {0}) Failed) → HasFileCause false mb ma pb pa result → OnErr result (Rose pb pa)
+rose_by mb ma pb pa (Ok x) h = tt
+rose_by mb ma pb pa (Err x) h = h.failed.1
+
+pub missed_by : (mb ma pb pa : ℕ) (result : Result (Unit {0}) Failed) → HasFileCause false mb ma pb pa result → ma ≡ mb
+missed_by mb ma pb pa (Ok x) h = h.missed_kept
+missed_by mb ma pb pa (Err x) h = h.failed.0
+
+-- the second part, where the change failed, and where the lines were sent or not
+pub complete_failed : (file_rose out_rose : Type 0) (ready : Ready) (s : State) (e : Failed) (work : Work) (files : Option NameMap) (sent : List ℕ) (taken : Option (List ℕ)) → ChangesKnown {T = Unit {0}} file_rose ready.change s (Err e) work files → taken ≡ Some sent
+    → CompletesKnown file_rose out_rose ready s (Err faults.File) work files sent taken
+complete_failed file_rose out_rose ready s e work files sent taken h t = record { files = h.files; more = []; files_are = h.files_are; taken = nothing_more taken sent t; completes = (h.makes, refl) }
+
+pub complete_sent : (file_rose out_rose : Type 0) (ready : Ready) (s : State) (x y : Unit {0}) (work : Work) (files : Option NameMap) (sent lines : List ℕ) (before after : Option (List ℕ)) → ChangesKnown {E = Failed} file_rose ready.change s (Ok x) work files
+    → before ≡ Some sent → lines ≡ ready.lines → Sends {E = Failed} before after lines (Ok y) → CompletesKnown file_rose out_rose ready s (Ok tt) work files sent after
+complete_sent file_rose out_rose ready s x y work files sent lines before after h t l w =
+    let Q : Option (List ℕ) → Type 0 = λ o. Sends {E = Failed} o after lines (Ok y) in
+    by after (subst Q t w)
+  where
+    by : (after : Option (List ℕ)) → Sends {E = Failed} (Some sent) after lines (Ok y) → CompletesKnown file_rose out_rose ready s (Ok tt) work files sent after
+    by None w = absurd w
+    by (Some a) w = record { files = h.files; more = lines; files_are = h.files_are; taken = ap (λ (xs : List ℕ). Some xs) w; completes = (h.makes, l) }
+
 pub prefix_of : (count : ℕ) (lines whole : List ℕ) → lines ≡ whole → IsPrefix (take count lines) whole
 prefix_of count lines whole e = record { more = drop count lines; split = sym e ∙ sym (take-append-drop count lines) }
 
--- the second part, where the lines were sent or not
-pub complete_sent : (out_rose : Type 0) (lines sent whole : List ℕ) (x y : Unit {0}) (before after : Option (List ℕ)) → before ≡ Some sent
-    → whole ≡ lines → Sends {E = Failed} before after whole (Ok y) → CompletesKnown out_rose lines (Ok x) sent after
-complete_sent out_rose lines sent whole x y before after t l w =
-    let Q : Option (List ℕ) → Type 0 = λ o. Sends {E = Failed} o after whole (Ok y) in
+pub complete_unsent : (file_rose out_rose : Type 0) (ready : Ready) (s : State) (x : Unit {0}) (y : Failed) (work : Work) (files : Option NameMap) (sent lines : List ℕ) (before after : Option (List ℕ)) → ChangesKnown {E = Failed} file_rose ready.change s (Ok x) work files
+    → before ≡ Some sent → lines ≡ ready.lines → Sends {T = Unit {0}} before after lines (Err y) → out_rose → CompletesKnown file_rose out_rose ready s (Err faults.Write) work files sent after
+complete_unsent file_rose out_rose ready s x y work files sent lines before after h t l w o =
+    let Q : Option (List ℕ) → Type 0 = λ o. Sends {T = Unit {0}} o after lines (Err y) in
     by after (subst Q t w)
   where
-    by : (after : Option (List ℕ)) → Sends {E = Failed} (Some sent) after whole (Ok y) → CompletesKnown out_rose lines (Ok x) sent after
+    by : (after : Option (List ℕ)) → Sends {T = Unit {0}} (Some sent) after lines (Err y) → CompletesKnown file_rose out_rose ready s (Err faults.Write) work files sent after
     by None w = absurd w
-    by (Some a) w = record { more = whole; taken = ap (λ (xs : List ℕ). Some xs) w; completes = l }
-
-pub complete_unsent : (out_rose : Type 0) (lines sent whole : List ℕ) (y : Failed) (before after : Option (List ℕ)) → before ≡ Some sent → whole ≡ lines
-    → Sends {T = Unit {0}} before after whole (Err y) → out_rose → CompletesKnown out_rose lines (Err faults.Write) sent after
-complete_unsent out_rose lines sent whole y before after t l w o =
-    let Q : Option (List ℕ) → Type 0 = λ o. Sends {T = Unit {0}} o after whole (Err y) in
-    by after (subst Q t w)
-  where
-    by : (after : Option (List ℕ)) → Sends {T = Unit {0}} (Some sent) after whole (Err y) → CompletesKnown out_rose lines (Err faults.Write) sent after
-    by None w = absurd w
-    by (Some a) w = record { more = take w.count whole; taken = ap (λ (xs : List ℕ). Some xs) w.taken; completes = (prefix_of w.count whole lines l, o) }
+    by (Some a) w = record { files = h.files; more = take w.count lines; files_are = h.files_are; taken = ap (λ (xs : List ℕ). Some xs) w.taken; completes = (h.makes, prefix_of w.count lines ready.lines l, o) }
 
 -- a refusal whose line could not be sent
 pub refuse_unsent : (out_rose : Type 0) (refusal : Refusal) (sent line : List ℕ) (y : Failed) (before after : Option (List ℕ)) → before ≡ Some sent
@@ -66,14 +132,153 @@ refuse_unsent out_rose refusal sent line y before after t l w o =
           (prefix_of w.count line (refused_line refusal) l, o);
     }
 
--- the same command, by its case
-pub prepares_as : (command given : Command) (s now : State) (result : Result (List ℕ) Stop) → command ≡ given → Prepares given s now result
-    → Prepares command s now result
-prepares_as command given s now result e h = let P : Command → Type 0 = λ c. Prepares c s now result in subst P (sym e) h
+no_write : (b : Bool) → b ≡ false → b ≡ true → ⊥
+no_write b e f = cc
 
-pub prepares_stop : (command : Command) (s now : State) (known given : Stop) → known ≡ given → Prepares command s now (Err known)
-    → Prepares command s now (Err given)
-prepares_stop command s now known given e h = let P : Stop → Type 0 = λ x. Prepares command s now (Err x) in subst P e h
+pub writes_nothing : (left : Change) → left ≡ change.Nothing → writes left ≡ true → ⊥
+writes_nothing left e w = no_write (writes left) (ap writes e) w
+
+-- a command that changes no file: its state is the session's
+pub prepares_nothing : (rose : Type 0) (command : Command) (s now : State) (ready : Ready) (lines : List ℕ) → ready.change ≡ change.Nothing → ready.lines ≡ lines
+    → Does command s (printed lines now) → Prepares rose command s now (Ok ready)
+prepares_nothing rose command s now ready lines n l d =
+    let N : Change → State → Type 0 = λ x after. Changes x now after in (
+      λ after e. let same : after ≡ now = (let P : Change → Type 0 = λ x. Changes x now after in subst P n e) in
+          let D : List ℕ → Type 0 = λ ls. Does command s (printed ls now) in
+          let S : State → Type 0 = λ t. Does command s (printed ready.lines t) in
+          subst S (sym same) (subst D (sym l) d),
+      λ w. absurd (writes_nothing ready.change n w),
+    )
+
+-- a command whose file is left to the second part
+pub prepares_file : (rose : Type 0) (name : List ℕ) (s : State) (ready : Ready) (lines : List ℕ) → ready.change ≡ change.File name → ready.lines ≡ lines
+    → lines ≡ saved_line (length (new_bytes s.work)) → Prepares rose (Save name) s s (Ok ready)
+prepares_file rose name s ready lines n l d = (
+  λ after e. let same : after ≡ with_file (name_of name) (new_bytes s.work) s = (let P : Change → Type 0 = λ x. Changes x s after in subst P n e) in
+      ap₂ (λ (x : List ℕ) (y : State). printed x y) (l ∙ d) same,
+  λ w. (refl, refl),
+)
+
+-- a document that was read
+pub takes_made : (bytes built lines : List ℕ) (s now : State) → length bytes ≤ document_limit → built ≡ bytes
+    → ((nest : Forest) × Accepted 8 bytes nest × (lines ≡ document_line (length bytes) (length (records nest (first_place bytes)))))
+    → now ≡ with_document built s → Takes bytes s (printed lines now)
+takes_made bytes built lines s now l b h e =
+    let P : List ℕ → Type 0 = λ ls. Takes bytes s (printed ls now) in
+    let Q : State → Type 0 = λ t. Takes bytes s (printed (document_line (length bytes) (length (records h.0 (first_place bytes)))) t) in
+    subst P (sym h.2) (subst Q (sym (e ∙ ap (λ (x : List ℕ). with_document x s) b)) (accepted l h.0 h.1))
+
+pub takes_unfit : (bytes : List ℕ) (s : State) (refusal : Refusal) → length bytes ≤ document_limit
+    → ((fault : DocFault) × IsRefusal bytes fault × (refusal ≡ refusal_of fault)) → Takes bytes s (refused refusal)
+takes_unfit bytes s refusal l h = let P : Refusal → Type 0 = λ x. Takes bytes s (refused x) in subst P (sym h.2) (unfit l h.0 h.1)
+
+-- a document that was read, and why none was
+pub made_document : (bytes : List ℕ) (result : Result Made Stop) → length bytes ≤ document_limit → ReadsDocument bytes result → MakesDocument bytes result
+made_document bytes (Ok made) l h = λ s. takes_made bytes made.document.bytes made.lines s (with_document made.document.bytes s) l h.0 h.1 refl
+made_document bytes (Err (stop.Refused refusal)) l h = λ s. takes_unfit bytes s refusal l h
+made_document bytes (Err stop.File) l h = absurd h
+made_document bytes (Err stop.NoMemory) l h = tt
+
+pub made_from : (bytes given : List ℕ) (result : Result Made Stop) → given ≡ bytes → length given ≤ document_limit → ReadsDocument given result
+    → MakesDocument bytes result
+made_from bytes given result e l h = let P : List ℕ → Type 0 = λ b. MakesDocument b result in subst P e (made_document given result l h)
+
+pub prepares_apply : (work now : Work) (files : NameMap) (made : Made) (ready : Ready) → MakesDocument (new_bytes work) (Ok made)
+    → now ≡ record { bytes = made.document.bytes; bound = work.bound; staged = [] } → ready.change ≡ change.Nothing → ready.lines ≡ made.lines
+    → Prepares ⊥ Apply (state_of work files) (state_of now files) (Ok ready)
+prepares_apply work now files made ready h w n l =
+    let P : Work → Type 0 = λ x. Takes (new_bytes work) (state_of work files) (printed made.lines (state_of x files)) in
+    prepares_nothing ⊥ Apply (state_of work files) (state_of now files) ready made.lines n l (subst P (sym w) (h (state_of work files)))
+
+pub stops_apply : (work : Work) (files : NameMap) (x : Stop) → MakesDocument (new_bytes work) (Err x)
+    → Prepares ⊥ Apply (state_of work files) (state_of work files) (Err x)
+stops_apply work files (stop.Refused refusal) h = (refl, h (state_of work files))
+stops_apply work files stop.File h = absurd h
+stops_apply work files stop.NoMemory h = refl
+
+pub makes_no_file : (bytes : List ℕ) (x : Stop) → MakesDocument bytes (Err x) → stops_at_file {T = Ready} (Err x) ≡ false
+makes_no_file bytes (stop.Refused refusal) h = refl
+makes_no_file bytes stop.File h = absurd h
+makes_no_file bytes stop.NoMemory h = refl
+
+pub counts_same : (x : Stop) (mb ma pb pa : ℕ) → FileCounts (stops_at_file {T = Made} (Err x)) mb ma pb pa → FileCounts (stops_at_file {T = Ready} (Err x)) mb ma pb pa
+counts_same (stop.Refused refusal) mb ma pb pa h = h
+counts_same stop.File mb ma pb pa h = h
+counts_same stop.NoMemory mb ma pb pa h = h
+
+pub prepares_open : (rose : Type 0) (file : List ℕ) (work now : Work) (files : NameMap) (made : Made) (ready : Ready)
+    → OpensDocument rose (state_of work files) file (Ok made)
+    → now ≡ record { bytes = made.document.bytes; bound = work.bound; staged = [] } → ready.change ≡ change.Nothing → ready.lines ≡ made.lines
+    → Prepares rose (Open file) (state_of work files) (state_of now files) (Ok ready)
+prepares_open rose file work now files made ready h w n l =
+    let P : Work → Type 0 = λ x. Opens work.staged (files (name_of file)) (state_of work files) (printed made.lines (state_of x files)) in
+    prepares_nothing rose (Open file) (state_of work files) (state_of now files) ready made.lines n l (subst P (sym w) h)
+
+pub stops_open : (rose : Type 0) (file : List ℕ) (work : Work) (files : NameMap) (x : Stop) → OpensDocument rose (state_of work files) file (Err x)
+    → Prepares rose (Open file) (state_of work files) (state_of work files) (Err x)
+stops_open rose file work files (stop.Refused refusal) h = (refl, h)
+stops_open rose file work files stop.File h = (refl, elim h [ inl q ↦ inl q | inr q ↦ inr (refl, q) ])
+stops_open rose file work files stop.NoMemory h = refl
+
+pub stays_taken : (ready : Ready) (work now : Work) → ready.change ≡ change.Nothing → StaysUnlessReady (Ok ready) work now
+stays_taken ready work now n = λ w. absurd (writes_nothing ready.change n w)
+
+unstaged : (staged : List Splice) (file : Option (List ℕ)) (bytes : List ℕ) (s : State) (a : Answer) → length staged ≤ 0 → file ≡ Some bytes → Takes bytes s a
+    → Opens staged file s a
+unstaged [] file bytes s a l e t = let P : Option (List ℕ) → Type 0 = λ o. Opens [] o s a in subst P (sym e) t
+unstaged (splice ∷ staged) file bytes s a l e t = absurd (omega arith)
+
+opens_any : (result : Result Made Stop) (rose : Type 0) (file bytes : List ℕ) (s : State) → length s.work.staged ≤ 0 → s.files (name_of file) ≡ Some bytes
+    → MakesDocument bytes result → OpensDocument rose s file result
+opens_any (Ok made) rose file bytes s l e h = unstaged s.work.staged (s.files (name_of file)) bytes s _ l e (h s)
+opens_any (Err (stop.Refused refusal)) rose file bytes s l e h = unstaged s.work.staged (s.files (name_of file)) bytes s _ l e (h s)
+opens_any (Err stop.File) rose file bytes s l e h = absurd h
+opens_any (Err stop.NoMemory) rose file bytes s l e h = tt
+
+pub opens_bytes : (rose : Type 0) (file named bytes : List ℕ) (work : Work) (map : NameMap) (contents : Option NameMap) (opened : Option OpenFile)
+    (result : Result Made Stop) → length work.staged ≤ 0 → contents ≡ Some map → named ≡ name_of file → GathersFile contents named opened bytes
+    → length bytes ≤ document_limit → ReadsDocument bytes result → OpensDocument rose (state_of work map) file result
+opens_bytes rose file named bytes work map contents opened result l c n g w h =
+    let Q : Option NameMap → Type 0 = λ o. GathersFile o named opened bytes in
+    let there = (subst Q c g).0 in
+    opens_any result rose file bytes (state_of work map) l (ap map (sym n) ∙ there) (made_document bytes result w h)
+
+pub opens_long : (file named : List ℕ) (work : Work) (map : NameMap) (contents : Option NameMap) (opened : Option OpenFile) (fault : GatherFault)
+    → length work.staged ≤ 0 → contents ≡ Some map → named ≡ name_of file → fault ≡ Long → GathersFilePrefix document_limit contents named opened fault
+    → Opens work.staged (map (name_of file)) (state_of work map) (refused no.FileLong)
+opens_long file named work map contents opened fault l c n f g =
+    let Q : Option NameMap → Type 0 = λ o. GathersFilePrefix document_limit o named opened fault in
+    let R : GatherFault → Type 0 = λ x. GathersFilePrefix document_limit (Some map) named opened x in
+    let t = subst R f (subst Q c g) in
+    let e : document_limit + 1 ≤ length t.bytes = t.enough in
+    unstaged work.staged (map (name_of file)) t.bytes (state_of work map) (refused no.FileLong) l (ap map (sym n) ∙ t.there) (too_long (omega (arith, e)))
+
+pub opens_staged : (staged : List Splice) (file : Option (List ℕ)) (s : State) → 0 < length staged → Opens staged file s (refused no.Staged)
+opens_staged [] file s l = absurd (omega arith)
+opens_staged (splice ∷ staged) file s l = refl
+
+-- a file that is not there, or whose reading failed
+opens_none : (staged : List Splice) (file : Option (List ℕ)) (s : State) → length staged ≤ 0 → file ≡ None → Opens staged file s missing
+opens_none [] None s l e = refl
+opens_none [] (Some bytes) s l e = absurd (none_not bytes e)
+  where
+    none_not : (bytes : List ℕ) → Some bytes ≡ None → ⊥
+    none_not bytes e = cc
+opens_none (splice ∷ staged) file s l e = absurd (omega arith)
+
+-- a command that needs no file, where one may fail
+pub prepares_more : (rose : Type 0) (command : Command) (s now : State) (result : Result Ready Stop) → Prepares ⊥ command s now result → Prepares rose command s now result
+prepares_more rose command s now (Ok ready) h = h
+prepares_more rose command s now (Err (stop.Refused refusal)) h = h
+prepares_more rose command s now (Err stop.File) h = (h.0, elim h.1 [ inl q ↦ inl q | inr q ↦ absurd q.1 ])
+prepares_more rose command s now (Err stop.NoMemory) h = h
+
+-- the same command, by its case
+pub prepares_as : (rose : Type 0) (command given : Command) (s now : State) (result : Result Ready Stop) → command ≡ given → Prepares ⊥ given s now result → Prepares rose command s now result
+prepares_as rose command given s now result e h = let P : Command → Type 0 = λ c. Prepares rose c s now result in subst P (sym e) (prepares_more rose given s now result h)
+
+pub prepares_stop : (rose : Type 0) (command : Command) (s now : State) (known given : Stop) → known ≡ given → Prepares rose command s now (Err known) → Prepares rose command s now (Err given)
+prepares_stop rose command s now known given e h = let P : Stop → Type 0 = λ x. Prepares rose command s now (Err x) in subst P e h
 
 -- what was read, by its case
 pub read_none : (x : Option Command) (asked : Option (Result Command Refusal)) → x ≡ None → Asks (Ok x) asked → asked ≡ None
@@ -148,57 +353,90 @@ step_unread file_rose out_rose line work map sent files taken refusal result e f
     known_refusal file_rose out_rose line work work map sent files taken refusal result (step_by (state_of work map) line (Some (Err refusal))
     (refused refusal) e refl) refl f t
 
-pub step_refused : (file_rose out_rose : Type 0) (line : List ℕ) (command : Command) (work now : Work) (map : NameMap) (sent : List ℕ)
+pub step_refused : (rose file_rose out_rose : Type 0) (line : List ℕ) (command : Command) (work now : Work) (map : NameMap) (sent : List ℕ)
     (files : Option NameMap) (taken : Option (List ℕ)) (refusal : Refusal) (result : Result Ending StepFault) → read line ≡ Some (Ok command)
-    → Prepares command (state_of work map) (state_of now map) (Err (stop.Refused refusal)) → files ≡ Some map
+    → Prepares rose command (state_of work map) (state_of now map) (Err (stop.Refused refusal)) → files ≡ Some map
     → RefusesKnown out_rose refusal result sent taken → StepsKnown file_rose out_rose (state_of work map) line result now files sent taken
-step_refused file_rose out_rose line command work now map sent files taken refusal result e p f t =
+step_refused rose file_rose out_rose line command work now map sent files taken refusal result e p f t =
     known_refusal file_rose out_rose line work now map sent files taken refusal result (step_by (state_of work map) line (Some (Ok command))
     (refused refusal) e p.1) p.0 f t
 
--- a command whose two parts were carried out
-pub step_done : (file_rose out_rose : Type 0) (line : List ℕ) (command : Command) (lines : List ℕ) (work now : Work) (map : NameMap) (sent : List ℕ)
-    (files : Option NameMap) (taken : Option (List ℕ)) (x : Unit {0}) → read line ≡ Some (Ok command)
-    → Prepares command (state_of work map) (state_of now map) (Ok lines) → files ≡ Some map → CompletesKnown out_rose lines (Ok x) sent taken
-    → StepsKnown file_rose out_rose (state_of work map) line (Ok endings.Done) now files sent taken
-step_done file_rose out_rose line command lines work now map sent files taken x e p f c = record {
+asks : (line : List ℕ) (command : Command) → read line ≡ Some (Ok command) → has_file command ≡ true → asks_file (read line) ≡ true
+asks line command e h = ap asks_file e ∙ h
+
+-- a file that could not be read, or is not there
+pub step_unopened : (file_rose out_rose : Type 0) (line : List ℕ) (command : Command) (work now : Work) (map : NameMap) (sent : List ℕ) (files : Option NameMap) (taken : Option (List ℕ)) → read line ≡ Some (Ok command)
+    → Prepares file_rose command (state_of work map) (state_of now map) (Err stop.File) → files ≡ Some map → taken ≡ Some sent → StepsKnown file_rose out_rose (state_of work map) line (Err faults.File) now files sent taken
+step_unopened file_rose out_rose line command work now map sent files taken e p f t = record {
   files = map;
-  more = c.more;
+  more = [];
   files_are = f;
+  taken = nothing_more taken sent t;
+  steps = (
+    refl,
+    ap (λ (x : State). x.work) p.0,
+    elim p.1 [
+      | inl q ↦ inl (step_by (state_of work map) line (Some (Ok command)) missing e q, refl)
+      | inr q ↦ inr (record { asks = asks line command e q.0; cause = q.1; left = inl refl })
+    ],
+  );
+}
+
+-- a command whose two parts were carried out
+pub step_done : (rose other_rose file_rose out_rose : Type 0) (line : List ℕ) (command : Command) (ready : Ready) (work mid now : Work) (map : NameMap) (sent : List ℕ) (files : Option NameMap) (taken : Option (List ℕ)) (x : Unit {0}) → read line ≡ Some (Ok command)
+    → Prepares rose command (state_of work map) (state_of mid map) (Ok ready) → CompletesKnown other_rose out_rose ready (state_of mid map) (Ok x) now files sent taken → StepsKnown file_rose out_rose (state_of work map) line (Ok endings.Done) now files sent taken
+step_done rose other_rose file_rose out_rose line command ready work mid now map sent files taken x e p c = record {
+  files = c.files;
+  more = c.more;
+  files_are = c.files_are;
   taken = c.taken;
   steps = record {
-    answer = printed lines (state_of now map);
-    step = step_by (state_of work map) line (Some (Ok command)) _ e p;
-    known = (lines, state_of now map, refl);
+    answer = printed ready.lines (state_of now c.files);
+    step = step_by (state_of work map) line (Some (Ok command)) _ e (p.0 _ c.completes.0);
+    known = (ready.lines, state_of now c.files, refl);
     state_is = refl;
-    lines_are = c.completes;
+    lines_are = c.completes.1;
   };
 }
 
--- a command whose lines could not be sent
-pub step_undone : (file_rose out_rose : Type 0) (line : List ℕ) (command : Command) (lines : List ℕ) (work now : Work) (map : NameMap) (sent : List ℕ)
-    (files : Option NameMap) (taken : Option (List ℕ)) (fault : StepFault) → read line ≡ Some (Ok command)
-    → Prepares command (state_of work map) (state_of now map) (Ok lines) → files ≡ Some map → CompletesKnown out_rose lines (Err fault) sent taken
+-- a command whose second part failed
+pub step_undone : (rose other_rose file_rose out_rose : Type 0) (line : List ℕ) (command : Command) (ready : Ready) (work mid now : Work) (map : NameMap) (sent : List ℕ) (files : Option NameMap) (taken : Option (List ℕ)) (fault : StepFault) → (other_rose → file_rose)
+    → read line ≡ Some (Ok command) → Prepares rose command (state_of work map) (state_of mid map) (Ok ready) → CompletesKnown other_rose out_rose ready (state_of mid map) (Err fault) now files sent taken
     → StepsKnown file_rose out_rose (state_of work map) line (Err fault) now files sent taken
-step_undone file_rose out_rose line command lines work now map sent files taken faults.Write e p f c = record {
-  files = map;
+step_undone rose other_rose file_rose out_rose line command ready work mid now map sent files taken faults.Write r e p c = record {
+  files = c.files;
   more = c.more;
-  files_are = f;
+  files_are = c.files_are;
   taken = c.taken;
-  steps = (
-    record {
-      cause = c.completes.1;
-      answer = printed lines (state_of now map);
-      step =
-          step_by (state_of work map) line (Some (Ok command)) _ e p;
-      prefix = c.completes.0;
-      left = refl;
-    },
-    refl,
-  );
+  steps = (record { cause = c.completes.2; answer = printed ready.lines (state_of now c.files); step = step_by (state_of work map) line (Some (Ok command)) _ e (p.0 _ c.completes.0); prefix = c.completes.1; left = refl }, refl);
 }
-step_undone file_rose out_rose line command lines work now map sent files taken faults.File e p f c = absurd c.completes
-step_undone file_rose out_rose line command lines work now map sent files taken faults.NoMemory e p f c = absurd c.completes
+step_undone rose other_rose file_rose out_rose line command ready work mid now map sent files taken faults.File r e p c =
+    let f = c.completes.0 in
+    let q = p.1 f.writes_file in
+    record {
+      files = c.files;
+      more = c.more;
+      files_are = c.files_are;
+      taken = c.taken;
+      steps = (
+        c.completes.1,
+        f.work_stays ∙ ap (λ (x : State). x.work) q.0,
+        inr (record {
+          asks = asks line command e q.1;
+          cause = r f.cause;
+          left = inr (record {
+            lines = ready.lines;
+            after = f.after;
+            step = step_by (state_of work map) line (Some (Ok command)) _ e (p.0 f.after f.changes);
+            name = f.name;
+            bytes = f.bytes;
+            writes = f.one_file;
+            leaves = f.prefix;
+          });
+        }),
+      );
+    }
+step_undone rose other_rose file_rose out_rose line command ready work mid now map sent files taken faults.NoMemory r e p c = absurd c.completes
 
 -- a command for which there was no memory
 pub step_no_memory : (file_rose out_rose : Type 0) (line : List ℕ) (work now : Work) (map : NameMap) (sent : List ℕ) (files : Option NameMap)
@@ -240,3 +478,68 @@ stays_cut_off fault work now e = let P : StepFault → Type 0 = λ x. StaysUnles
 
 pub same_work : (work now : Work) → ((files : NameMap) → state_of now files ≡ state_of work files) → now ≡ work
 same_work work now e = ap (λ (s : State). s.work) (e (λ name. None))
+
+pub stays_ready : (rose : Type 0) (command : Command) (work now : Work) (result : Result Ready Stop)
+    → ((files : NameMap) → Prepares rose command (state_of work files) (state_of now files) result) → StaysUnlessReady result work now
+stays_ready rose command work now (Ok ready) h = λ w. ap (λ (s : State). s.work) ((h (λ name. None)).1 w).0
+stays_ready rose command work now (Err (stop.Refused refusal)) h = ap (λ (s : State). s.work) (h (λ name. None)).0
+stays_ready rose command work now (Err stop.File) h = ap (λ (s : State). s.work) (h (λ name. None)).0
+stays_ready rose command work now (Err stop.NoMemory) h = ap (λ (s : State). s.work) (h (λ name. None))
+
+pub stays_undone : (fault : StepFault) (ready : Ready) (work now : Work) → (fault ≡ faults.Write) ⊎ (fault ≡ faults.File)
+    → (fails_at_file {T = Unit {0}} (Err fault) ≡ true → writes ready.change ≡ true) → (writes ready.change ≡ true → now ≡ work)
+    → StaysUnlessDone (Err fault) work now
+stays_undone faults.Write ready work now o w h = tt
+stays_undone faults.File ready work now o w h = h (w refl)
+stays_undone faults.NoMemory ready work now o w h = elim o [ inl q ↦ absurd cc | inr q ↦ absurd cc ]
+
+-- counts
+pub rose_from : (a b n : ℕ) → b ≡ a → Rose b n → Rose a n
+rose_from a b n e r = let P : ℕ → Type 0 = λ m. Rose m n in subst P e r
+
+pub counts_from : (failed : Bool) (mb mm ma pb pm pa : ℕ) → mm ≡ mb → pm ≡ pb → FileCounts failed mm ma pm pa → FileCounts failed mb ma pb pa
+counts_from failed mb mm ma pb pm pa m p h =
+    let P : ℕ → Type 0 = λ x. FileCounts failed x ma pm pa in
+    let Q : ℕ → Type 0 = λ x. FileCounts failed mb ma x pa in
+    subst Q p (subst P m h)
+
+pub gather_failed : {T : Type 0} (result : Result T GatherFault) (gone : Bool) (mb ma pb pa : ℕ) (fault : GatherFault) → fault ≡ gather.Failed
+    → GatherFileCause {T = T} gone mb ma pb pa (Err fault) → RoseAlone gone mb ma pb pa
+gather_failed {T} result gone mb ma pb pa fault e h = let P : GatherFault → Type 0 = λ x. GatherFileCause {T = T} gone mb ma pb pa (Err x) in subst P e h
+
+pub one_rose : (gone : Bool) (mb ma pb pa : ℕ) → RoseAlone gone mb ma pb pa → FileCounts true mb ma pb pa
+one_rose true mb ma pb pa h = inl h
+one_rose false mb ma pb pa h = inr h
+
+-- a file to be opened whose reading failed
+opens_by : (staged : List Splice) (file : Option (List ℕ)) (s : State) (mb ma pb pa : ℕ) → length staged ≤ 0 → RoseAlone (is_none file) mb ma pb pa
+    → Opens staged file s missing ⊎ Rose pb pa
+opens_by staged None s mb ma pb pa l h = inl (opens_none staged None s l refl)
+opens_by staged (Some bytes) s mb ma pb pa l h = inr h.1
+
+pub opens_failed : (mb ma pb pa : ℕ) (file named : List ℕ) (work : Work) (map : NameMap) (contents : Option NameMap) → length work.staged ≤ 0
+    → contents ≡ Some map → named ≡ name_of file → RoseAlone (is_missing contents named) mb ma pb pa
+    → OpensDocument (Rose pb pa) (state_of work map) file (Err stop.File)
+opens_failed mb ma pb pa file named work map contents l c n r =
+    let Q : Option NameMap → Type 0 = λ o. RoseAlone (is_missing o named) mb ma pb pa in
+    let R : List ℕ → Type 0 = λ x. RoseAlone (is_none (map x)) mb ma pb pa in
+    opens_by work.staged (map (name_of file)) (state_of work map) mb ma pb pa l (subst R n (subst Q c r))
+
+-- the listing of elements
+pub prepares_listed : (bytes lines : List ℕ) (s : State) (ready : Ready) → bytes ≡ s.work.bytes → ready.change ≡ change.Nothing → ready.lines ≡ lines
+    → ((nest : Forest) × Accepted 8 bytes nest × (lines ≡ listed nest (first_place bytes))) → Prepares ⊥ Elements s s (Ok ready)
+prepares_listed bytes lines s ready e n l h =
+    let P : List ℕ → Type 0 = λ b. (nest : Forest) × Accepted 8 b nest × (lines ≡ listed nest (first_place b)) in
+    let t = subst P e h in
+    prepares_nothing ⊥ Elements s s ready lines n l (t.0, t.1, ap (λ (xs : List ℕ). printed xs s) t.2)
+
+-- the document of bytes, with its line
+pub reads_made : (bytes built lines held : List ℕ) → built ≡ bytes → held ≡ lines
+    → ((nest : Forest) × Accepted 8 built nest × (lines ≡ document_line (length built) (length (records nest (first_place built)))))
+    → (nest : Forest) × Accepted 8 bytes nest × (held ≡ document_line (length bytes) (length (records nest (first_place bytes))))
+reads_made bytes built lines held b l h =
+    let P : List ℕ → Type 0 = λ x. (nest : Forest) × Accepted 8 x nest × (held ≡ document_line (length x) (length (records nest (first_place x)))) in
+    subst P b (h.0, h.1, l ∙ h.2)
+
+pub counts_read : (result : Result Made Stop) (mb ma pb pa : ℕ) → stops_at_file result ≡ false → ma ≡ mb → pa ≡ pb → FileCounts (stops_at_file result) mb ma pb pa
+counts_read result mb ma pb pa n m p = let P : Bool → Type 0 = λ b. FileCounts b mb ma pb pa in subst P (sym n) (m, p)

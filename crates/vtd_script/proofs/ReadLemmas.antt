@@ -6,7 +6,7 @@ use Rattle.std.proofs.lemmas.Bool.{cases_Bool, false_from_ne_true, eqb-true, lt-
 use Rattle.std.proofs.lemmas.Slice.Eq.{bytes_eq-Decides}
 use Rattle.std.proofs.lemmas.Str.{IsUtf8-from_is_utf8, is_utf8-from_IsUtf8}
 use Rattle.vtd_script.specs.Fields.{fields, unescaped}
-use Rattle.vtd_script.specs.Commands.{bare_command, of_two, command_with_two, command, line_limit, read}
+use Rattle.vtd_script.specs.Commands.{bare_command, of_two, command_with_one, command_with_two, command, line_limit, read}
 use Rattle.vtd_script.specs.Readings.{Reads, IsCommand, IsFieldFault, fields_of}
 use Rattle.vtd_script.specs.declared.commands.Command.{Command}
 use Rattle.vtd_script.specs.declared.commands.LineFault.{LineFault}
@@ -44,8 +44,9 @@ pub with_three : (word first second : List ℕ) (fs : List (List ℕ)) (result :
     → IsCommand result (command_with_two word first second) → IsCommand result (command fs)
 with_three word first second fs result e h = let P : List (List ℕ) → Type 0 = λ xs. IsCommand result (command xs) in subst P (sym e) h
 
-pub with_two : (word first : List ℕ) (fs : List (List ℕ)) → fs ≡ word ∷ first ∷ [] → command fs ≡ Err no.Command
-with_two word first fs e = ap command e
+pub with_two : (word first : List ℕ) (fs : List (List ℕ)) (result : Result Command LineFault) → fs ≡ word ∷ first ∷ []
+    → IsCommand result (command_with_one word first) → IsCommand result (command fs)
+with_two word first fs result e h = let P : List (List ℕ) → Type 0 = λ xs. IsCommand result (command xs) in subst P (sym e) h
 
 -- a line has some field
 some_field : (line : List ℕ) → (first : List ℕ) × (others : List (List ℕ)) × (fields line ≡ first ∷ others)

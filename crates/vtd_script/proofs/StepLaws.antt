@@ -1,15 +1,25 @@
 -- A line has one answer in a state, and some where the state has a document, and leaves such a state.
-use Rattle.std.proofs.Common.{◌≡◌, ℕ, Bool, true, false, List, Option, Some, None, Result, Ok, Err, refl, sym, ap, subst, ◌∙◌}
+use Rattle.std.proofs.Common.{◌≡◌, ◌≤◌, ◌<◌, ℕ, Bool, true, false, List, [], ◌∷◌, length, Option, Some, None, Result, Ok, Err, refl, sym, ap, subst}
+use Rattle.std.proofs.Common.{◌∙◌, inl, inr, arith}
+use Rattle.std.proofs.lemmas.Bool.{cases_lt}
 use Rattle.xml_model.specs.Items.{first_place}
 use Rattle.xml_model.specs.Nest.{Forest}
-use Rattle.xml_acceptance.proofs.OneAnswer.{one_document}
+use Rattle.xml_model.specs.Records.{records}
+use Rattle.xml_model.specs.Accepted.{Accepted, IsRefusal, layer}
+use Rattle.xml_model.specs.declared.DocFault.{DocFault}
+use Rattle.xml_model.specs.declared.DocFault.TheVariants as docs
+use Rattle.xml_acceptance.proofs.OneAnswer.{one_document, one_refusal}
+use Rattle.xml_acceptance.proofs.OneAnswer as answers
+use Rattle.xml_acceptance.proofs.SomeAnswer.{some_answer}
+use Rattle.vtd_edits.specs.declared.splice.Splice.{Splice}
 use Rattle.xpath_grammar.specs.Bindings.{can_bind}
 use Rattle.vtd_script.specs.Listing.{listed}
 use Rattle.vtd_script.specs.Commands.{read}
-use Rattle.vtd_script.specs.States.{State, Answer, skipped, printed, refused, state_after}
-use Rattle.vtd_script.specs.Steps.{HasDocument, Lists, Binds, Does, Answers, Step, ok_line, with_binding}
+use Rattle.vtd_script.specs.States.{State, Answer, skipped, printed, refused, missing, state_after, new_bytes}
+use Rattle.vtd_script.specs.Steps.{HasDocument, Lists, Binds, Does, Answers, Step, ok_line, with_binding, name_of}
+use Rattle.vtd_script.specs.Steps.{Takes, too_long, unfit, accepted, Opens, Saves, document_limit, document_line, refusal_of, with_document}
 use Rattle.vtd_script.specs.declared.commands.Command.{Command}
-use Rattle.vtd_script.specs.declared.commands.Command.TheVariants.{Elements, Ns}
+use Rattle.vtd_script.specs.declared.commands.Command.TheVariants.{Elements, Ns, Discard, Apply, Save, Open}
 use Rattle.vtd_script.specs.declared.refusals.Refusal.{Refusal}
 use Rattle.vtd_script.specs.declared.refusals.Refusal.TheVariants as no
 
@@ -22,9 +32,46 @@ one_binds : (can : Bool) (prefix uri : List ℕ) (s : State) (a b : Answer) → 
 one_binds true prefix uri s a b h k = h ∙ sym k
 one_binds false prefix uri s a b h k = h ∙ sym k
 
+-- there are eight layers
+last_layer : (fault : DocFault) → layer fault ≤ 8
+last_layer (docs.Utf8 at) = omega arith
+last_layer (docs.Syntax at) = omega arith
+last_layer (docs.Entity at) = omega arith
+last_layer (docs.Encoding at) = omega arith
+last_layer (docs.Nesting at) = omega arith
+last_layer (docs.Depth at) = omega arith
+last_layer (docs.Width field at) = omega arith
+last_layer (docs.Twice at) = omega arith
+last_layer (docs.Namespace at) = omega arith
+
+not_both : (bytes : List ℕ) (nest : Forest) (fault : DocFault) → Accepted 8 bytes nest → IsRefusal bytes fault → ⊥
+not_both bytes nest fault a r = answers.not_both 8 bytes nest fault a (last_layer fault) r
+
+one_takes : (bytes : List ℕ) (s : State) (a b : Answer) → Takes bytes s a → Takes bytes s b → a ≡ b
+one_takes bytes s a b (too_long l) (too_long m) = refl
+one_takes bytes s a b (too_long l) (unfit m fault r) = absurd (omega arith)
+one_takes bytes s a b (too_long l) (accepted m nest r) = absurd (omega arith)
+one_takes bytes s a b (unfit l fault q) (too_long m) = absurd (omega arith)
+one_takes bytes s a b (unfit l fault q) (unfit m other r) = ap (λ (f : DocFault). refused (refusal_of f)) (one_refusal bytes fault other q r)
+one_takes bytes s a b (unfit l fault q) (accepted m nest r) = absurd (not_both bytes nest fault r q)
+one_takes bytes s a b (accepted l nest q) (too_long m) = absurd (omega arith)
+one_takes bytes s a b (accepted l nest q) (unfit m fault r) = absurd (not_both bytes nest fault q r)
+one_takes bytes s a b (accepted l nest q) (accepted m other r) =
+    ap (λ (n : Forest). printed (document_line (length bytes) (length (records n (first_place bytes)))) (with_document bytes s))
+    (one_document bytes nest other q.document r.document)
+
+one_opens : (staged : List Splice) (file : Option (List ℕ)) (s : State) (a b : Answer) → Opens staged file s a → Opens staged file s b → a ≡ b
+one_opens [] None s a b h k = h ∙ sym k
+one_opens [] (Some bytes) s a b h k = one_takes bytes s a b h k
+one_opens (splice ∷ staged) file s a b h k = h ∙ sym k
+
 one_does : (command : Command) (s : State) (a b : Answer) → Does command s a → Does command s b → a ≡ b
 one_does Elements s a b h k = one_lists s a b h k
 one_does (Ns prefix uri) s a b h k = one_binds (can_bind prefix uri) prefix uri s a b h k
+one_does Discard s a b h k = h ∙ sym k
+one_does Apply s a b h k = one_takes (new_bytes s.work) s a b h k
+one_does (Save file) s a b h k = h ∙ sym k
+one_does (Open file) s a b h k = one_opens s.work.staged (s.files (name_of file)) s a b h k
 
 one_answers : (asked : Option (Result Command Refusal)) (s : State) (a b : Answer) → Answers asked s a → Answers asked s b → a ≡ b
 one_answers None s a b h k = h ∙ sym k
@@ -40,9 +87,27 @@ some_binds : (can : Bool) (prefix uri : List ℕ) (s : State) → (a : Answer) �
 some_binds true prefix uri s = (printed ok_line (with_binding prefix uri s), refl)
 some_binds false prefix uri s = (refused no.Name, refl)
 
+some_takes : (bytes : List ℕ) (s : State) → (a : Answer) × Takes bytes s a
+some_takes bytes s = elim (cases_lt document_limit (length bytes)) [
+  | inl l ↦ (refused no.FileLong, too_long l)
+  | inr l ↦ (elim (some_answer bytes 8 (omega arith)) [
+    | inl n ↦ (printed (document_line (length bytes) (length (records n.0 (first_place bytes)))) (with_document bytes s), accepted l n.0 n.1)
+    | inr f ↦ (refused (refusal_of f.0), unfit l f.0 f.2)
+  ])
+]
+
+some_opens : (staged : List Splice) (file : Option (List ℕ)) (s : State) → (a : Answer) × Opens staged file s a
+some_opens [] None s = (missing, refl)
+some_opens [] (Some bytes) s = some_takes bytes s
+some_opens (splice ∷ staged) file s = (refused no.Staged, refl)
+
 some_does : (command : Command) (s : State) → HasDocument s → (a : Answer) × Does command s a
 some_does Elements s w = (printed (listed w.0 (first_place s.work.bytes)) s, (w.0, w.1, refl))
 some_does (Ns prefix uri) s w = some_binds (can_bind prefix uri) prefix uri s
+some_does Discard s w = (_, refl)
+some_does Apply s w = some_takes (new_bytes s.work) s
+some_does (Save file) s w = (_, refl)
+some_does (Open file) s w = some_opens s.work.staged (s.files (name_of file)) s
 
 some_answers : (asked : Option (Result Command Refusal)) (s : State) → HasDocument s → (a : Answer) × Answers asked s a
 some_answers None s w = (skipped, refl)
@@ -61,9 +126,23 @@ kept_binds : (can : Bool) (prefix uri : List ℕ) (s : State) (a : Answer) → B
 kept_binds true prefix uri s a h w = kept_by s a _ h w
 kept_binds false prefix uri s a h w = kept_by s a _ h w
 
+kept_takes : (bytes : List ℕ) (s : State) (a : Answer) → Takes bytes s a → HasDocument s → HasDocument (state_after s a)
+kept_takes bytes s a (too_long l) w = w
+kept_takes bytes s a (unfit l fault r) w = w
+kept_takes bytes s a (accepted l nest r) w = (nest, r)
+
+kept_opens : (staged : List Splice) (file : Option (List ℕ)) (s : State) (a : Answer) → Opens staged file s a → HasDocument s → HasDocument (state_after s a)
+kept_opens [] None s a h w = kept_by s a _ h w
+kept_opens [] (Some bytes) s a h w = kept_takes bytes s a h w
+kept_opens (splice ∷ staged) file s a h w = kept_by s a _ h w
+
 kept_does : (command : Command) (s : State) (a : Answer) → Does command s a → HasDocument s → HasDocument (state_after s a)
 kept_does Elements s a h w = kept_by s a _ h.2 w
 kept_does (Ns prefix uri) s a h w = kept_binds (can_bind prefix uri) prefix uri s a h w
+kept_does Discard s a h w = kept_by s a _ h w
+kept_does Apply s a h w = kept_takes (new_bytes s.work) s a h w
+kept_does (Save file) s a h w = kept_by s a _ h w
+kept_does (Open file) s a h w = kept_opens s.work.staged (s.files (name_of file)) s a h w
 
 kept_answers : (asked : Option (Result Command Refusal)) (s : State) (a : Answer) → Answers asked s a → HasDocument s → HasDocument (state_after s a)
 kept_answers None s a h w = kept_by s a _ h w

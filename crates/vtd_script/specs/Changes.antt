@@ -1,8 +1,19 @@
 -- The two parts of a command, and the counts of faults at the end of a line (this project's own).
-use Rattle.std.specs.Prelude.{◌⊎◌, ◌≡◌, ℕ, Bool, true, false, List, [], ◌++◌, Option, Some, None, Result, Ok, Err}
+--
+-- The first part reads and builds all that a command needs, takes all its memory, and changes the session by its last
+-- call alone. The second takes no memory: it makes the change that is left, which is a file, and sends the lines.
+use Rattle.std.specs.Prelude.{◌⊎◌, ◌≡◌, ℕ, Bool, true, false, List, [], ◌++◌, length, Option, Some, None, Result, Ok, Err}
+use Rattle.xml_model.specs.Items.{first_place}
+use Rattle.xml_model.specs.Nest.{Forest}
+use Rattle.xml_model.specs.Records.{records}
+use Rattle.xml_model.specs.Accepted.{Accepted, IsRefusal}
+use Rattle.xml_model.specs.declared.DocFault.{DocFault}
 use Rattle.vtd_outside.specs.Causes.{Rose, RoseAlone}
-use Rattle.vtd_script.specs.States.{Work, State, printed, refused, refused_line}
-use Rattle.vtd_script.specs.Steps.{Does}
+use Rattle.vtd_outside.specs.Known.{NameMap, put_into}
+use Rattle.vtd_outside.specs.Written.{LeavesPrefix}
+use Rattle.vtd_script.specs.States.{Work, State, state_of, printed, refused, missing, refused_line, new_bytes}
+use Rattle.vtd_script.specs.Steps.{Does, Opens, Takes, document_line, has_file, name_of, refusal_of}
+use Rattle.vtd_script.specs.Steps.{with_document, with_file}
 use Rattle.vtd_script.specs.Runs.{IsPrefix}
 use Rattle.vtd_script.specs.declared.commands.Command.{Command}
 use Rattle.vtd_script.specs.declared.refusals.Refusal.{Refusal}
@@ -12,28 +23,107 @@ use Rattle.vtd_script.specs.declared.endings.Ending.{Ending}
 use Rattle.vtd_script.specs.declared.endings.Ending.TheVariants as endings
 use Rattle.vtd_script.specs.declared.endings.StepFault.{StepFault}
 use Rattle.vtd_script.specs.declared.endings.StepFault.TheVariants as faults
-use Rattle.vtd_script.specs.declared.session.Stop.{Stop}
-use Rattle.vtd_script.specs.declared.session.Stop.TheVariants as stop
+use Rattle.vtd_script.specs.declared.ready.Made.{Made}
+use Rattle.vtd_script.specs.declared.ready.Ready.{Ready}
+use Rattle.vtd_script.specs.declared.ready.Change.{Change}
+use Rattle.vtd_script.specs.declared.ready.Change.TheVariants as change
+use Rattle.vtd_script.specs.declared.ready.Stop.{Stop}
+use Rattle.vtd_script.specs.declared.ready.Stop.TheVariants as stop
 
--- The first part of a command, by the state before it and the state then: the state and the lines are those of the
--- command; or the command is refused, or there was no memory, and the state is as before.
-abbrev pub Prepares : Command → State → State → Result (List ℕ) Stop → Type 0
-Prepares command s now (Ok lines) = Does command s (printed lines now)
-Prepares command s now (Err (stop.Refused refusal)) = (now ≡ s) × Does command s (refused refusal)
-Prepares command s now (Err stop.NoMemory) = now ≡ s
+-- whether the change that is left is a file
+abbrev pub writes : Change → Bool
+writes change.Nothing = false
+writes (change.File name) = true
 
--- The second part: all lines were sent, or a prefix of them where the count of faults rose. It takes no memory.
-abbrev pub Completes : Type 0 → List ℕ → Result (Unit {0}) StepFault → List ℕ → Type 0
-Completes out_rose lines (Ok x) more = more ≡ lines
-Completes out_rose lines (Err faults.Write) more = IsPrefix more lines × out_rose
-Completes out_rose lines (Err faults.File) more = ⊥
-Completes out_rose lines (Err faults.NoMemory) more = ⊥
+-- where the change that is left leads
+abbrev pub Changes : Change → State → State → Type 0
+Changes change.Nothing s after = after ≡ s
+Changes (change.File name) s after = after ≡ with_file (name_of name) (new_bytes s.work) s
 
-pub record CompletesKnown (out_rose : Type 0) (lines : List ℕ) (result : Result (Unit {0}) StepFault)
-    (before : List ℕ) (out_after : Option (List ℕ)) : Type 0 where
+-- Bytes that are not too many are read as a document, with its line, or refused.
+abbrev pub ReadsDocument : List ℕ → Result Made Stop → Type 0
+ReadsDocument bytes (Ok made) = (made.document.bytes ≡ bytes) × ((nest : Forest) × Accepted 8 bytes nest ×
+    (made.lines ≡ document_line (length bytes) (length (records nest (first_place bytes)))))
+ReadsDocument bytes (Err (stop.Refused refusal)) =
+    (fault : DocFault) × IsRefusal bytes fault × (refusal ≡ refusal_of fault)
+ReadsDocument bytes (Err stop.File) = ⊥
+ReadsDocument bytes (Err stop.NoMemory) = Unit {0}
+
+-- Bytes were read as a document with its line, which become the document; or why they do not.
+abbrev pub MakesDocument : List ℕ → Result Made Stop → Type 0
+MakesDocument bytes (Ok made) =
+    (s : State) → Takes bytes s (printed made.lines (with_document made.document.bytes s))
+MakesDocument bytes (Err (stop.Refused refusal)) = (s : State) → Takes bytes s (refused refusal)
+MakesDocument bytes (Err stop.File) = ⊥
+MakesDocument bytes (Err stop.NoMemory) = Unit {0}
+
+-- A file was read as a document with its line, which becomes the document of a state; or why it does not.
+abbrev pub OpensDocument : Type 0 → State → List ℕ → Result Made Stop → Type 0
+OpensDocument file_rose s file (Ok made) = Opens s.work.staged (s.files (name_of file)) s
+    (printed made.lines (with_document made.document.bytes s))
+OpensDocument file_rose s file (Err (stop.Refused refusal)) =
+    Opens s.work.staged (s.files (name_of file)) s (refused refusal)
+OpensDocument file_rose s file (Err stop.File) =
+    Opens s.work.staged (s.files (name_of file)) s missing ⊎ file_rose
+OpensDocument file_rose s file (Err stop.NoMemory) = Unit {0}
+
+-- The first part of a command, by the state before it and the state then: each state to which the change that is left
+-- leads is that after the command, and where that is a file nothing changed before. Or the command is refused, its file
+-- is not there or a count of faults rose, or there was no memory; the state is then as before.
+abbrev pub Prepares : Type 0 → Command → State → State → Result Ready Stop → Type 0
+Prepares file_rose command s now (Ok ready) =
+    ((after : State) → Changes ready.change now after → Does command s (printed ready.lines after))
+    × (writes ready.change ≡ true → (now ≡ s) × (has_file command ≡ true))
+Prepares file_rose command s now (Err (stop.Refused refusal)) = (now ≡ s) × Does command s (refused refusal)
+Prepares file_rose command s now (Err stop.File) =
+    (now ≡ s) × (Does command s missing ⊎ ((has_file command ≡ true) × file_rose))
+Prepares file_rose command s now (Err stop.NoMemory) = now ≡ s
+
+-- the session after a first part that changed nothing of it
+abbrev pub StaysUnlessReady : Result Ready Stop → Work → Work → Type 0
+StaysUnlessReady (Ok ready) before now = writes ready.change ≡ true → now ≡ before
+StaysUnlessReady (Err stop) before now = now ≡ before
+
+-- The file of a change could not be written, where a count of faults rose.
+pub record FailsChange (file_rose : Type 0) (left : Change) (s now : State) : Type 0 where
+  pub writes_file : writes left ≡ true
+  pub cause : file_rose
+  pub work_stays : now.work ≡ s.work
+  pub name : List ℕ
+  pub bytes : List ℕ
+  pub after : State
+  pub changes : Changes left s after
+  pub one_file : after.files ≡ put_into s.files name bytes
+  pub prefix : LeavesPrefix s.files now.files name bytes
+
+-- The second part, by the state before it and then, and by what was taken in it.
+abbrev pub Completes : Type 0 → Type 0 → Ready → State → Result (Unit {0}) StepFault → State → List ℕ → Type 0
+Completes file_rose out_rose ready s (Ok x) now more = Changes ready.change s now × (more ≡ ready.lines)
+Completes file_rose out_rose ready s (Err faults.Write) now more =
+    Changes ready.change s now × IsPrefix more ready.lines × out_rose
+Completes file_rose out_rose ready s (Err faults.File) now more =
+    FailsChange file_rose ready.change s now × (more ≡ [])
+Completes file_rose out_rose ready s (Err faults.NoMemory) now more = ⊥
+
+pub record CompletesKnown (file_rose out_rose : Type 0) (ready : Ready) (s : State)
+    (result : Result (Unit {0}) StepFault) (work : Work) (files_after : Option NameMap) (before : List ℕ)
+    (out_after : Option (List ℕ)) : Type 0 where
+  pub files : NameMap
   pub more : List ℕ
+  pub files_are : files_after ≡ Some files
   pub taken : out_after ≡ Some (before ++ more)
-  pub completes : Completes out_rose lines result more
+  pub completes : Completes file_rose out_rose ready s result (state_of work files) more
+
+-- The change that is left is made, or could not be.
+abbrev pub MakesChange : {T E : Type 0} → Type 0 → Change → State → Result T E → State → Type 0
+MakesChange file_rose left s (Ok x) now = Changes left s now
+MakesChange file_rose left s (Err e) now = FailsChange file_rose left s now
+
+pub record ChangesKnown {T E : Type 0} (file_rose : Type 0) (left : Change) (s : State) (result : Result T E)
+    (work : Work) (files_after : Option NameMap) : Type 0 where
+  pub files : NameMap
+  pub files_are : files_after ≡ Some files
+  pub makes : MakesChange file_rose left s result (state_of work files)
 
 -- a refusal that is known: its line is sent
 abbrev pub Refuses : Type 0 → Refusal → Result Ending StepFault → List ℕ → Type 0
@@ -53,7 +143,15 @@ abbrev pub Asks : Result (Option Command) Stop → Option (Result Command Refusa
 Asks (Ok None) asked = asked ≡ None
 Asks (Ok (Some command)) asked = asked ≡ Some (Ok command)
 Asks (Err (stop.Refused refusal)) asked = asked ≡ Some (Err refusal)
+Asks (Err stop.File) asked = ⊥
 Asks (Err stop.NoMemory) asked = Unit {0}
+
+-- whether the first part of a command ended at a file
+abbrev pub stops_at_file : {T : Type 0} → Result T Stop → Bool
+stops_at_file (Ok x) = false
+stops_at_file (Err (stop.Refused refusal)) = false
+stops_at_file (Err stop.File) = true
+stops_at_file (Err stop.NoMemory) = false
 
 -- the counts of the files, by an answer that says that a file failed or not: then one of the two alone rose
 abbrev pub fails_at_file : {T : Type 0} → Result T StepFault → Bool

@@ -4,13 +4,27 @@ use Rattle.std.specs.Str.{bytes_eq, chars, is_utf8}
 use Rattle.xml_model.specs.Items.{is_nil}
 use Rattle.vtd_script.specs.Fields.{fields, unescaped}
 use Rattle.vtd_script.specs.declared.commands.Command.{Command}
-use Rattle.vtd_script.specs.declared.commands.Command.TheVariants.{Elements, Ns}
+use Rattle.vtd_script.specs.declared.commands.Command.TheVariants.{Elements, Ns, Discard, Apply, Save, Open}
 use Rattle.vtd_script.specs.declared.refusals.Refusal.{Refusal}
 use Rattle.vtd_script.specs.declared.refusals.Refusal.TheVariants as no
 
 -- the command of a word that no field follows
 abbrev pub bare_command : List ℕ → Result Command Refusal
-bare_command word = cond (bytes_eq word (codes "elements")) (Ok Elements) (Err no.Command)
+bare_command word =
+    cond (bytes_eq word (codes "elements")) (Ok Elements)
+    (cond (bytes_eq word (codes "discard")) (Ok Discard)
+    (cond (bytes_eq word (codes "apply")) (Ok Apply) (Err no.Command)))
+
+-- a command of one text, which may hold a wrong escape
+abbrev pub of_one : (List ℕ → Command) → Option (List ℕ) → Result Command Refusal
+of_one make None = Err no.Escape
+of_one make (Some text) = Ok (make text)
+
+-- the command of a word that one field follows
+abbrev pub command_with_one : List ℕ → List ℕ → Result Command Refusal
+command_with_one word first =
+    cond (bytes_eq word (codes "save")) (of_one (λ file. Save file) (unescaped (chars first)))
+    (cond (bytes_eq word (codes "open")) (of_one (λ file. Open file) (unescaped (chars first))) (Err no.Command))
 
 -- a command of two texts, either of which may hold a wrong escape
 abbrev pub of_two : (List ℕ → List ℕ → Command) → Option (List ℕ) → Option (List ℕ) → Result Command Refusal
@@ -28,6 +42,7 @@ command_with_two word first second =
 -- A word that no command has with so many fields comes before a wrong escape in one of them.
 abbrev pub command : List (List ℕ) → Result Command Refusal
 command (word ∷ []) = bare_command word
+command (word ∷ first ∷ []) = command_with_one word first
 command (word ∷ first ∷ second ∷ []) = command_with_two word first second
 command _ = Err no.Command
 

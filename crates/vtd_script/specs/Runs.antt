@@ -1,8 +1,8 @@
 -- What the lines of a script mean one after the other, and how carrying them out may end (this project's own).
 use Rattle.std.specs.Prelude.{◌⊎◌, ◌≡◌, ℕ, zero, suc, ◌≤◌, Bool, true, false, ◌||◌, List, [], ◌∷◌, ◌++◌}
 use Rattle.std.specs.Prelude.{length, take, drop, Option, Some, None, Result, Ok, Err}
-use Rattle.vtd_outside.specs.Known.{NameMap}
-use Rattle.vtd_outside.specs.Objects.{put_into}
+use Rattle.vtd_outside.specs.Known.{NameMap, put_into}
+use Rattle.vtd_outside.specs.Written.{LeavesPrefix}
 use Rattle.vtd_script.specs.States.{Work, State, state_of, Answer, skipped, printed, refused, missing}
 use Rattle.vtd_script.specs.States.{lines_of, state_after, is_refused, goes_on, refused_line}
 use Rattle.vtd_script.specs.Steps.{Step, asks_file}
@@ -56,11 +56,6 @@ end_of false = Done
 pub record IsPrefix (prefix whole : List ℕ) : Type 0 where
   pub more : List ℕ
   pub split : whole ≡ prefix ++ more
-
--- All files are as before, or the one of that name holds a prefix of the bytes.
-abbrev pub LeavesPrefix : NameMap → NameMap → List ℕ → List ℕ → Type 0
-LeavesPrefix before after name bytes =
-    (after ≡ before) ⊎ ((count : ℕ) × (count ≤ length bytes) × (after ≡ put_into before name (take count bytes)))
 
 -- The one file that a line writes holds a prefix of its new bytes.
 pub record LeavesFile (s : State) (line : List ℕ) (files : NameMap) : Type 0 where

@@ -1,14 +1,24 @@
 -- What a script works on, and what one of its lines answers (this project's own).
 use Rattle.std.specs.Prelude.{ℕ, Bool, true, false, List, [], ◌++◌, codes}
+use Rattle.std.specs.Fmt.{decimal}
 use Rattle.vtd_outside.specs.Known.{NameMap}
+use Rattle.vtd_edits.specs.Splices.{spliced}
+use Rattle.vtd_edits.specs.declared.splice.Splice.{Splice}
+use Rattle.vtd_script.specs.Faults.{width_word}
 use Rattle.vtd_script.specs.Listing.{line_feed}
 use Rattle.vtd_script.specs.declared.refusals.Refusal.{Refusal}
 use Rattle.vtd_script.specs.declared.refusals.Refusal.TheVariants as no
 
--- what a session holds: the document's bytes, and the prefixes that were set with their URIs
+-- what a session holds: the document's bytes, the prefixes that were set with their URIs, and the staged splices in
+-- their order
 pub record Work : Type 0 where
   pub bytes : List ℕ
   pub bound : List (List ℕ × List ℕ)
+  pub staged : List Splice
+
+-- the bytes that the staged splices make of the document
+abbrev pub new_bytes : Work → List ℕ
+new_bytes w = spliced w.bytes w.staged
 
 -- a session, and the files beside it
 pub record State : Type 0 where
@@ -33,6 +43,17 @@ refusal_words no.LineUtf8 = codes "line-utf8"
 refusal_words no.Command = codes "command"
 refusal_words no.Escape = codes "escape"
 refusal_words no.Name = codes "name"
+refusal_words no.Staged = codes "staged"
+refusal_words no.FileLong = codes "file-long"
+refusal_words (no.Utf8 at) = codes "utf8 " ++ decimal at
+refusal_words (no.Syntax at) = codes "syntax " ++ decimal at
+refusal_words (no.Entity at) = codes "entity " ++ decimal at
+refusal_words (no.Encoding at) = codes "encoding " ++ decimal at
+refusal_words (no.Nesting at) = codes "nesting " ++ decimal at
+refusal_words (no.Depth at) = codes "depth " ++ decimal at
+refusal_words (no.Width field at) = width_word field ++ decimal at
+refusal_words (no.Twice at) = codes "twice " ++ decimal at
+refusal_words (no.Namespace at) = codes "namespace " ++ decimal at
 
 unfoldable pub refused_line : Refusal → List ℕ
 refused_line refusal = codes "refused " ++ refusal_words refusal ++ line_feed

@@ -1,14 +1,21 @@
 -- What a line answers in a state, by the command that it asks for (this project's own).
-use Rattle.std.specs.Prelude.{◌≡◌, ℕ, Bool, true, false, List, ◌++◌, codes, Option, Some, None, Result, Ok, Err}
+use Rattle.std.specs.Prelude.{◌≡◌, ℕ, ◌<◌, ◌≤◌, Bool, true, false, List, [], ◌∷◌, ◌++◌, length, codes, encode_utf8_all}
+use Rattle.std.specs.Prelude.{Option, Some, None, Result, Ok, Err}
+use Rattle.std.specs.Fmt.{decimal}
 use Rattle.xml_model.specs.Items.{first_place}
 use Rattle.xml_model.specs.Nest.{Forest}
-use Rattle.xml_model.specs.Accepted.{Accepted}
+use Rattle.xml_model.specs.Records.{records}
+use Rattle.xml_model.specs.Accepted.{Accepted, IsRefusal}
+use Rattle.xml_model.specs.declared.DocFault.{DocFault}
+use Rattle.xml_model.specs.declared.DocFault.TheVariants as faults
+use Rattle.vtd_outside.specs.Known.{put_into}
+use Rattle.vtd_edits.specs.declared.splice.Splice.{Splice}
 use Rattle.xpath_grammar.specs.Bindings.{can_bind, bound_in}
 use Rattle.vtd_script.specs.Listing.{line_feed, listed}
-use Rattle.vtd_script.specs.States.{State, Answer, skipped, printed, refused}
+use Rattle.vtd_script.specs.States.{State, Answer, skipped, printed, refused, missing, new_bytes}
 use Rattle.vtd_script.specs.Commands.{read}
 use Rattle.vtd_script.specs.declared.commands.Command.{Command}
-use Rattle.vtd_script.specs.declared.commands.Command.TheVariants.{Elements, Ns}
+use Rattle.vtd_script.specs.declared.commands.Command.TheVariants.{Elements, Ns, Discard, Apply, Save, Open}
 use Rattle.vtd_script.specs.declared.refusals.Refusal.{Refusal}
 use Rattle.vtd_script.specs.declared.refusals.Refusal.TheVariants as no
 
@@ -19,11 +26,56 @@ HasDocument s = (nest : Forest) × Accepted 8 s.work.bytes nest
 -- the state with a prefix bound to a URI, in place of an earlier binding
 abbrev pub with_binding : List ℕ → List ℕ → State → State
 with_binding prefix uri s =
-    record { work = record { bytes = s.work.bytes; bound = bound_in s.work.bound prefix uri }; files = s.files }
+    record {
+      work = record { bytes = s.work.bytes; bound = bound_in s.work.bound prefix uri; staged = s.work.staged };
+      files = s.files;
+    }
+
+-- the state with these splices staged
+abbrev pub with_staged : List Splice → State → State
+with_staged staged s =
+    record { work = record { bytes = s.work.bytes; bound = s.work.bound; staged = staged }; files = s.files }
+
+-- the state with another document, for which nothing is staged; what is bound stays
+abbrev pub with_document : List ℕ → State → State
+with_document bytes s =
+    record { work = record { bytes = bytes; bound = s.work.bound; staged = [] }; files = s.files }
+
+-- the state with a file of these bytes
+abbrev pub with_file : List ℕ → List ℕ → State → State
+with_file name bytes s = record { work = s.work; files = put_into s.files name bytes }
+
+-- the name of a file, by the characters of a field: their UTF-8
+abbrev pub name_of : List ℕ → List ℕ
+name_of field = encode_utf8_all field
 
 -- the line of a command that succeeds and has nothing to tell
 abbrev pub ok_line : List ℕ
 ok_line = codes "ok" ++ line_feed
+
+-- the line of a file that was written, by how many bytes it has
+abbrev pub saved_line : ℕ → List ℕ
+saved_line count = codes "saved " ++ decimal count ++ line_feed
+
+-- the line of a new document, by how many bytes and records it has
+abbrev pub document_line : ℕ → ℕ → List ℕ
+document_line count recorded = codes "document " ++ decimal count ++ codes " " ++ decimal recorded ++ line_feed
+
+-- how many bytes a document has at most
+abbrev pub document_limit : ℕ
+document_limit = 1_073_741_823
+
+-- the refusal of a command by a document that is refused
+abbrev pub refusal_of : DocFault → Refusal
+refusal_of (faults.Utf8 at) = no.Utf8 at
+refusal_of (faults.Syntax at) = no.Syntax at
+refusal_of (faults.Entity at) = no.Entity at
+refusal_of (faults.Encoding at) = no.Encoding at
+refusal_of (faults.Nesting at) = no.Nesting at
+refusal_of (faults.Depth at) = no.Depth at
+refusal_of (faults.Width field at) = no.Width field at
+refusal_of (faults.Twice at) = no.Twice at
+refusal_of (faults.Namespace at) = no.Namespace at
 
 -- The elements of the document are listed.
 abbrev pub Lists : State → Answer → Type 0
@@ -34,10 +86,33 @@ abbrev pub Binds : Bool → List ℕ → List ℕ → State → Answer → Type 
 Binds true prefix uri s a = a ≡ printed ok_line (with_binding prefix uri s)
 Binds false prefix uri s a = a ≡ refused no.Name
 
+-- Bytes are to be the document: they are too many, or refused, or become it.
+pub data Takes (bytes : List ℕ) (s : State) : Answer → Type 0 where
+  too_long : document_limit < length bytes → Takes bytes s (refused no.FileLong)
+  unfit : length bytes ≤ document_limit → (fault : DocFault) → IsRefusal bytes fault →
+      Takes bytes s (refused (refusal_of fault))
+  accepted : length bytes ≤ document_limit → (nest : Forest) → Accepted 8 bytes nest →
+      Takes bytes s (printed (document_line (length bytes) (length (records nest (first_place bytes))))
+      (with_document bytes s))
+
+-- A file is to be the document, where nothing is staged and it is there.
+abbrev pub Opens : List Splice → Option (List ℕ) → State → Answer → Type 0
+Opens (splice ∷ staged) file s a = a ≡ refused no.Staged
+Opens [] None s a = a ≡ missing
+Opens [] (Some bytes) s a = Takes bytes s a
+
+-- A file takes the new bytes; document and staging stay.
+abbrev pub Saves : List ℕ → List ℕ → State → Answer → Type 0
+Saves name bytes s a = a ≡ printed (saved_line (length bytes)) (with_file name bytes s)
+
 -- what a command answers
 abbrev pub Does : Command → State → Answer → Type 0
 Does Elements s a = Lists s a
 Does (Ns prefix uri) s a = Binds (can_bind prefix uri) prefix uri s a
+Does Discard s a = a ≡ printed ok_line (with_staged [] s)
+Does Apply s a = Takes (new_bytes s.work) s a
+Does (Save file) s a = Saves (name_of file) (new_bytes s.work) s a
+Does (Open file) s a = Opens s.work.staged (s.files (name_of file)) s a
 
 abbrev pub Answers : Option (Result Command Refusal) → State → Answer → Type 0
 Answers None s a = a ≡ skipped
@@ -52,6 +127,10 @@ Step s line a = Answers (read line) s a
 abbrev pub has_file : Command → Bool
 has_file Elements = false
 has_file (Ns prefix uri) = false
+has_file Discard = false
+has_file Apply = false
+has_file (Save file) = true
+has_file (Open file) = true
 
 abbrev pub asks_file : Option (Result Command Refusal) → Bool
 asks_file None = false

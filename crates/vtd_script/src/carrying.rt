@@ -22,13 +22,14 @@ fn carry_line<F: Files, K: Sink>(
     out: &mut K,
     refused: bool,
 ) -> Result<bool, End>
-    requires { F.is_writing files.old ≡ false }
-    ensures known { (map : NameMap) (sent : List ℕ) → F.contents files.old ≡ Some map → K.taken out.old ≡ Some sent
-        → TurnedKnown (Rose (F.proper files.old) (F.proper files.new)) (Rose (K.faults out.old) (K.faults out.new)) keep
-        (state_of session.old map) line.now refused result session.new (F.contents files.new) sent (K.taken out.new) }
-    ensures writing_stays { F.is_writing files.new ≡ false }
+    requires { (F.seen files.old).is_writing ≡ false }
+    ensures known { (map : NameMap) (sent : List ℕ) → (F.seen files.old).contents ≡ Some map
+        → K.taken out.old ≡ Some sent → TurnedKnown (Rose (F.seen files.old).proper (F.seen files.new).proper)
+        (Rose (K.faults out.old) (K.faults out.new)) keep (state_of session.old map) line.now refused result
+        session.new (F.seen files.new).contents sent (K.taken out.new) }
+    ensures writing_stays { (F.seen files.new).is_writing ≡ false }
     ensures counts { TurnFiles result
-        (F.missed files.old) (F.missed files.new) (F.proper files.old) (F.proper files.new) }
+        (F.seen files.old).missed (F.seen files.new).missed (F.seen files.old).proper (F.seen files.new).proper }
     ensures sends { TurnSends result (K.faults out.old) (K.faults out.new) }
 {
     match session.step(line, files, out) {
@@ -61,13 +62,14 @@ pub fn carry_out<F: Files, K: Sink>(
     out: &mut K,
 ) -> End
     requires size { length script.now ≤ 16777216 }
-    requires writing { F.is_writing files.old ≡ false }
-    ensures known { (map : NameMap) (sent : List ℕ) → F.contents files.old ≡ Some map → K.taken out.old ≡ Some sent
-        → EndsKnown (Rose (F.proper files.old) (F.proper files.new)) (Rose (K.faults out.old) (K.faults out.new)) keep
-        (state_of session map) (lines script.now) result (F.contents files.new) sent (K.taken out.new) }
-    ensures writing_stays { F.is_writing files.new ≡ false }
+    requires writing { (F.seen files.old).is_writing ≡ false }
+    ensures known { (map : NameMap) (sent : List ℕ) → (F.seen files.old).contents ≡ Some map
+        → K.taken out.old ≡ Some sent → EndsKnown (Rose (F.seen files.old).proper (F.seen files.new).proper)
+        (Rose (K.faults out.old) (K.faults out.new)) keep
+        (state_of session map) (lines script.now) result (F.seen files.new).contents sent (K.taken out.new) }
+    ensures writing_stays { (F.seen files.new).is_writing ≡ false }
     ensures file_fault { EndFiles result
-        (F.missed files.old) (F.missed files.new) (F.proper files.old) (F.proper files.new) }
+        (F.seen files.old).missed (F.seen files.new).missed (F.seen files.old).proper (F.seen files.new).proper }
     ensures write_fault { EndSends result (K.faults out.old) (K.faults out.new) }
 {
     let mut at = 0;

@@ -3,7 +3,8 @@
 ghost use Rattle.std.specs.Prelude.{◌≡◌};
 ghost use Rattle.std.specs.Str.{chars};
 ghost use Rattle.vtd_script.specs.Fields.{fields, unescaped};
-ghost use Rattle.vtd_script.specs.Commands.{bare_command, command, command_with_two, of_two, read};
+ghost use Rattle.vtd_script.specs.Commands.{bare_command, command, command_with_one, command_with_two};
+ghost use Rattle.vtd_script.specs.Commands.{of_one, of_two, read};
 ghost use Rattle.vtd_script.specs.Readings.{IsCommand, Reads};
 
 use crate::fields::{first_field, unescape};
@@ -26,6 +27,20 @@ pub enum Command {
         prefix: Text,
         /// The URI.
         uri: Text,
+    },
+    /// Drops all that is staged.
+    Discard,
+    /// Makes the new bytes the document, for which nothing is staged.
+    Apply,
+    /// Writes the new bytes to a file.
+    Save {
+        /// The name of the file.
+        file: Text,
+    },
+    /// Reads a file as the document, for which nothing is staged.
+    Open {
+        /// The name of the file.
+        file: Text,
     },
 }
 
@@ -66,6 +81,39 @@ fn bare_command(word: &str) -> Result<Command, LineFault>
 {
     match word {
         "elements" => Ok(Command::Elements),
+        "discard" => Ok(Command::Discard),
+        "apply" => Ok(Command::Apply),
+        _ => Err(LineFault::Command),
+    }
+}
+
+/// The command `save`, by its field.
+fn save(alloc: Global, file: &str) -> Result<Command, LineFault>
+    ensures { IsCommand result (of_one (λ f. Command.Save f) (unescaped (chars file.now))) }
+{
+    match unescape(alloc, file) {
+        Ok(file) => Ok(Command::Save { file }),
+        Err(fault) => Err(fault),
+    }
+}
+
+/// The command `open`, by its field.
+fn open(alloc: Global, file: &str) -> Result<Command, LineFault>
+    ensures { IsCommand result (of_one (λ f. Command.Open f) (unescaped (chars file.now))) }
+{
+    match unescape(alloc, file) {
+        Ok(file) => Ok(Command::Open { file }),
+        Err(fault) => Err(fault),
+    }
+}
+
+/// The command of a line whose word one field follows.
+fn command_with_one(alloc: Global, word: &str, first: &str) -> Result<Command, LineFault>
+    ensures { IsCommand result (command_with_one word.now first.now) }
+{
+    match word {
+        "save" => save(alloc, first),
+        "open" => open(alloc, first),
         _ => Err(LineFault::Command),
     }
 }
@@ -105,7 +153,7 @@ fn read_fields(alloc: Global, line: &str) -> Result<Command, LineFault>
     };
     let (first, rest) = first_field(rest);
     let Some(rest) = rest else {
-        return Err(LineFault::Command);
+        return command_with_one(alloc, word, first);
     };
     let (second, rest) = first_field(rest);
     if rest.is_some() {

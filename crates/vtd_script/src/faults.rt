@@ -8,7 +8,7 @@ use std::alloc::Global;
 use xml_model::{DocFault, Field, NoMemory};
 
 /// The words for the part of a record that is too wide.
-fn width_word(field: Field) -> &'static [u8]
+pub fn width_word(field: Field) -> &'static [u8]
     ensures { result.now ≡ width_word field }
 {
     match field {

@@ -1,54 +1,67 @@
-//! A session: a document, and the prefixes that are bound for it.
+//! A session: a document, the prefixes that are bound for it, and what is staged.
 
-ghost use Rattle.std.specs.Prelude.{◌≡◌, ℕ, ◌<◌, ◌^◌, List, [], vec_len, false, IfOk, IfErr, Some};
+ghost use Rattle.std.specs.Prelude.{◌⊎◌, ◌≡◌, ℕ, ◌<◌, ◌≤◌, ◌^◌, List, [], length, vec_len, Bool, true, false, IfOk, IfErr};
+ghost use Rattle.std.specs.Prelude.{OnErr, OnOk, Some};
 ghost use Rattle.xml_model.specs.Accepted.{Accepted, IsRefusal};
 ghost use Rattle.xml_model.specs.Nest.{Forest};
 ghost use Rattle.xml_model.specs.declared.DocFault.{DocFault};
 ghost use Rattle.vtd_outside.specs.Causes.{Rose};
 ghost use Rattle.vtd_outside.specs.Known.{NameMap};
 ghost use Rattle.vtd_script.specs.Commands.{read};
-ghost use Rattle.vtd_script.specs.States.{state_of};
+ghost use Rattle.vtd_script.specs.States.{new_bytes, state_of};
 ghost use Rattle.vtd_script.specs.Runs.{StepsKnown};
-ghost use Rattle.vtd_script.specs.Changes.{Asks, Prepares, CompletesKnown, RefusesKnown, fails_at_file};
-ghost use Rattle.vtd_script.specs.Changes.{FileCounts, SendCounts, StaysUnlessDone};
-ghost use Rattle.vtd_script.specs.declared.commands.Command.TheVariants.{Elements, Ns};
+ghost use Rattle.vtd_script.specs.Changes.{Asks, ChangesKnown, CompletesKnown, MakesDocument, OpensDocument, Prepares};
+ghost use Rattle.vtd_script.specs.Changes.{RefusesKnown};
+ghost use Rattle.vtd_script.specs.Changes.{FileCounts, SendCounts, StaysUnlessDone, StaysUnlessReady, fails_at_file};
+ghost use Rattle.vtd_script.specs.Changes.{stops_at_file, writes};
+ghost use Rattle.vtd_script.specs.declared.commands.Command.TheVariants.{Apply, Discard, Elements, Ns, Open, Save};
 
 use crate::commands::{Command, LineFault, read_line};
 use crate::endings::{Ending, StepFault};
 use crate::listing::{listed_lines, ok_lines};
+use crate::preparing::{DOCUMENT_LIMIT, name_of, read_document, saved_lines};
+use crate::ready::{Change, Made, Ready, Stop};
 use crate::refusals::{Refusal, refusal_line};
 use std::alloc::Global;
 use std::marker::Model;
 use vtd_builder::{BuildFault, Doc, build};
-use vtd_outside::{Files, Sink, send};
+use vtd_edits::{Edits, spliced};
+use vtd_outside::{Failed, Files, GatherFault, Sink, gather_file, send};
+use vtd_writing::write;
 use xml_model::texts::as_str;
 use xml_model::{Bytes, Text};
 use xpath_grammar::{BindFault, Bindings};
 
-/// A document with the prefixes that are bound for it. Contracts see its bytes, and the list of the prefixes that were
-/// set, each once with its URI.
+/// A document with the prefixes that are bound for it and the splices that are staged. Contracts see its bytes, the
+/// list of the prefixes that were set, each once with its URI, and the splices in staging order.
 #[derive(Drop)]
 pub struct Session {
     alloc: Global,
     document: Doc,
     bindings: Bindings,
+    edits: Edits,
 }
 
 impl Model for Session {
+    ghost use Rattle.std.specs.Prelude.{◌≡◌, length};
     ghost use Rattle.vtd_script.specs.States.{Work};
 
     ghost Value = { Work };
 
-    ghost view = { λ s. record { bytes = s.document.bytes; bound = s.bindings } };
+    ghost view = { λ s. record { bytes = s.document.bytes; bound = s.bindings; staged = s.edits.splices } };
+
+    ghost invariant = { λ s. s.edits.len ≡ length s.document.bytes };
 }
 
-/// Why a line is not carried out.
-#[derive(Clone, Copy)]
-enum Stop {
-    /// It is refused.
-    Refused(Refusal),
-    /// Memory was not to be had.
-    NoMemory,
+/// A command whose first part is over.
+fn ready(change: Change, lines: Vec<u8>) -> Ready
+    ensures change { result.change ≡ change }
+    ensures lines { result.lines ≡ lines.items }
+{
+    Ready {
+        change,
+        lines: Bytes { held: lines },
+    }
 }
 
 /// What a line asks for.
@@ -66,29 +79,28 @@ fn read_command(alloc: Global, line: &[u8]) -> Result<Option<Command>, Stop>
     }
 }
 
-/// The second part of a command: its lines are sent. It takes no memory.
-fn complete<K: Sink>(lines: &Bytes, out: &mut K) -> Result<(), StepFault>
-    ensures known { (sent : List ℕ) → K.taken out.old ≡ Some sent
-        → CompletesKnown (Rose (K.faults out.old) (K.faults out.new)) lines.now result sent (K.taken out.new) }
-    ensures sends { SendCounts result (K.faults out.old) (K.faults out.new) }
-    ensures no_file { fails_at_file result ≡ false }
-    ensures cut_off { IfErr result (λ fault. fault ≡ StepFault.Write) }
-{
-    match send(out, lines.held.as_slice()) {
-        Ok(()) => Ok(()),
-        Err(_) => Err(StepFault::Write),
-    }
-}
-
 impl Session {
-    /// A session over a document, with the prefix `xml` alone bound.
+    /// A session over a document.
+    fn over(alloc: Global, document: Doc) -> Session
+        ensures { result ≡ record { bytes = document.bytes; bound = []; staged = [] } }
+    {
+        let length = document.bytes().len() as u32;
+        Session {
+            alloc,
+            document,
+            bindings: Bindings::new(alloc),
+            edits: Edits::new(alloc, length),
+        }
+    }
+
+    /// A session over a document, with the prefix `xml` alone bound and nothing staged.
     ///
     /// # Errors
     /// `Doc` only with the refusal of the bytes; `NoMemory` may come in place of a refusal of names. The bytes come
     /// back with each fault.
     pub fn start(alloc: Global, bytes: Vec<u8>) -> Result<Session, (Vec<u8>, BuildFault)>
         requires { vec_len bytes < 2 ^ 30 }
-        ensures started { IfOk result (λ s. s ≡ record { bytes = bytes.items; bound = [] }) }
+        ensures started { IfOk result (λ s. s ≡ record { bytes = bytes.items; bound = []; staged = [] }) }
         ensures accepted { IfOk result (λ s. (nest : Forest) × Accepted 8 bytes.items nest) }
         ensures given_back { IfErr result (λ e. e.0 ≡ bytes) }
         ensures refused { IfErr result (λ e. (fault : DocFault) → e.1 ≡ BuildFault.Doc fault →
@@ -97,48 +109,220 @@ impl Session {
             (nest : Forest) × Accepted 6 bytes.items nest) }
     {
         match build(alloc, bytes) {
-            Ok(document) => Ok(Session {
-                alloc,
-                document,
-                bindings: Bindings::new(alloc),
-            }),
+            Ok(document) => Ok(Session::over(alloc, document)),
             Err(fault) => Err(fault),
         }
     }
 
     /// The first part of `elements`: its lines.
-    fn list_elements(&self) -> Result<Bytes, Stop>
-        ensures { (files : NameMap) → Prepares Elements (state_of self.now files) (state_of self.now files) result }
+    fn list_elements(&self) -> Result<Ready, Stop>
+        ensures known { (files : NameMap) →
+            Prepares ⊥ Elements (state_of self.now files) (state_of self.now files) result }
+        ensures no_file { stops_at_file result ≡ false }
     {
         match listed_lines(self.alloc, &self.document) {
-            Ok(lines) => Ok(Bytes { held: lines }),
+            Ok(lines) => Ok(ready(Change::Nothing, lines)),
             Err(_) => Err(Stop::NoMemory),
         }
     }
 
     /// The first part of `ns`: its line, and then the binding.
-    fn bind(&mut self, prefix: &Text, uri: &Text) -> Result<Bytes, Stop>
-        ensures { (files : NameMap) →
-            Prepares (Ns prefix.now uri.now) (state_of self.old files) (state_of self.new files) result }
+    fn bind(&mut self, prefix: &Text, uri: &Text) -> Result<Ready, Stop>
+        ensures known { (files : NameMap) →
+            Prepares ⊥ (Ns prefix.now uri.now) (state_of self.old files) (state_of self.new files) result }
+        ensures no_file { stops_at_file result ≡ false }
     {
         let Ok(lines) = ok_lines(self.alloc) else {
             return Err(Stop::NoMemory);
         };
         match self.bindings.set(as_str(prefix), as_str(uri)) {
-            Ok(()) => Ok(Bytes { held: lines }),
+            Ok(()) => Ok(ready(Change::Nothing, lines)),
             Err(BindFault::Name) => Err(Stop::Refused(Refusal::Name)),
             Err(BindFault::NoMemory) => Err(Stop::NoMemory),
         }
     }
 
-    /// The first part of a command, which answers its lines. It takes all memory that the command takes, and changes
-    /// the session by its last call alone.
-    fn prepare(&mut self, command: Command) -> Result<Bytes, Stop>
-        ensures { (files : NameMap) → Prepares command (state_of self.old files) (state_of self.new files) result }
+    /// The first part of `discard`: its line, and then nothing is staged.
+    fn discard(&mut self) -> Result<Ready, Stop>
+        ensures known { (files : NameMap) →
+            Prepares ⊥ Discard (state_of self.old files) (state_of self.new files) result }
+        ensures no_file { stops_at_file result ≡ false }
+    {
+        let Ok(lines) = ok_lines(self.alloc) else {
+            return Err(Stop::NoMemory);
+        };
+        self.edits.clear();
+        Ok(ready(Change::Nothing, lines))
+    }
+
+    /// Makes a document that was read the session's, for which nothing is staged; what is bound stays.
+    fn take(&mut self, made: Made) -> Ready
+        ensures work { self.new ≡ record { bytes = made.document.bytes; bound = self.old.bound; staged = [] } }
+        ensures change { result.change ≡ Change.Nothing }
+        ensures lines { result.lines ≡ made.lines }
+    {
+        let Made { document, lines } = made;
+        let length = document.bytes().len() as u32;
+        self.document = document;
+        self.edits = Edits::new(self.alloc, length);
+        Ready {
+            change: Change::Nothing,
+            lines,
+        }
+    }
+
+    /// The document of the new bytes.
+    fn new_document(&self) -> Result<Made, Stop>
+        ensures { MakesDocument (new_bytes self.now) result }
+    {
+        if self.edits.length() > DOCUMENT_LIMIT {
+            return Err(Stop::Refused(Refusal::FileLong));
+        }
+        match spliced(self.alloc, self.document.bytes(), &self.edits) {
+            Ok(bytes) => read_document(self.alloc, bytes),
+            Err(_) => Err(Stop::NoMemory),
+        }
+    }
+
+    /// The first part of `apply`: the document of the new bytes, and then it is the session's.
+    fn apply(&mut self) -> Result<Ready, Stop>
+        ensures known { (files : NameMap) →
+            Prepares ⊥ Apply (state_of self.old files) (state_of self.new files) result }
+        ensures no_file { stops_at_file result ≡ false }
+    {
+        match self.new_document() {
+            Ok(made) => Ok(self.take(made)),
+            Err(stop) => Err(stop),
+        }
+    }
+
+    /// The first part of `save`: its line. The file is left to the second part.
+    fn save(&self, file: Text) -> Result<Ready, Stop>
+        ensures known { (files : NameMap) →
+            Prepares ⊥ (Save file) (state_of self.now files) (state_of self.now files) result }
+        ensures no_file { stops_at_file result ≡ false }
+    {
+        match saved_lines(self.alloc, self.edits.length()) {
+            Ok(lines) => Ok(ready(Change::File { name: file }, lines)),
+            Err(_) => Err(Stop::NoMemory),
+        }
+    }
+
+    /// The document of a file, where nothing is staged.
+    fn file_document<F: Files>(&self, file: &Text, files: &mut F) -> Result<Made, Stop>
+        requires { (F.seen files.old).is_writing ≡ false }
+        ensures known { (map : NameMap) → (F.seen files.old).contents ≡ Some map
+            → OpensDocument (Rose (F.seen files.old).proper (F.seen files.new).proper) (state_of self.now map) file.now
+            result }
+        ensures files_stay { (F.seen files.new).contents ≡ (F.seen files.old).contents }
+        ensures writing_stays { (F.seen files.new).is_writing ≡ false }
+        ensures counts { FileCounts (stops_at_file result)
+            (F.seen files.old).missed (F.seen files.new).missed (F.seen files.old).proper (F.seen files.new).proper }
+    {
+        if self.edits.count() > 0 {
+            return Err(Stop::Refused(Refusal::Staged));
+        }
+        match gather_file(self.alloc, files, name_of(file), DOCUMENT_LIMIT) {
+            Ok(bytes) => read_document(self.alloc, bytes),
+            Err(GatherFault::Failed) => Err(Stop::File),
+            Err(GatherFault::Long) => Err(Stop::Refused(Refusal::FileLong)),
+            Err(GatherFault::NoMemory) => Err(Stop::NoMemory),
+        }
+    }
+
+    /// The first part of `open`: the document of the file, and then it is the session's.
+    fn open<F: Files>(&mut self, file: &Text, files: &mut F) -> Result<Ready, Stop>
+        requires { (F.seen files.old).is_writing ≡ false }
+        ensures known { (map : NameMap) → (F.seen files.old).contents ≡ Some map
+            → Prepares (Rose (F.seen files.old).proper (F.seen files.new).proper) (Open file.now)
+            (state_of self.old map) (state_of self.new map) result }
+        ensures stays { StaysUnlessReady result self.old self.new }
+        ensures files_stay { (F.seen files.new).contents ≡ (F.seen files.old).contents }
+        ensures writing_stays { (F.seen files.new).is_writing ≡ false }
+        ensures counts { FileCounts (stops_at_file result)
+            (F.seen files.old).missed (F.seen files.new).missed (F.seen files.old).proper (F.seen files.new).proper }
+    {
+        match self.file_document(file, files) {
+            Ok(made) => Ok(self.take(made)),
+            Err(stop) => Err(stop),
+        }
+    }
+
+    /// The first part of a command. It takes all memory that the command takes, and changes the session by its last
+    /// call alone.
+    fn prepare<F: Files>(&mut self, command: Command, files: &mut F) -> Result<Ready, Stop>
+        requires { (F.seen files.old).is_writing ≡ false }
+        ensures known { (map : NameMap) → (F.seen files.old).contents ≡ Some map
+            → Prepares (Rose (F.seen files.old).proper (F.seen files.new).proper) command
+            (state_of self.old map) (state_of self.new map) result }
+        ensures stays { StaysUnlessReady result self.old self.new }
+        ensures files_stay { (F.seen files.new).contents ≡ (F.seen files.old).contents }
+        ensures writing_stays { (F.seen files.new).is_writing ≡ false }
+        ensures counts { FileCounts (stops_at_file result)
+            (F.seen files.old).missed (F.seen files.new).missed (F.seen files.old).proper (F.seen files.new).proper }
     {
         match command {
             Command::Elements => self.list_elements(),
             Command::Ns { prefix, uri } => self.bind(&prefix, &uri),
+            Command::Discard => self.discard(),
+            Command::Apply => self.apply(),
+            Command::Save { file } => self.save(file),
+            Command::Open { file } => self.open(&file, files),
+        }
+    }
+
+    /// Makes the change that a command left. It takes no memory.
+    fn make<F: Files>(&self, change: Change, files: &mut F) -> Result<(), Failed>
+        requires { (F.seen files.old).is_writing ≡ false }
+        ensures known { (map : NameMap) → (F.seen files.old).contents ≡ Some map
+            → ChangesKnown (Rose (F.seen files.old).proper (F.seen files.new).proper) change
+            (state_of self.now map) result self.now (F.seen files.new).contents }
+        ensures writing_stays { (F.seen files.new).is_writing ≡ false }
+        ensures kept { OnOk result (((F.seen files.new).missed ≡ (F.seen files.old).missed)
+            × ((F.seen files.new).proper ≡ (F.seen files.old).proper)) }
+        ensures missed { (F.seen files.new).missed ≡ (F.seen files.old).missed }
+        ensures fault { OnErr result (Rose (F.seen files.old).proper (F.seen files.new).proper) }
+        ensures file { OnErr result (writes change ≡ true) }
+    {
+        match change {
+            Change::Nothing => Ok(()),
+            Change::File { name } => write(
+                name_of(&name),
+                self.document.bytes(),
+                &self.edits,
+                files,
+            ),
+        }
+    }
+
+    /// The second part of a command: it makes the change that is left, finishes its file and then sends the lines. It
+    /// takes no memory.
+    fn complete<F: Files, K: Sink>(
+        &self,
+        ready: Ready,
+        files: &mut F,
+        out: &mut K,
+    ) -> Result<(), StepFault>
+        requires { (F.seen files.old).is_writing ≡ false }
+        ensures known { (map : NameMap) (sent : List ℕ) → (F.seen files.old).contents ≡ Some map
+            → K.taken out.old ≡ Some sent
+            → CompletesKnown (Rose (F.seen files.old).proper (F.seen files.new).proper)
+            (Rose (K.faults out.old) (K.faults out.new)) ready (state_of self.now map) result self.now
+            (F.seen files.new).contents sent (K.taken out.new) }
+        ensures writing_stays { (F.seen files.new).is_writing ≡ false }
+        ensures counts { FileCounts (fails_at_file result)
+            (F.seen files.old).missed (F.seen files.new).missed (F.seen files.old).proper (F.seen files.new).proper }
+        ensures sends { SendCounts result (K.faults out.old) (K.faults out.new) }
+        ensures file { fails_at_file result ≡ true → writes ready.change ≡ true }
+        ensures no_memory { IfErr result (λ fault. (fault ≡ StepFault.Write) ⊎ (fault ≡ StepFault.File)) }
+    {
+        let Ready { change, lines } = ready;
+        if let Err(_) = self.make(change, files) {
+            return Err(StepFault::File);
+        }
+        match send(out, lines.held.as_slice()) {
+            Ok(()) => Ok(()),
+            Err(_) => Err(StepFault::Write),
         }
     }
 
@@ -175,28 +359,30 @@ impl Session {
         files: &mut F,
         out: &mut K,
     ) -> Result<Ending, StepFault>
-        requires { F.is_writing files.old ≡ false }
-        ensures known { (map : NameMap) (sent : List ℕ) → F.contents files.old ≡ Some map → K.taken out.old ≡ Some sent
-            → StepsKnown (Rose (F.proper files.old) (F.proper files.new)) (Rose (K.faults out.old) (K.faults out.new))
-            (state_of self.old map) line.now result self.new (F.contents files.new) sent (K.taken out.new) }
+        requires { (F.seen files.old).is_writing ≡ false }
+        ensures known { (map : NameMap) (sent : List ℕ) → (F.seen files.old).contents ≡ Some map
+            → K.taken out.old ≡ Some sent → StepsKnown (Rose (F.seen files.old).proper (F.seen files.new).proper)
+            (Rose (K.faults out.old) (K.faults out.new))
+            (state_of self.old map) line.now result self.new (F.seen files.new).contents sent (K.taken out.new) }
         ensures session_stays { StaysUnlessDone result self.old self.new }
-        ensures writing_stays { F.is_writing files.new ≡ false }
+        ensures writing_stays { (F.seen files.new).is_writing ≡ false }
         ensures counts { FileCounts (fails_at_file result)
-            (F.missed files.old) (F.missed files.new) (F.proper files.old) (F.proper files.new) }
+            (F.seen files.old).missed (F.seen files.new).missed (F.seen files.old).proper (F.seen files.new).proper }
         ensures sends { SendCounts result (K.faults out.old) (K.faults out.new) }
     {
         let command = match read_command(self.alloc, line) {
             Ok(None) => return Ok(Ending::Skipped),
             Ok(Some(command)) => command,
             Err(Stop::Refused(refusal)) => return self.refuse(refusal, out),
-            Err(Stop::NoMemory) => return Err(StepFault::NoMemory),
+            Err(_) => return Err(StepFault::NoMemory),
         };
-        match self.prepare(command) {
-            Ok(lines) => match complete(&lines, out) {
+        match self.prepare(command, files) {
+            Ok(ready) => match self.complete(ready, files, out) {
                 Ok(()) => Ok(Ending::Done),
                 Err(fault) => Err(fault),
             },
             Err(Stop::Refused(refusal)) => self.refuse(refusal, out),
+            Err(Stop::File) => Err(StepFault::File),
             Err(Stop::NoMemory) => Err(StepFault::NoMemory),
         }
     }

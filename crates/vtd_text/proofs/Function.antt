@@ -1,10 +1,9 @@
 -- The content of characters that have one is what the function of the characters gives; so it is the only one.
-use Rattle.std.proofs.Common.{◌≡◌, ℕ, zero, suc, ◌-◌, ◌/◌, ◌%◌, ◌^◌, ◌<◌, Bool, true, false, not, ◌&&◌, ◌==◌, List, [], ◌∷◌, ◌++◌, length, map, take, drop, Option, Some, None, refl, sym, ap, ap₂, ◌∙◌, arith, length-append, inl, inr}
+use Rattle.std.proofs.Common.{◌≡◌, ℕ, zero, suc, ◌/◌, ◌^◌, ◌<◌, Bool, true, false, not, ◌&&◌, ◌==◌, List, [], ◌∷◌, ◌++◌, length, map, Option, Some, None, refl, sym, ap, ap₂, ◌∙◌, arith, length-append, inl, inr}
 use Rattle.std.specs.Prelude.{option_and_then}
 use Rattle.std.specs.List.{AllByRecursion as Each, list_all, flat_map}
 use Rattle.std.specs.Str.{chars}
-use Rattle.std.proofs.lemmas.Nat.{and_mask}
-use Rattle.std.proofs.lemmas.Bool.{and_parts, and_from, false≢true, cases_Bool, eqb-true}
+use Rattle.std.proofs.lemmas.Bool.{and_parts, and_from, false≢true, cases_Bool}
 use Rattle.xml_model.specs.Chars.{is_char}
 use Rattle.xml_model.specs.Items.{Piece, literal, entity, decimal, hexadecimal, written_piece, written_pieces, meets_piece}
 use Rattle.xml_model.specs.Records.{Record, word}
@@ -13,7 +12,6 @@ use Rattle.xml_model.specs.Accepted.{is_name_token}
 use Rattle.xml_chars.specs.Readers.{many_by}
 use Rattle.xml_chars.specs.Places.{is_reference}
 use Rattle.xml_chars.proofs.NameLaws.{reference_reads}
-use Rattle.vtd_words.specs.declared.packing.Parts.{Parts}
 use Rattle.vtd_words.specs.Packed.{fits, record_of}
 use Rattle.vtd_words.specs.Table.{Shows, parts_of_record}
 use Rattle.vtd_words.proofs.Unpacked.{name_unpacked, other_unpacked}

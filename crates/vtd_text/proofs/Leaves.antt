@@ -1,11 +1,11 @@
 -- What the records of a leaf and of a tag say, where it is in the bytes.
-use Rattle.std.proofs.Common.{◌≡◌, ℕ, zero, suc, ◌+◌, Bool, true, false, cond, not, ◌&&◌, ◌||◌, ◌==◌, List, [], ◌∷◌, ◌++◌, map, codes, refl, sym, ap, subst, ◌∙◌, append_assoc, append-nil, Option, Some, None, drop}
+use Rattle.std.proofs.Common.{◌≡◌, ℕ, suc, ◌+◌, Bool, true, false, cond, not, ◌&&◌, ◌||◌, ◌==◌, List, [], ◌∷◌, ◌++◌, map, codes, refl, sym, ap, subst, ◌∙◌, append_assoc, append-nil, Option, Some, None, drop}
 use Rattle.std.specs.List.{AllByRecursion as Each, list_all}
 use Rattle.std.proofs.lemmas.Bool.{and_parts, and_from, false≢true}
 use lib.Utf8.{encode, encodes}
 use Rattle.xml_model.specs.Chars.{is_char, size, lacks, is_white, is_name, is_blank}
 use Rattle.xml_model.specs.Items.{Piece, literal, entity, decimal, hexadecimal, Attribute, Tag, Instruction, Leaf, text, cdata, declaration, doctype, quote_char, before_value, written_pieces, written_attribute, written_attributes, written_leaf, written_tag, meets_piece, meets_attribute, meets_tag, meets_leaf, is_nil}
-use Rattle.xml_model.specs.Records.{Record, plain, declares, attributes_records, attributes_place, tag_records, declaration_part_records, declaration_attributes, depth_at, leaf_records}
+use Rattle.xml_model.specs.Records.{Record, plain, attributes_place, declaration_attributes, depth_at, leaf_records}
 use Rattle.xml_model.specs.Content.{text_content, value_content, literal_content, leaf_content}
 use Rattle.xml_model.specs.Scan.{is_text_token}
 use Rattle.xml_model.specs.Wholes.{wholes}

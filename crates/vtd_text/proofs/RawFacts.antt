@@ -22,7 +22,6 @@ use Rattle.vtd_words.proofs.Fitting.{nest_shown}
 use Rattle.vtd_text.specs.declared.token.Rule.{Rule}
 use Rattle.xml_model.proofs.Each.{each_at}
 use Rattle.xml_model.proofs.Intervals.{all_some}
-use Rattle.vtd_text.specs.declared.row.RowEnd.{RowEnd}
 use Rattle.vtd_text.specs.Joined.{IsText, row, slice_of}
 use Rattle.vtd_text.specs.Raw.{written_content, raw_content, IsWritten}
 use Rattle.vtd_text.proofs.Leaves.{WrittenIs}

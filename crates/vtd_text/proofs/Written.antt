@@ -2,7 +2,7 @@
 use Rattle.std.proofs.Common.{subst, ◌≡◌, ℕ, suc, ◌+◌, Bool, true, not, ◌==◌, List, [], ◌∷◌, ◌++◌, length, map, refl, sym, ap, ◌∙◌, append_assoc, append-nil, IfSome}
 use Rattle.std.specs.List.{AllByRecursion as Each, flat_map}
 use Rattle.std.specs.Str.{IsUtf8}
-use Rattle.std.proofs.lemmas.Bool.{and_parts, false≢true}
+use Rattle.std.proofs.lemmas.Bool.{and_parts}
 use Rattle.xml_model.specs.Chars.{size}
 use Rattle.xml_model.specs.Items.{Attribute, Tag, Leaf, Item, leaf, start_tag, empty_tag, end_tag, meets, meets_leaf, meets_tag, written, written_leaf, written_tag, written_pieces, written_attribute, before_value, spelling, begins_at, walk, walk_from, walk_to_end, end_of_items, first_place}
 use Rattle.xml_model.specs.Nest.{Forest, done, single, empty, element, flat}

@@ -6,3 +6,4 @@ pub mod Fingerprints
 pub mod Tokens
 pub mod Joined
 pub mod Resolved
+pub mod Apart

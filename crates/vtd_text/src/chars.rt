@@ -100,6 +100,28 @@ impl<'a, W: Words> Chars<'a, W> {
         Chars::of_record(table.bytes(), words, Rule::Value, after(words, at))
     }
 
+    /// What is left, once more: it is taken from without a change of this one.
+    pub fn again(&self) -> Chars<'a, W>
+        ensures { result ≡ self.now }
+    {
+        let Row {
+            bytes,
+            words,
+            token,
+            at,
+            end,
+        } = &self.row;
+        Chars {
+            row: Row {
+                bytes: *bytes,
+                words: *words,
+                token: *token,
+                at: *at,
+                end: *end,
+            },
+        }
+    }
+
     /// Takes code points at the start, perhaps none; their UTF-8 is answered.
     pub(crate) fn next_plain(&mut self) -> &'a str
         ensures { self.old ≡ chars result.now ++ self.new }

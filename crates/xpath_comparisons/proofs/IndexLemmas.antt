@@ -1,96 +1,99 @@
--- An index of string-values by their hashes.
-use Rattle.std.proofs.Common.{◌≡◌, ℕ, Bool, true, false, cond, List, [], ◌∷◌, length, Option, Some, None, refl, sym, ◌∙◌, ap, subst}
-use Rattle.std.specs.Prelude.{bytes_eq, ◌||◌, IfSome}
-use Rattle.std.specs.BTreeMap.{BTreeMap, get}
+-- An index of string-values by their hashes, and of one hash by their characters.
+use Rattle.std.proofs.Common.{◌≡◌, ℕ, Bool, true, false, cond, List, [], ◌∷◌, length, refl, sym, ◌∙◌, ap, subst, arith}
+use Rattle.std.specs.Prelude.{bytes_eq, ◌||◌}
+use Rattle.std.specs.BTreeMap.{is_at}
+use Rattle.std.specs.BTreeSet.{BTreeSet, contains}
+use Rattle.std.specs.Cmp.Lexicographic.{slice_cmp}
 use Rattle.std.specs.List.{list_any}
-use Rattle.std.specs.Ordering.{nat_cmp}
+use Rattle.std.specs.Ordering.{nat_cmp, ordering_then, is_eq}
+use Rattle.std.specs.declared.cmp.Ordering.{Ordering}
+use Rattle.std.specs.declared.cmp.Ordering.TheVariants.{Less, Equal, Greater}
 use Rattle.std.proofs.lemmas.Bool.{false_from_ne_true, false≢true}
+use Rattle.std.proofs.lemmas.Bool.Decides.{nat_tests}
+use Rattle.std.proofs.lemmas.Cmp.{same_from_slice_cmp, tied_itself, nat_cmp_total}
 use Rattle.xml_model.proofs.SameText.{bytes_same, same_bytes}
 use Rattle.xml_model.specs.declared.Node.{Node}
 use Rattle.vtd_words.specs.Lists.{Lists}
-use Rattle.vtd_words.specs.Table.{IsNodeOf}
 use Rattle.xpath_values.specs.Seen.{HasString, HaveStrings, IsLeft}
 use Rattle.xpath_values.specs.Values.{some_pair}
 use Rattle.xpath_values.proofs.SeenLemmas.{next_left, last_left}
-use Rattle.xpath_comparisons.specs.Sets.{hash_of, IsAmong, IsIndex, IsIndexing, HasNodes}
+use Rattle.xpath_comparisons.specs.Sets.{TextKey, hash_of, key_of, key_cmp, IsIndex, IsIndexing}
 
--- nothing is noted for the hash of a text
-pub lacks_text : (bytes : List ℕ) (lists : Lists) (index : BTreeMap ℕ Node) (t : List ℕ) (us : List (List ℕ)) (hash : ℕ) → hash ≡ hash_of t
-    → IsIndex bytes lists index us → get nat_cmp index hash ≡ None → false ≡ list_any (bytes_eq t) us
-lacks_text bytes lists index t us hash e i n = sym (i.lacks t (ap (get nat_cmp index) (sym e) ∙ n))
+-- two texts are tied exactly where they are the same
+text_tied : (one other : List ℕ) → is_eq (slice_cmp nat_cmp one other) ≡ bytes_eq one other
+text_tied one other =
+    same_from_slice_cmp nat_cmp is_eq bytes_eq refl (λ _ _. refl) (λ _ _. refl) (λ x y xs ys o h. grind (arith, nat_tests))
+    one other (slice_cmp nat_cmp one other) refl
 
--- what is noted has the text
-pub has_text : (bytes : List ℕ) (lists : Lists) (index : BTreeMap ℕ Node) (t : List ℕ) (us : List (List ℕ)) (hash : ℕ) (node : Node) (r : Bool)
-    → IsIndex bytes lists index us → get nat_cmp index hash ≡ Some node → ((s : List ℕ) → HasString bytes lists node s → r ≡ bytes_eq t s) → r ≡ true
-    → true ≡ list_any (bytes_eq t) us
-has_text bytes lists index t us hash node r i e g h =
-    let P : Option Node → Type 0 = λ o. IfSome o (λ node. IsAmong bytes lists us node) in
-    let a : IsAmong bytes lists us node = subst P e (i.holds hash) in
-    let s : t ≡ a.text = same_bytes t a.text (sym (g a.text a.string) ∙ h) in
-    sym (ap (λ (q : List ℕ). list_any (bytes_eq q) us) s ∙ a.some)
+then_tied : (one other : Ordering) → is_eq (ordering_then one other) ≡ true → is_eq other ≡ true
+then_tied Less other e = absurd (false≢true e)
+then_tied Equal other e = e
+then_tied Greater other e = absurd (false≢true e)
 
-pub is_node : (bytes : List ℕ) (lists : Lists) (index : BTreeMap ℕ Node) (hash : ℕ) (node : Node) → HasNodes bytes lists index
-    → get nat_cmp index hash ≡ Some node → IsNodeOf bytes lists node
-is_node bytes lists index hash node h e =
-    let P : Option Node → Type 0 = λ o. IfSome o (λ node. IsNodeOf bytes lists node) in subst P e (h hash)
+-- so are their keys
+key_tied : (W : Type 0) (one other : List ℕ) → is_eq (key_cmp {W = W} (key_of one) (key_of other)) ≡ bytes_eq other one
+key_tied W one other = by_case (bytes_eq other one) refl
+  where
+    by_case : (b : Bool) → bytes_eq other one ≡ b → is_eq (key_cmp {W = W} (key_of one) (key_of other)) ≡ bytes_eq other one
+    by_case true t =
+        let same : other ≡ one = same_bytes other one t in
+        subst (λ (l : List ℕ). is_eq (key_cmp {W = W} (key_of one) (key_of l)) ≡ bytes_eq l one) (sym same)
+        (ap (λ o. is_eq (ordering_then o (slice_cmp nat_cmp one one))) (tied_itself nat_cmp_total (hash_of one)) ∙ text_tied one one)
+    by_case false f =
+        false_from_ne_true _ (λ t.
+        let e : bytes_eq one other ≡ true =
+        sym (text_tied one other) ∙ then_tied (nat_cmp (hash_of one) (hash_of other)) (slice_cmp nat_cmp one other) t in
+        let same : one ≡ other = same_bytes one other e in
+        false≢true (sym f ∙ ap (λ (l : List ℕ). bytes_eq other l) same ∙ bytes_same other))
+        ∙ sym f
 
--- an index with one more
-abbrev put : Bool → Node → Option Node → Option Node
-put b node o = cond b (Some node) o
-
-pub put_node : (P : Node → Type 0) (b : Bool) (node : Node) (o new : Option Node) → new ≡ cond b (Some node) o → P node → IfSome o P → IfSome new P
-put_node P true node o new e p h = let H : Option Node → Type 0 = λ o. IfSome o P in subst H (sym e) p
-put_node P false node o new e p h = let H : Option Node → Type 0 = λ o. IfSome o P in subst H (sym e) h
-
-not_put : (b : Bool) (node : Node) (o new : Option Node) → new ≡ cond b (Some node) o → new ≡ None → (b ≡ false) × (o ≡ None)
-not_put true node o new e n = absurd (let k : Some node ≡ None = sym e ∙ n in cc)
-not_put false node o new e n = (refl, sym e ∙ n)
+either_part : (a b c : Bool) → (a || (b || c)) ≡ (cond b true a || c)
+either_part true true c = refl
+either_part true false c = refl
+either_part false true c = refl
+either_part false false c = refl
 
 -- the first of what is left is noted
-pub more_indexed : (bytes : List ℕ) (lists : Lists) (old new : BTreeMap ℕ Node) (left rest : List Node) (node : Node) (ts : List (List ℕ)) (hash : ℕ)
-    (at : ℕ → Bool) → left ≡ node ∷ rest → ((t : List ℕ) → HasString bytes lists node t → hash ≡ hash_of t)
-    → ((q : ℕ) → get nat_cmp new q ≡ cond (at q) (Some node) (get nat_cmp old q)) → at hash ≡ true
-    → IsLeft bytes lists left (IsIndexing bytes lists old ts) → IsLeft bytes lists rest (IsIndexing bytes lists new ts)
-more_indexed bytes lists old new left rest node ts hash at e g u h i =
-    let n = next_left bytes lists left rest node (IsIndexing bytes lists old ts) e i in
-    let same : hash ≡ hash_of n.text = g n.text n.string in
-    let here : list_any (bytes_eq n.text) ts ≡ true =
-    n.after.holds.part n.text (ap (λ b. b || list_any (bytes_eq n.text) n.after.texts) (bytes_same n.text)) in
+pub more_indexed : (W : Type 0) (bytes : List ℕ) (lists : Lists) (old new : BTreeSet (TextKey W)) (left rest : List Node) (node : Node) (ts : List (List ℕ)) (key : TextKey W)
+    → left ≡ node ∷ rest → ((t : List ℕ) → HasString bytes lists node t → key ≡ key_of t)
+    → ((q : TextKey W) → contains key_cmp new q ≡ cond (is_eq (key_cmp key q)) true (contains key_cmp old q))
+    → IsLeft bytes lists left (IsIndexing W old ts) → IsLeft bytes lists rest (IsIndexing W new ts)
+more_indexed W bytes lists old new left rest node ts key e g u i =
+    let n = next_left bytes lists left rest node (IsIndexing W old ts) e i in
+    let same : key ≡ key_of n.text = g n.text n.string in
     record {
       texts = n.after.texts;
       shown = n.after.shown;
       holds = record {
-        lacks = λ q k.
-            let f = not_put (at (hash_of q)) node (get nat_cmp old (hash_of q)) (get nat_cmp new (hash_of q)) (u (hash_of q)) k in
-            let d : bytes_eq q n.text ≡ false =
-            false_from_ne_true (bytes_eq q n.text) (λ t. false≢true (sym f.0 ∙ ap at (ap hash_of (same_bytes q n.text t) ∙ sym same) ∙ h)) in
-            n.after.holds.lacks q f.1 ∙ ap (λ b. b || list_any (bytes_eq q) n.after.texts) d;
-        holds = λ q.
-            put_node (λ x. IsAmong bytes lists ts x) (at q) node (get nat_cmp old q) (get nat_cmp new q) (u q)
-            (record { text = n.text; string = n.string; some = here }) (n.after.holds.holds q);
-        part = λ q k. n.after.holds.part q (or_true (bytes_eq q n.text) (list_any (bytes_eq q) n.after.texts) k);
+        has = λ q.
+            let tied : is_eq (key_cmp key (key_of q)) ≡ bytes_eq q n.text =
+            ap (λ (k : TextKey W). is_eq (key_cmp k (key_of q))) same ∙ key_tied W n.text q in
+            n.after.holds.has q ∙ either_part (contains key_cmp old (key_of q)) (bytes_eq q n.text) (list_any (bytes_eq q) n.after.texts)
+            ∙ ap (λ b. b || list_any (bytes_eq q) n.after.texts)
+            (ap (λ b. cond b true (contains key_cmp old (key_of q))) (sym tied) ∙ sym (u (key_of q)));
       };
     }
-  where
-    or_true : (a b : Bool) → b ≡ true → (a || b) ≡ true
-    or_true true b k = refl
-    or_true false b k = k
 
-pub begin_indexed : (bytes : List ℕ) (lists : Lists) (index : BTreeMap ℕ Node) (xs : List Node) (ts : List (List ℕ)) → ((q : ℕ) → get nat_cmp index q ≡ None)
-    → HaveStrings bytes lists xs ts → IsLeft bytes lists xs (IsIndexing bytes lists index ts)
-begin_indexed bytes lists index xs ts n h =
-    let none : (P : Node → Type 0) (q : ℕ) → IfSome (get nat_cmp index q) P = λ P q. let H : Option Node → Type 0 = λ o. IfSome o P in subst H (sym (n q)) tt in
+pub begin_indexed : (W : Type 0) (bytes : List ℕ) (lists : Lists) (index : BTreeSet (TextKey W)) (xs : List Node) (ts : List (List ℕ)) → index.keys ≡ []
+    → HaveStrings bytes lists xs ts → IsLeft bytes lists xs (IsIndexing W index ts)
+begin_indexed W bytes lists index xs ts n h =
     record {
       texts = ts;
       shown = h;
-      holds = record { lacks = λ q k. refl; holds = λ q. none (λ x. IsAmong bytes lists ts x) q; part = λ q k. k };
+      holds = record {
+        has = λ q. ap (λ (l : List (TextKey W)). list_any (is_at (key_cmp (key_of q))) l || list_any (bytes_eq q) ts) (sym n);
+      };
     }
 
-pub all_indexed : (bytes : List ℕ) (lists : Lists) (index : BTreeMap ℕ Node) (left : List Node) (ts : List (List ℕ)) → length left ≡ 0
-    → IsLeft bytes lists left (IsIndexing bytes lists index ts) → IsIndex bytes lists index ts
-all_indexed bytes lists index left ts e i =
-    let l : IsIndexing bytes lists index ts [] = last_left bytes lists left (IsIndexing bytes lists index ts) e i in
-    record { lacks = l.lacks; holds = l.holds }
+or_false : (b : Bool) → (b || false) ≡ b
+or_false true = refl
+or_false false = refl
+
+pub all_indexed : (W : Type 0) (bytes : List ℕ) (lists : Lists) (index : BTreeSet (TextKey W)) (left : List Node) (ts : List (List ℕ)) → length left ≡ 0
+    → IsLeft bytes lists left (IsIndexing W index ts) → IsIndex index ts
+all_indexed W bytes lists index left ts e i =
+    let l : IsIndexing W index ts [] = last_left bytes lists left (IsIndexing W index ts) e i in
+    λ q. sym (l.has q ∙ or_false (contains key_cmp index (key_of q)))
 
 -- Looking up the other node-set.
 abbrev pub IsSought : List (List ℕ) → Bool → List (List ℕ) → Type 0

@@ -67,9 +67,9 @@ fn compare_seen<W: Words>(
 /// also where the other side has no member.
 ///
 /// It passes once over the string-values of each side, and by `!=` of two node-sets reads the first one again beside
-/// each other. Two node-sets with `=` take memory for an index of the right one by hashes, and a look-up for each node
-/// of the left; a text of the same hash is read again, and where it is another text all pairs are read. Nothing else
-/// takes memory.
+/// each other. Two node-sets with `=` take memory for an index of the right one, by hashes and of one hash by the texts
+/// themselves, and a look-up for each node of the left: that is linear in the characters of both but for the texts of
+/// one hash, of which each is read again beside some log n others. Nothing else takes memory.
 ///
 /// # Errors
 /// `Fraction` where a digit after the sixth place is not 0; else `Range` where a number is out of range; `NoMemory`

@@ -5,6 +5,7 @@ mod comparing;
 mod equality;
 mod extents;
 mod index;
+mod keys;
 mod sets;
 
 pub use comparing::compare;

@@ -1,13 +1,13 @@
 -- Steps along `following` and `preceding`: the least end of contexts, and the last of them.
 use Rattle.std.proofs.Common.{◌≡◌, ℕ, zero, suc, ◌+◌, ◌≤◌, true, false, ◌&&◌, List, [], ◌∷◌, ◌++◌, length, drop, map, reverse, refl, ap}
-use Rattle.std.proofs.Common.{sym, ◌∙◌, arith, filter, min, nat_lt, nat_le, None}
+use Rattle.std.proofs.Common.{sym, ◌∙◌, arith, filter, min, nat_lt, nat_le, Option, Some, None, Bool}
 use Rattle.std.proofs.lemmas.Bool.{false≢true, and_from, and_parts, le-leb, lt-ltb}
 use Rattle.std.proofs.lemmas.Grind.{common_steps}
 use Rattle.std.proofs.lemmas.List.{drop_all, map-append}
 use Rattle.xml_model.specs.declared.Axis.TheVariants as axes
-use Rattle.xml_model.specs.Contexts.{least_past, greatest_index, is_child_from, is_child_up_to, AreContexts, Rises}
+use Rattle.xml_model.specs.Contexts.{union_list, least_past, greatest_index, is_child_from, is_child_up_to, AreContexts, Rises}
 use Rattle.xml_model.specs.Laws.{by_indexes, is_child_thing}
-use Rattle.xml_model.specs.Names.{Test, passes}
+use Rattle.xml_model.specs.Names.{Expanded, NameTest, Test, expanded, is_principal, name_passes, passes}
 use Rattle.xml_model.specs.Nest.{Forest, is_nest}
 use Rattle.xml_model.specs.Records.{records}
 use Rattle.xml_model.specs.Tree.{Entry, all}
@@ -16,11 +16,15 @@ use Rattle.xml_model.proofs.Filters.{filter_same, none_of, same_test}
 use Rattle.xml_model.proofs.NodeLaws.{axis_list_of_node}
 use Rattle.xml_model.proofs.TreeOrder.{InOrder, in_order}
 use Rattle.vtd_words.specs.Table.{node_of}
-use Rattle.xpath_axes.specs.Tests.{passing}
+use Rattle.xml_model.specs.declared.NameTest.{NameTest as Name}
+use Rattle.xml_model.specs.declared.NodeTest.{NodeTest as Tested}
+use Rattle.xml_model.specs.declared.NodeTest.TheVariants as tested
+use Rattle.xpath_axes.specs.Tests.{node_test, passing}
 use Rattle.xpath_axes.specs.Walks.{goes_on, nodes_left, stop_from}
 use Rattle.xpath_axes.proofs.AxisLemmas.{filter_filter, stop_is}
 use Rattle.xpath_axes.proofs.ClimbLemmas.{filter_reverse}
-use Rattle.xpath_steps.specs.Steps.{step_nodes}
+use Rattle.xpath_steps.specs.Steps.{step_nodes, AreAmong}
+use Rattle.xpath_steps.proofs.AboveLemmas.{filtered_among}
 use Rattle.xpath_steps.proofs.StepLemmas.{At}
 
 -- The least end.
@@ -115,3 +119,34 @@ pub none_precede : (nest : Forest) (first : ℕ) → is_nest nest ≡ true → (
 none_precede nest first n [] k test h = ap (λ xs. map node_of (filter (passes test false) xs))
     (union_by_indexes nest first n axes.Preceding [] k.among ∙ none_of (λ y. false) (all nest first) (λ y d t. false≢true t))
 none_precede nest first n (c ∷ cs) k test h = absurd (omega (arith, h))
+
+-- Names, asked of elements.
+
+pub union_among : (cs es : List Entry) → AreAmong (union_list axes.Preceding cs es) es
+unfolding union_list
+union_among cs es = filtered_among _ es
+
+pub kept_among : (P : Entry → Bool) (xs es : List Entry) → AreAmong xs es → AreAmong (filter P xs) es
+kept_among P xs es a c k = a c (filtered_among P xs c k)
+
+-- what passes a name test is an element
+pub elements_first : (x : NameTest) (xs : List Entry) →
+    filter (passes (Test.name x) false) (filter (passes (Test.name NameTest.any) false) xs) ≡ filter (passes (Test.name x) false) xs
+unfolding passes
+elements_first x xs = filter_filter (passes (Test.name x) false) (passes (Test.name NameTest.any) false) xs
+    ∙ filter_same _ _ xs (λ y d. same_test _ _
+    (λ t. (and_parts (is_principal false y.what && name_passes NameTest.any (expanded y)) (is_principal false y.what && name_passes x (expanded y)) t).1)
+    (λ t. let p = and_parts (is_principal false y.what) (name_passes x (expanded y)) t in
+    and_from _ _ (and_from _ _ p.0 (named (expanded y) p.1)) t))
+  where
+    named : (e : Option Expanded) → name_passes x e ≡ true → name_passes NameTest.any e ≡ true
+    named None t = absurd (false≢true t)
+    named (Some e) t = refl
+
+-- the same of a name test, whatever its name
+pub named_of_elements : (t : Tested) (x : Name) → t ≡ tested.Name x → (xs : List Entry) →
+    map node_of (filter (passes (node_test t) false) (filter (passes (Test.name NameTest.any) false) xs)) ≡ map node_of (filter (passes (node_test t) false) xs)
+named_of_elements t x h xs =
+    ap (λ u. map node_of (filter (passes (node_test u) false) (filter (passes (Test.name NameTest.any) false) xs))) h
+    ∙ ap (map node_of) (elements_first _ xs)
+    ∙ sym (ap (λ u. map node_of (filter (passes (node_test u) false) xs)) h)

@@ -3,3 +3,5 @@ pub mod EndLemmas
 pub mod AboveLemmas
 pub mod MergeLemmas
 pub mod ParentLemmas
+pub mod ForwardLemmas
+pub mod EarlierLemmas

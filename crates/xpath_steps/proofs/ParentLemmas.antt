@@ -32,29 +32,29 @@ use Rattle.xpath_steps.specs.Waits.{flagged, parents_from, waits, Gathered, IsHo
 use Rattle.xpath_steps.proofs.AboveLemmas.{filtered_among, map_reverse}
 use Rattle.xpath_steps.proofs.StepLemmas.{At}
 
-false_if : (b : Bool) → (b ≡ true → ⊥) → b ≡ false
+pub false_if : (b : Bool) → (b ≡ true → ⊥) → b ≡ false
 false_if true h = absurd (h refl)
 false_if false h = refl
 
-not_false : (b : Bool) → not b ≡ true → b ≡ false
+pub not_false : (b : Bool) → not b ≡ true → b ≡ false
 not_false true h = absurd (false≢true h)
 not_false false h = refl
 
-none_any : (P : Entry → Bool) (ds : List Entry) → ((c : Entry) → Contains ds c → P c ≡ true → ⊥) → list_any P ds ≡ false
+pub none_any : (P : Entry → Bool) (ds : List Entry) → ((c : Entry) → Contains ds c → P c ≡ true → ⊥) → list_any P ds ≡ false
 none_any P ds h = false_if (list_any P ds) (λ t. let o = any_out P ds t in h o.entry o.there o.passes)
 
 module _ (nest : Forest) (first : ℕ) (n : is_nest nest ≡ true) where
   -- what holds a node
-  record HeldFrom (c p : Entry) : Type 0 where
-    there : Contains (all nest first) p
-    index : p.index ≡ holder_index c.holders
-    level : nodes_above p ≡ length c.holders
-    holds : Holds (records nest first) p (length c.holders)
-    after : p.index < c.index
-    before : c.index < p.past
-    kind : (kind_of p.what ≡ kinds.Root) ⊎ (kind_of p.what ≡ kinds.Element)
+  pub record HeldFrom (c p : Entry) : Type 0 where
+    pub there : Contains (all nest first) p
+    pub index : p.index ≡ holder_index c.holders
+    pub level : nodes_above p ≡ length c.holders
+    pub holds : Holds (records nest first) p (length c.holders)
+    pub after : p.index < c.index
+    pub before : c.index < p.past
+    pub kind : (kind_of p.what ≡ kinds.Root) ⊎ (kind_of p.what ≡ kinds.Element)
 
-  held_from : (c : Entry) → Contains (all nest first) c → is_root_thing c.what ≡ false → (p : Entry) × HeldFrom c p
+  pub held_from : (c : Entry) → Contains (all nest first) c → is_root_thing c.what ≡ false → (p : Entry) × HeldFrom c p
   held_from c k r =
       let h = held_by nest first n c k r in
       let p = h.0 in
@@ -82,14 +82,14 @@ module _ (nest : Forest) (first : ℕ) (n : is_nest nest ≡ true) where
 
   module _ (at : ℕ) (node : Node) (inside : ℕ) (z : IsHolderAt (all nest first) at node inside) where
     -- what a node holds that begins at an index is of its level
-    level_inside : (c : Entry) → Contains (all nest first) c → is_root_thing c.what ≡ false → holder_index c.holders ≡ at → length c.holders ≡ inside
+    pub level_inside : (c : Entry) → Contains (all nest first) c → is_root_thing c.what ≡ false → holder_index c.holders ≡ at → length c.holders ≡ inside
     level_inside c k r h =
         let p = held_from c k r in
         let same : p.0 ≡ z.entry = one_node nest first p.0 z.entry p.1.there z.there (p.1.index ∙ h ∙ sym z.index) in
         sym p.1.level ∙ ap nodes_above same ∙ z.above
 
     -- what is of its level and after it, and begins in a node before it, begins in it
-    holder_here : (c : Entry) → Contains (all nest first) c → is_root_thing c.what ≡ false → at < c.index → length c.holders ≡ inside →
+    pub holder_here : (c : Entry) → Contains (all nest first) c → is_root_thing c.what ≡ false → at < c.index → length c.holders ≡ inside →
         holder_index c.holders ≤ at → holder_index c.holders ≡ at
     holder_here c k r later l h =
         let p = held_from c k r in
@@ -106,7 +106,7 @@ module _ (nest : Forest) (first : ℕ) (n : is_nest nest ≡ true) where
 
   -- Lists.
 
-  one_more : (P : Entry → Bool) (at : ℕ) →
+  pub one_more : (P : Entry → Bool) (at : ℕ) →
       map node_of (reverse (filter (λ y. nat_le at y.index && P y) (all nest first)))
       ≡ map node_of (reverse (filter (λ y. nat_le (suc at) y.index && P y) (all nest first)))
       ++ map node_of (reverse (filter (λ y. y.index == at && P y) (all nest first)))

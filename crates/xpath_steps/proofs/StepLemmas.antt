@@ -1,6 +1,6 @@
 -- Steps from a list of nodes, one context after another.
 use Rattle.std.proofs.Common.{subst}
-use Rattle.std.proofs.Common.{◌≡◌, ℕ, zero, suc, ◌+◌, ◌<◌, ◌≤◌, Bool, true, false, cond, ◌||◌, ◌==◌, List, [], ◌∷◌, ◌++◌, length, drop, map, refl, ap, ap₂}
+use Rattle.std.proofs.Common.{◌≡◌, ℕ, zero, suc, ◌+◌, ◌<◌, ◌≤◌, Bool, true, false, cond, ◌||◌, ◌==◌, List, [], ◌∷◌, ◌++◌, length, drop, map, refl, ap, ap₂, ◌^◌}
 use Rattle.std.proofs.Common.{sym, ◌∙◌, arith, filter, nat_lt, ◌&&◌}
 use Rattle.std.specs.List.{AllByRecursion as Each, Contains, flat_map, list_any, slice_index_or}
 use Rattle.std.proofs.lemmas.Bool.{false≢true, and_from, and_parts, lt-ltb, le-ltb, eq-eqb, eqb-true}
@@ -13,7 +13,7 @@ use Rattle.xml_model.specs.Laws.{by_indexes, is_one_under, is_under}
 use Rattle.xml_model.specs.Names.{Test, passes}
 use Rattle.xml_model.specs.Nest.{Forest, is_nest}
 use Rattle.xml_model.specs.Records.{records}
-use Rattle.xml_model.specs.Tree.{Entry, Identifies, all, is_reverse}
+use Rattle.xml_model.specs.Tree.{Entry, Identifies, all, is_reverse, kind_of}
 use Rattle.xml_model.proofs.Contexts.{union_by_indexes, descendants_of_contexts, apart_joins, Apart}
 use Rattle.xml_model.proofs.AttributeSteps.{attributes_of_contexts}
 use Rattle.xml_model.proofs.Each.{contains_here, contains_next, each_at, each_more}
@@ -21,7 +21,9 @@ use Rattle.xml_model.proofs.Filters.{any_out, filter_same, none_of, one_here, sa
 use Rattle.xml_model.proofs.Indexes.{all_rise}
 use Rattle.xml_model.proofs.NodeLaws.{axis_list_of_node}
 use Rattle.xml_model.proofs.TreeOrder.{in_order, under_within}
-use Rattle.vtd_words.specs.Table.{node_of}
+use Rattle.vtd_words.specs.Lists.{Lists}
+use Rattle.vtd_words.specs.Table.{IsNodeOf, node_of}
+use Rattle.vtd_words.proofs.Same.{node_holds}
 use Rattle.xpath_axes.specs.declared.walk.Walk.{Walk}
 use Rattle.xpath_axes.specs.Tests.{is_attribute_axis}
 use Rattle.xpath_axes.specs.Walks.{nodes_left, Covers}
@@ -229,3 +231,11 @@ apart_first cs i low a h =
 
 pub apart_ended : (cs : List Entry) (i low : ℕ) → length cs ≤ i → ApartFrom low (drop i cs)
 apart_ended cs i low h = subst (ApartFrom low) (sym (drop_all i cs h)) tt
+
+-- nodes of one table with one index are one node
+pub same_node : (bytes : List ℕ) (lists : Lists) → length bytes < 2 ^ 30 → (x y : Node) → IsNodeOf bytes lists x → IsNodeOf bytes lists y → x.at ≡ y.at → x ≡ y
+same_node bytes lists few x y m n h =
+    let o = node_holds bytes lists few y n m.nest m.shown in
+    let same : m.entry ≡ o.0 = Rattle.xml_model.proofs.Indexes.one_node m.nest _ m.entry o.0 m.holds.0 o.1.0 (m.holds.2 ∙ h ∙ sym o.1.2) in
+    let kind : x.kind ≡ y.kind = sym m.holds.1 ∙ ap (λ (e : Entry). kind_of e.what) same ∙ o.1.1 in
+    ap₂ (λ k a. record { kind = k; at = a }) kind h

@@ -1,6 +1,7 @@
 //! Steps along `following` and `preceding`.
 
 ghost use Rattle.std.specs.Prelude.{◌≡◌, length, min, IfOk};
+ghost use Rattle.std.specs.List.{AllByRecursion};
 ghost use Rattle.xml_model.specs.declared.Axis.TheVariants as axes;
 ghost use Rattle.xml_model.specs.Contexts.{least_past};
 ghost use Rattle.xml_model.specs.Items.{first_place};
@@ -12,9 +13,10 @@ ghost use Rattle.xpath_axes.specs.Tests.{node_test, passing};
 ghost use Rattle.xpath_steps.specs.Steps.{step_nodes, AreNodesOf, ForEachContexts};
 
 use crate::gather::append_walk;
+use crate::selves::those_passing;
 use std::alloc::Global;
 use vtd_words::{Part, Table, Words};
-use xml_model::{NoMemory, Node, NodeList, NodeTest};
+use xml_model::{NameTest, NoMemory, Node, NodeList, NodeTest};
 use xpath_axes::Names;
 use xpath_axes::back::{Back, find_before, preceding_of};
 use xpath_axes::walk::Walk;
@@ -101,6 +103,8 @@ fn gather_back<W: Words, N: Names<W>>(
     ensures gathered { IfOk result (λ held. ForEachNest table.now.bytes (W.lists table.now.words) (λ nest.
         held.items ≡ nodes_before back (node_test test.now) (records nest (first_place table.now.bytes))
         (nodes_of table.now.bytes nest))) }
+    ensures nodes { IfOk result (λ held.
+        AllByRecursion (IsNodeOf table.now.bytes (W.lists table.now.words)) held.items) }
     ensures names { N.knows names.new table.now }
 {
     let mut held = Vec::new(alloc);
@@ -117,9 +121,38 @@ fn gather_back<W: Words, N: Names<W>>(
     }
 }
 
+/// What precedes some of the nodes and passes a test, in document order, each once.
+fn gather_preceding<W: Words, N: Names<W>>(
+    alloc: Global,
+    table: &Table<'_, W>,
+    names: &mut N,
+    contexts: &[Node],
+    test: &NodeTest<'_>,
+) -> Result<NodeList, NoMemory>
+    requires names { N.knows names.old table.now }
+    requires contexts { AreNodesOf table.now.bytes (W.lists table.now.words) contexts.now }
+    ensures step { IfOk result (λ list.
+        ForEachContexts table.now.bytes (W.lists table.now.words) contexts.now (λ nest cs.
+        list ≡ step_nodes axes.Preceding (node_test test.now) cs (nodes_of table.now.bytes nest))) }
+    ensures nodes { IfOk result (λ list. AreNodesOf table.now.bytes (W.lists table.now.words) list) }
+    ensures names { N.knows names.new table.now }
+{
+    let count = contexts.len();
+    if count == 0 {
+        return Ok(NodeList {
+            held: Vec::new(alloc),
+        });
+    }
+    let back = back_from(table, contexts[count - 1]);
+    let mut held = gather_back(alloc, table, names, back, test)?;
+    held.reverse();
+    Ok(NodeList { held })
+}
+
 /// What precedes some of the nodes and passes a test. The nodes are in document order, each once. It reads the records
-/// before the last of them. Names are asked for against document order, which costs a `Resolver` more than a pass where
-/// the document declares namespaces. `NoMemory` comes where there is no memory for the list.
+/// before the last of them. Names are asked for in document order, once all elements before it were gathered.
+/// `NoMemory` comes where there is no memory for the list, and for a name test where there is none for all elements
+/// before the last of the contexts.
 pub fn preceding_of_all<W: Words, N: Names<W>>(
     alloc: Global,
     table: &Table<'_, W>,
@@ -134,14 +167,10 @@ pub fn preceding_of_all<W: Words, N: Names<W>>(
         list ≡ step_nodes axes.Preceding (node_test test.now) cs (nodes_of table.now.bytes nest))) }
     ensures names { N.knows names.new table.now }
 {
-    let count = contexts.len();
-    if count == 0 {
-        return Ok(NodeList {
-            held: Vec::new(alloc),
-        });
-    }
-    let back = back_from(table, contexts[count - 1]);
-    let mut held = gather_back(alloc, table, names, back, test)?;
-    held.reverse();
-    Ok(NodeList { held })
+    let NodeTest::Name(_) = *test else {
+        return gather_preceding(alloc, table, names, contexts, test);
+    };
+    let any = NodeTest::Name(NameTest::Any);
+    let elements = gather_preceding(alloc, table, names, contexts, &any)?;
+    those_passing(alloc, table, names, &elements.held, test)
 }

@@ -5,8 +5,11 @@
 
 mod above;
 mod apart;
+mod earlier;
 mod ends;
+mod every;
 mod flags;
+mod forward;
 mod gather;
 mod merge;
 mod or_selves;
@@ -15,7 +18,10 @@ mod selves;
 
 pub use above::ancestors_of_all;
 pub use apart::{attributes_of_all, children_if_apart, descendants_of_all};
+pub use earlier::preceding_siblings_of_all;
 pub use ends::{following_of_all, preceding_of_all};
+pub use every::step_of_all;
+pub use forward::{children_of_all, following_siblings_of_all};
 pub use or_selves::{ancestors_or_selves_of_all, descendants_or_selves_of_all};
 pub use parents::parents_of_all;
 pub use selves::selves_of_all;

@@ -14,7 +14,7 @@ use xml_model::{NoMemory, Node, NodeList, NodeTest};
 use xpath_axes::{Names, passes};
 
 /// Appends a node, where it passes a test.
-fn append_if<W: Words, N: Names<W>>(
+pub fn append_if<W: Words, N: Names<W>>(
     table: &Table<'_, W>,
     names: &mut N,
     node: Node,

@@ -4,6 +4,7 @@ pub mod NormalLemmas
 pub mod NumberExamples
 pub mod ProductLemmas
 pub mod QuotientLemmas
+pub mod RangeLemmas
 pub mod ReadLemmas
 pub mod SeenLemmas
 pub mod SpelledLemmas

@@ -1,7 +1,7 @@
 //! Laws of values, over their definitions alone. Each function is empty: its contract is the law.
 
-ghost use Rattle.std.specs.Prelude.{◌≡◌, List, fold, ℕ};
-ghost use Rattle.xpath_values.specs.Numbers.{number_of_text, sum_of};
+ghost use Rattle.std.specs.Prelude.{◌≡◌, IfOk, List, fold, ℕ};
+ghost use Rattle.xpath_values.specs.Numbers.{IsNumber, number_of_text, sum_of};
 ghost use Rattle.xpath_values.specs.Reading.{read_next, read_start, read_value};
 ghost use Rattle.xpath_values.specs.Sums.{sum_next, sum_start, sum_value};
 ghost use Rattle.xpath_values.specs.declared.Number.{Number};
@@ -10,6 +10,12 @@ ghost use Rattle.xpath_values.specs.declared.Number.{Number};
 #[tactic(auto, using(crate::proofs::ReadLemmas::read_number))]
 pub fn number_read()
     ensures { (t : List ℕ) → read_value (fold read_next read_start t) ≡ number_of_text t }
+{}
+
+/// The number of a text is in range.
+#[tactic(auto, using(crate::proofs::RangeLemmas::number_fits))]
+pub fn number_fits()
+    ensures { (t : List ℕ) → IfOk (number_of_text t) IsNumber }
 {}
 
 /// Numbers taken one after another come to their sum.

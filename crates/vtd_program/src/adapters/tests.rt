@@ -4,7 +4,7 @@ use super::{Input, Output, SystemFiles};
 use std::io::{BufWriter, Cursor, PipeReader, pipe};
 use std::test::Fail;
 use std::{fs, process};
-use vtd_outside::{Failed, Files, Sink, Source};
+use vtd_outside::{Failed, Files, Sink, Source, append_all};
 
 #[test]
 fn input(rt: HostRuntime) -> Result<(), Fail> {
@@ -70,5 +70,34 @@ fn system_files(rt: HostRuntime) -> Result<(), Fail> {
     files.begin_read("/")?;
     assert_eq!(rt; files.read(&mut piece), Err(Failed));
     assert_eq!(rt; files.faults, 2);
+    Ok(())
+}
+
+#[test]
+fn written_files(rt: HostRuntime) -> Result<(), Fail> {
+    let name = format!(in rt.alloc(); "/tmp/vtd_written_{}", process::id(rt.process()))?;
+    fs::write(&rt, name.as_str(), "longer than what is written")?;
+    let mut files = SystemFiles::new(&rt);
+    // The file is empty at once, and holds what was added.
+    files.begin_write(&name)?;
+    assert_eq!(rt; fs::read_to_string(&rt, name.as_str())?.as_str(), "");
+    assert_eq!(rt; append_all(&mut files, b"ab"), Ok(()));
+    assert_eq!(rt; append_all(&mut files, b"c"), Ok(()));
+    files.finish()?;
+    assert_eq!(rt; fs::read_to_string(&rt, name.as_str())?.as_str(), "abc");
+    assert_eq!(rt; files.faults, 0);
+    fs::remove_file(&rt, name.as_str())?;
+    // There is no such folder, a folder is no file, and a full device takes nothing.
+    assert_eq!(rt; files.begin_write("/no such folder/f"), Err(Failed));
+    assert_eq!(rt; files.begin_write("/"), Err(Failed));
+    assert_eq!(rt; files.faults, 2);
+    files.begin_write("/dev/full")?;
+    assert_eq!(rt; append_all(&mut files, b"abc"), Err(Failed));
+    assert_eq!(rt; files.faults, 3);
+    // A file that no one may write refuses to be begun, or refuses the bytes.
+    if files.begin_write("/proc/version").is_ok() {
+        assert_eq!(rt; append_all(&mut files, b"abc"), Err(Failed));
+    }
+    assert_eq!(rt; files.faults, 4);
     Ok(())
 }

@@ -8,12 +8,12 @@ use Rattle.vtd_script.proofs.carrying.carry_out.Given as goal
 abbrev pub invariant-loop-line : goal.invariant-loop-line
 invariant-loop-line g l = record {
   within : l.at ≤ length l.script;
-  so_far : (map : NameMap) (sent : List ℕ) → g.F.Files.contents l.fn.files ≡ Some map → g.K.Sink.taken l.fn.out ≡ Some sent
-      → Carrying l.keep (state_of l.fn.session map) (lines l.script) (lines (drop l.at l.script)) l.session (g.F.Files.contents l.files) sent
+  so_far : (map : NameMap) (sent : List ℕ) → (g.F.Files.seen l.fn.files).contents ≡ Some map → g.K.Sink.taken l.fn.out ≡ Some sent
+      → Carrying l.keep (state_of l.fn.session map) (lines l.script) (lines (drop l.at l.script)) l.session (g.F.Files.seen l.files).contents sent
       (g.K.Sink.taken l.out) l.refused;
-  not_writing : g.F.Files.is_writing l.files ≡ false;
-  missed_kept : g.F.Files.missed l.files ≡ g.F.Files.missed l.fn.files;
-  proper_kept : g.F.Files.proper l.files ≡ g.F.Files.proper l.fn.files;
+  not_writing : (g.F.Files.seen l.files).is_writing ≡ false;
+  missed_kept : (g.F.Files.seen l.files).missed ≡ (g.F.Files.seen l.fn.files).missed;
+  proper_kept : (g.F.Files.seen l.files).proper ≡ (g.F.Files.seen l.fn.files).proper;
   faults_kept : g.K.Sink.faults l.out ≡ g.K.Sink.faults l.fn.out;
 }
 

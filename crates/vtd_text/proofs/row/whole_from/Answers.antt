@@ -1,4 +1,4 @@
-use Rattle.std.proofs.Common.{◌≡◌, ℕ, ◌+◌, ◌<◌, ◌≤◌, ◌^◌, true, refl, sym, ◌∙◌, arith, le_refl}
+use Rattle.std.proofs.Common.{◌≡◌, true, refl, sym, ◌∙◌, arith, le_refl}
 use Rattle.vtd_words.specs.Packed.{record_of}
 use Rattle.vtd_words.proofs.Shown.{shown_length}
 use Rattle.xml_model.specs.Wholes.{goes_on}

@@ -1,8 +1,8 @@
-use Rattle.std.proofs.Common.{◌≤◌, ◌+◌, sym, arith}
+use Rattle.std.proofs.Common.{arith}
 use Rattle.vtd_words.specs.Packed.{record_of}
 use Rattle.vtd_words.proofs.Nodes.{text_room}
 use Rattle.vtd_text.proofs.NodeFacts.{row_within}
-use Rattle.vtd_text.proofs.RawFacts.{Token, run_after, text_written, text_unwritten}
+use Rattle.vtd_text.proofs.RawFacts.{run_after, text_written, text_unwritten}
 use Rattle.vtd_text.proofs.slices.one_token.Goals as goal
 
 pub parts_at-first-requires : goal.parts_at-first-requires

@@ -11,7 +11,7 @@ abbrev pub invariant-loop-node : goal.invariant-loop-node
 invariant-loop-node g l = record {
   all : AllByRecursion (λ x. IsNodeOf l.fn.table.bytes (g.W.Words.lists l.fn.table.words) x) l.left;
   same : (ts us : List (List ℕ)) → HaveStrings l.fn.table.bytes (g.W.Words.lists l.fn.table.words) l.fn.nodes ts →
-      IsIndex l.fn.table.bytes (g.W.Words.lists l.fn.table.words) l.fn.index us →
+      IsIndex l.fn.index us →
       IsLeft l.fn.table.bytes (g.W.Words.lists l.fn.table.words) l.left (λ ss. some_pair bytes_eq ss us ≡ some_pair bytes_eq ts us);
 }
 

@@ -1,24 +1,18 @@
-use Rattle.std.proofs.Common.{◌≡◌, ◌+◌, ◌-◌, ◌∙◌, ap, sym, arith, length, reverse}
-use Rattle.xml_model.specs.declared.Kind.TheVariants as kinds
-use Rattle.xml_model.specs.declared.Node.{Node}
-use Rattle.vtd_words.specs.Table.{node_of, nodes_of}
-use Rattle.xpath_axes.specs.Tests.{node_test}
-use Rattle.xpath_steps.proofs.EndLemmas.{preceding_left, none_precede}
-use Rattle.xpath_steps.proofs.StepLemmas.{At, at_index, context_is, as_many}
+use Rattle.std.proofs.Common.{◌∙◌, false, sym, filter}
+use Rattle.std.proofs.lemmas.Result.{IfOk-weaker}
+use Rattle.xml_model.specs.declared.Axis.TheVariants as axes
+use Rattle.xml_model.specs.Contexts.{union_list}
+use Rattle.xml_model.specs.Names.{NameTest, Test, passes}
+use Rattle.vtd_words.specs.Table.{nodes_of}
+use Rattle.xpath_steps.proofs.EndLemmas.{kept_among, named_of_elements, union_among}
 use Rattle.xpath_steps.proofs.ends.preceding_of_all.Goals as goal
 
-pub returns-then-count-eq0-clause-step : goal.returns-then-count-eq0-clause-step
-returns-then-count-eq0-clause-step g c = λ nest s cs e k.
-    let none : length cs ≡ 0 = omega (arith, as_many cs _ e, c.if-count-eq0.true) in
-    c.new.ensures.items ∙ sym (none_precede nest _ s.accepted.document.nests cs k (node_test c.args.test.now) none)
-
 pub returns-clause-step : goal.returns-clause-step
-returns-clause-step g c = λ nest s cs e k.
-    let i = length c.args.contexts.now - 1 in
-    let a : At cs i = at_index cs i (omega (arith, as_many cs _ e, c.if-count-eq0.false)) in
-    let d : Node = record { kind = kinds.Root; at = 0 } in
-    let in_it = context_is (nodes_of c.args.table.now.bytes nest) cs k c.args.contexts.now e i a d in
-    let last : i + 1 ≡ length cs = omega (arith, as_many cs _ e, c.if-count-eq0.false) in
-    c.reverse.ensures.items ∙ ap reverse (c.in_ok-held.ensures.gathered nest s
-    ∙ ap (λ xs. Rattle.std.proofs.Common.map node_of xs) (c.back_from-back.ensures.axis nest s a.entry in_it (node_test c.args.test.now)))
-    ∙ preceding_left nest _ s.accepted.document.nests cs k (node_test c.args.test.now) i a last
+returns-clause-step g c = IfOk-weaker c.those_passing.result _ _
+    (λ list h nest s cs e k.
+    let es = nodes_of c.args.table.now.bytes nest in
+    let elements = filter (passes (Test.name NameTest.any) false) (union_list axes.Preceding cs es) in
+    h nest s elements (sym (c.deref.ensures.value ∙ c.elements.view_is ∙ c.in_ok-elements.ensures.step nest s cs e k))
+    (kept_among (passes (Test.name NameTest.any) false) (union_list axes.Preceding cs es) es (union_among cs es))
+    ∙ named_of_elements c.args.test.now c.in-Name.field-0 c.in-Name.is (union_list axes.Preceding cs es))
+    c.those_passing.ensures.passing

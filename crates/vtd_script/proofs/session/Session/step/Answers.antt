@@ -1,7 +1,7 @@
-use Rattle.std.proofs.Common.{refl}
-use Rattle.vtd_script.proofs.Parts.{step_skipped, step_unread, step_refused, step_done, step_undone, step_no_memory, read_none, read_some, read_refused}
-use Rattle.vtd_script.proofs.Parts.{prepares_stop, stays, stays_cut_off, same_work}
-use Rattle.vtd_script.specs.declared.session.Stop.TheVariants as stop
+use Rattle.std.proofs.Common.{refl, sym, ◌∙◌}
+use Rattle.vtd_script.specs.declared.ready.Stop.TheVariants as stop
+use Rattle.vtd_script.proofs.Parts.{step_skipped, step_unread, step_refused, step_unopened, step_done, step_undone, step_no_memory}
+use Rattle.vtd_script.proofs.Parts.{read_none, read_some, read_refused, prepares_stop, rose_from, counts_from, stays, stays_undone}
 use Rattle.vtd_script.proofs.session.Session.step.Goals as goal
 
 pub returns-in-Ok-None-clause-known : goal.returns-in-Ok-None-clause-known
@@ -16,40 +16,46 @@ returns-in-Err-Refused-clause-known g c = λ map sent files to.
 
 pub returns-in-Ok-complete-clause-known : goal.returns-in-Ok-complete-clause-known
 returns-in-Ok-complete-clause-known g c = λ map sent files to.
-    step_done _ _ c.args.line.now c.in-Ok-Some.command c.in-Ok.lines _ _ map sent _ _ c.in-Ok-complete.field-0
-    (read_some c.in-Ok-Some.field-0 c.in-Ok-Some.command _ c.in-Ok-Some.field-0-is c.in-Ok-Some.ensures) (c.in-Ok.ensures map) files
-    (c.in-Ok-complete.ensures.known sent to)
+    step_done ⊥ _ _ _ c.args.line.now c.in-Ok-Some.command c.in-Ok.ready _ _ _ map sent _ _ c.in-Ok-complete.field-0
+    (read_some c.in-Ok-Some.field-0 c.in-Ok-Some.command _ c.in-Ok-Some.field-0-is c.in-Ok-Some.ensures) (c.in-Ok.ensures.known map files)
+    (c.in-Ok-complete.ensures.known map sent (c.prepare.ensures.files_stay ∙ files) to)
 
-pub returns-in-Ok-clause-known : goal.returns-in-Ok-clause-known
-returns-in-Ok-clause-known g c = λ map sent files to.
-    step_undone _ _ c.args.line.now c.in-Ok-Some.command c.in-Ok.lines _ _ map sent _ _ c.in-Err.fault
-    (read_some c.in-Ok-Some.field-0 c.in-Ok-Some.command _ c.in-Ok-Some.field-0-is c.in-Ok-Some.ensures) (c.in-Ok.ensures map) files
-    (c.in-Err.ensures.known sent to)
+pub returns-in-Err-complete-clause-known : goal.returns-in-Err-complete-clause-known
+returns-in-Err-complete-clause-known g c = λ map sent files to.
+    step_undone ⊥ _ _ _ c.args.line.now c.in-Ok-Some.command c.in-Ok.ready _ _ _ map sent _ _ c.in-Err-complete.fault
+    (λ r. rose_from _ _ _ c.in-Ok.ensures.counts.1 r)
+    (read_some c.in-Ok-Some.field-0 c.in-Ok-Some.command _ c.in-Ok-Some.field-0-is c.in-Ok-Some.ensures) (c.in-Ok.ensures.known map files)
+    (c.in-Err-complete.ensures.known map sent (c.prepare.ensures.files_stay ∙ files) to)
 
 pub returns-in-Err-Refused-prepare-clause-known : goal.returns-in-Err-Refused-prepare-clause-known
 returns-in-Err-Refused-prepare-clause-known g c = λ map sent files to.
-    step_refused _ _ c.args.line.now c.in-Ok-Some.command _ _ map sent _ _ c.in-Err-Refused-prepare.refusal c.refuse-in-Err-Refused-prepare.result
+    step_refused ⊥ _ _ c.args.line.now c.in-Ok-Some.command _ _ map sent _ _ c.in-Err-Refused-prepare.refusal c.refuse-in-Err-Refused-prepare.result
     (read_some c.in-Ok-Some.field-0 c.in-Ok-Some.command _ c.in-Ok-Some.field-0-is c.in-Ok-Some.ensures)
-    (prepares_stop _ _ _ _ _ c.in-Err-Refused-prepare.field-0-is (c.in-Err-Refused-prepare.ensures map)) files
-    (c.refuse-in-Err-Refused-prepare.ensures.known sent to)
+    (prepares_stop _ _ _ _ _ _ c.in-Err-Refused-prepare.field-0-is (c.in-Err-Refused-prepare.ensures.known map files))
+    (c.prepare.ensures.files_stay ∙ files) (c.refuse-in-Err-Refused-prepare.ensures.known sent to)
 
-pub returns-clause-known : goal.returns-clause-known
-returns-clause-known g c = λ map sent files to.
+pub returns-in-Err-File-clause-known : goal.returns-in-Err-File-clause-known
+returns-in-Err-File-clause-known g c = λ map sent files to.
+    step_unopened _ _ c.args.line.now c.in-Ok-Some.command _ _ map sent _ _
+    (read_some c.in-Ok-Some.field-0 c.in-Ok-Some.command _ c.in-Ok-Some.field-0-is c.in-Ok-Some.ensures)
+    (prepares_stop _ _ _ _ _ _ c.in-Err-File.field-0-is (c.in-Err-File.ensures.known map files)) (c.prepare.ensures.files_stay ∙ files) to
+
+pub returns-in-Err-NoMemory-clause-known : goal.returns-in-Err-NoMemory-clause-known
+returns-in-Err-NoMemory-clause-known g c = λ map sent files to.
     step_no_memory _ _ c.args.line.now _ _ map sent _ _
-    (prepares_stop c.in-Ok-Some.command _ _ c.in-Err-NoMemory-prepare.field-0 stop.NoMemory c.in-Err-NoMemory-prepare.field-0-is (c.in-Err-NoMemory-prepare.ensures map))
-    files to
+    (prepares_stop _ c.in-Ok-Some.command _ _ c.in-Err-NoMemory.field-0 stop.NoMemory c.in-Err-NoMemory.field-0-is (c.in-Err-NoMemory.ensures.known map files))
+    (c.prepare.ensures.files_stay ∙ files) to
 
 pub returns-in-Err-Refused-clause-session_stays : goal.returns-in-Err-Refused-clause-session_stays
 returns-in-Err-Refused-clause-session_stays g c = stays c.refuse.result _ _ refl
 
-pub returns-in-Ok-clause-session_stays : goal.returns-in-Ok-clause-session_stays
-returns-in-Ok-clause-session_stays g c = stays_cut_off c.in-Err.fault _ _ c.in-Err.ensures.cut_off
+pub returns-in-Err-complete-clause-session_stays : goal.returns-in-Err-complete-clause-session_stays
+returns-in-Err-complete-clause-session_stays g c = stays_undone c.in-Err-complete.fault c.in-Ok.ready _ _ c.in-Err-complete.ensures.no_memory
+    c.in-Err-complete.ensures.file c.in-Ok.ensures.stays
 
 pub returns-in-Err-Refused-prepare-clause-session_stays : goal.returns-in-Err-Refused-prepare-clause-session_stays
-returns-in-Err-Refused-prepare-clause-session_stays g c = stays c.refuse-in-Err-Refused-prepare.result _ _
-    (same_work _ _ (λ map. (prepares_stop _ _ _ _ _ c.in-Err-Refused-prepare.field-0-is (c.in-Err-Refused-prepare.ensures map)).0))
+returns-in-Err-Refused-prepare-clause-session_stays g c = stays c.refuse-in-Err-Refused-prepare.result _ _ c.in-Err-Refused-prepare.ensures.stays
 
-pub returns-clause-session_stays : goal.returns-clause-session_stays
-returns-clause-session_stays g c = same_work _ _ (λ map.
-    prepares_stop c.in-Ok-Some.command _ _ c.in-Err-NoMemory-prepare.field-0 stop.NoMemory c.in-Err-NoMemory-prepare.field-0-is
-    (c.in-Err-NoMemory-prepare.ensures map))
+pub returns-in-Err-complete-clause-counts : goal.returns-in-Err-complete-clause-counts
+returns-in-Err-complete-clause-counts g c =
+    counts_from _ _ _ _ _ _ _ c.in-Ok.ensures.counts.0 c.in-Ok.ensures.counts.1 c.in-Err-complete.ensures.counts

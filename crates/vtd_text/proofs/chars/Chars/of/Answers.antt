@@ -1,4 +1,4 @@
-use Rattle.std.proofs.Common.{add-zero, sym, ap, ◌∙◌, ◌+◌, refl, arith}
+use Rattle.std.proofs.Common.{add-zero, sym, ap, ◌∙◌, ◌+◌, refl}
 use Rattle.vtd_text.proofs.NodeFacts.{row_of, record_of, row_within, record_within, whole_row, inner_row, attribute_record, comment_record, instruction_record, row_gives, record_gives}
 use Rattle.vtd_text.proofs.chars.Chars.of.Goals as goal
 

@@ -2,7 +2,7 @@ use Rattle.std.proofs.Common.{◌≡◌, ◌<◌, false, arith, le-leb}
 use Rattle.std.proofs.lemmas.Bool.{lt-leb}
 use Rattle.xml_model.specs.Scan.{is_within, level_of}
 use Rattle.vtd_words.specs.Packed.{record_of}
-use Rattle.vtd_text.proofs.JoinedLemmas.{Next, next_readable, later_readable, none_readable, row_ends, token_opens}
+use Rattle.vtd_text.proofs.JoinedLemmas.{next_readable, later_readable, none_readable, row_ends, token_opens}
 use Rattle.vtd_text.proofs.row.Row.open_next.Goals as goal
 
 pub invariant_of-self-clause-readable : goal.invariant_of-self-clause-readable

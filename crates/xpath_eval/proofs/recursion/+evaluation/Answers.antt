@@ -1,0 +1,81 @@
+use Rattle.std.proofs.Common.{◌≡◌, ◌∙◌, Err, arith, rules, ap}
+use Rattle.std.proofs.lemmas.Grind.{common_steps}
+use Rattle.xpath_grammar.specs.Tree.{tree_of, trees_of, walk_of}
+use Rattle.xpath_meaning.specs.Meaning.{mean, filtered}
+use Rattle.xpath_eval.proofs.Loops.{begins, kept_fault, kept_on, kept_end, step_fault, step_on, step_end, found_of}
+use Rattle.xpath_eval.proofs.Meanings.{go_on, filter_on, list_on, call_fault, call_gives}
+use Rattle.xpath_eval.proofs.recursion.+evaluation.Goals as goal
+
+pub kept-loop-i-init : goal.kept-loop-i-init
+kept-loop-i-init g t c = record {
+  so_far = rw c.new-found.ensures.items (begins _ _ _);
+  few = rw c.new-found.ensures.items (omega arith);
+  walker = first_of (search rules, cc);
+}
+
+pub kept-returns-in_err-value-clause-found : goal.kept-returns-in_err-value-clause-found
+kept-returns-in_err-value-clause-found g t c =
+    let e : c.from_residual.result ≡ Err c.in_err-value.field-0.0 = first_of (search rules, grind (arith, common_steps)) in
+    rw e (kept_fault _ _ (mean (tree_of c.args.predicate.now)) c.loop-i.i c.place_at-place.result _ _ c.loop-i.invariant.so_far c.loop-i-test.true c.place_at-place.ensures.is c.in_err-value.ensures.means)
+
+pub kept-loop-i-preserved : goal.kept-loop-i-preserved
+kept-loop-i-preserved g t c = record {
+  so_far = kept_on _ _ _ _ c.place_at-place.result _ _ _ c.loop-i.invariant.so_far c.loop-i-test.true c.place_at-place.ensures.is c.in_ok-value.ensures.means c.in_ok-keep.ensures.kept;
+  few = omega (arith, c.in_ok-keep.ensures.few, c.loop-i.invariant.few);
+  walker = first_of (search rules, cc);
+}
+
+pub kept-returns-clause-found : goal.kept-returns-clause-found
+kept-returns-clause-found g t c = kept_end _ _ (mean (tree_of c.args.predicate.now)) c.loop-i.i _ c.loop-i.invariant.so_far c.loop-i-test.false
+
+pub kept-returns-clause-of : goal.kept-returns-clause-of
+kept-returns-clause-of g t c = record {
+  of = found_of _ _ _ c.loop-i.i _ c.requires.nodes.of c.loop-i.invariant.so_far;
+  few = omega (arith, c.loop-i.invariant.few, c.requires.nodes.few);
+}
+
+pub step_from-loop-i-init : goal.step_from-loop-i-init
+step_from-loop-i-init g t c = record {
+  so_far = rw c.new-found.ensures.items (begins _ _ _);
+  walker = first_of (search rules, cc);
+}
+
+pub step_from-returns-in_err-passed-clause-found : goal.step_from-returns-in_err-passed-clause-found
+step_from-returns-in_err-passed-clause-found g t c =
+    let e : c.from_residual-in_err-passed.result ≡ Err c.in_err-passed.field-0.0 = first_of (search rules, grind (arith, common_steps)) in
+    rw e (step_fault _ _ (filtered (trees_of c.args.predicates.now)) c.args.axis c.args.test.now c.loop-i.i c.place_at-place.result _ _ _ c.loop-i.invariant.so_far c.loop-i-test.true c.place_at-place.ensures.is c.in_ok-list.ensures.found c.in_err-passed.ensures.found)
+
+pub step_from-loop-i-preserved : goal.step_from-loop-i-preserved
+step_from-loop-i-preserved g t c = record {
+  so_far = step_on _ _ _ _ _ _ c.place_at-place.result _ _ _ _ c.loop-i.invariant.so_far c.loop-i-test.true c.place_at-place.ensures.is c.in_ok-list.ensures.found c.in_ok-passed.ensures.found c.in_ok-append.ensures.appended;
+  walker = first_of (search rules, cc);
+}
+
+pub step_from-returns-clause-found : goal.step_from-returns-clause-found
+step_from-returns-clause-found g t c = step_end _ _ (filtered (trees_of c.args.predicates.now)) c.args.axis c.args.test.now c.loop-i.i _ _ c.loop-i.invariant.so_far c.loop-i-test.false c.in_order.ensures.ordered
+
+pub step_from-in_order-requires : goal.step_from-in_order-requires
+step_from-in_order-requires g t c = found_of _ _ _ c.loop-i.i _ c.requires.nodes.of c.loop-i.invariant.so_far
+
+pub walked-returns-in_ok-found-in-More-clause-found : goal.walked-returns-in_ok-found-in-More-clause-found
+walked-returns-in_ok-found-in-More-clause-found g t c =
+    let same : c.nodes.inside.held.items ≡ c.args.nodes = cc (c.nodes.view_is) in
+    go_on _ _ _ _ _ _ _ _ _ _ _ _ _ _ (c.as_slice.ensures.value ∙ same) (ap (λ x. x.axis) c.deref.ensures) (ap (λ x. x.test) c.deref-in-More.ensures) (ap (λ x. trees_of x.predicates) c.deref-in-More-2.ensures) (ap walk_of c.deref-in-More-3.ensures) (ap walk_of c.in-More.is) c.in_ok-found-in-More.ensures.found c.walked.ensures.found
+
+pub filtered-returns-in_ok-found-in-More-clause-found : goal.filtered-returns-in_ok-found-in-More-clause-found
+filtered-returns-in_ok-found-in-More-clause-found g t c =
+    let same : c.nodes.inside.held.items ≡ c.args.nodes = cc (c.nodes.view_is) in
+    filter_on _ _ _ _ _ _ _ _ _ _ (c.as_slice.ensures.value ∙ same) (ap tree_of c.deref.ensures) (ap trees_of c.deref-in-More.ensures) (ap trees_of c.in-More.is) c.in_ok-found-in-More.ensures.found c.filtered.ensures.found
+
+pub values_at-returns-in_ok-done-in-More-clause-values : goal.values_at-returns-in_ok-done-in-More-clause-values
+values_at-returns-in_ok-done-in-More-clause-values g t c =
+    list_on _ _ _ _ _ _ _ _ _ _ _ (ap tree_of c.deref.ensures) (ap trees_of c.deref-in-More.ensures) (ap trees_of c.in-More.is) c.in_ok-done-in-More.ensures.more c.in_ok-value-in-More.ensures.means c.values_at.ensures.values
+
+pub value_at-returns-in_err-values-in-Call-clause-means : goal.value_at-returns-in_err-values-in-Call-clause-means
+value_at-returns-in_err-values-in-Call-clause-means g t c =
+    let e : c.from_residual-in_err-values-in-Call.result ≡ Err c.in_err-values-in-Call.field-0.0 = first_of (search rules, grind (arith, common_steps)) in
+    rw e (call_fault c.args.scope.now c.args.place _ _ c.in-Call.name _ (tree_of c.args.expr.now) c.no_values.ensures.none c.in_err-values-in-Call.ensures.values (ap tree_of c.in-Call.is))
+
+pub value_at-returns-in_ok-values-in-Call-clause-means : goal.value_at-returns-in_ok-values-in-Call-clause-means
+value_at-returns-in_ok-values-in-Call-clause-means g t c =
+    call_gives _ _ _ _ _ c.in-Call.name _ _ c.no_values.ensures.none c.in_ok-values-in-Call.ensures.values (ap tree_of c.in-Call.is) c.answered.ensures.means

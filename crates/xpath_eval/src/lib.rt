@@ -1,0 +1,7 @@
+//! The value of an expression of XPath 1.0 over a document.
+#![tactic(auto)]
+
+mod entry;
+mod recursion;
+
+pub use entry::evaluate;

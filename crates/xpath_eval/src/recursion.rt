@@ -1,0 +1,220 @@
+//! The value of an expression, part by part.
+
+ghost use Rattle.std.specs.Prelude.{◌≡◌, length, IfOk};
+ghost use Rattle.xpath_grammar.specs.Tree.{tree_of, trees_of, walk_of};
+ghost use Rattle.xpath_meaning.specs.Meaning.{mean, filtered, walked, listed, kept, step_from};
+ghost use Rattle.xpath_meaning.specs.Scope.{AreFewOf, AreValuesOf, Finds, IsOf, IsPlace, ListMeans, Means, source_of};
+
+use vtd_words::Words;
+use xml_model::{Node, NodeList};
+use xpath_calls::answered;
+use xpath_grammar::{Expr, Exprs, StepAxis, StepTest, Steps};
+use xpath_meaning::{
+    Place, Scope, Values, append, keep, literal, negated, no_nodes, no_values, nodes_in,
+    nodes_value, numeral, operated, place_at, start, truth_value, with_value,
+};
+use xpath_nodes::{Walker, compared, in_order, stepped, united};
+use xpath_values::{Value, ValueFault, truth_of};
+
+/// The value of an expression at a place.
+#[cycle(evaluation)]
+pub fn value_at<W: Words>(
+    scope: &Scope<'_, '_, W>,
+    walker: &mut Walker<'_, '_, W>,
+    place: Place,
+    expr: &Expr,
+) -> Result<Value, ValueFault>
+    requires place { IsPlace scope.now place }
+    requires walker { walker.old ≡ source_of scope.now }
+    ensures means { Means scope.now place result (mean (tree_of expr.now)) }
+    ensures of { IfOk result (IsOf scope.now) }
+    ensures walker { walker.new ≡ walker.old }
+{
+    match expr {
+        Expr::Or(left, right) => {
+            let left = value_at(scope, walker, place, left)?;
+            if truth_of(&left) {
+                return truth_value(scope, Ok(true));
+            }
+            let right = value_at(scope, walker, place, right)?;
+            truth_value(scope, Ok(truth_of(&right)))
+        }
+        Expr::And(left, right) => {
+            let left = value_at(scope, walker, place, left)?;
+            if !truth_of(&left) {
+                return truth_value(scope, Ok(false));
+            }
+            let right = value_at(scope, walker, place, right)?;
+            truth_value(scope, Ok(truth_of(&right)))
+        }
+        Expr::Compare(how, left, right) => {
+            let left = value_at(scope, walker, place, left)?;
+            let right = value_at(scope, walker, place, right)?;
+            compared(scope, *how, left, right)
+        }
+        Expr::Arithmetic(how, left, right) => {
+            let left = value_at(scope, walker, place, left)?;
+            let right = value_at(scope, walker, place, right)?;
+            operated(scope, *how, left, right)
+        }
+        Expr::Negate(inner) => {
+            let value = value_at(scope, walker, place, inner)?;
+            negated(scope, value)
+        }
+        Expr::Union(left, right) => {
+            let left = value_at(scope, walker, place, left)?;
+            let right = value_at(scope, walker, place, right)?;
+            united(scope, left, right)
+        }
+        Expr::Path { absolute, steps } => {
+            let nodes = start(scope, place, *absolute)?;
+            let found = walked(scope, walker, nodes, steps)?;
+            Ok(nodes_value(scope, found))
+        }
+        Expr::From { start, steps } => {
+            let value = value_at(scope, walker, place, start)?;
+            let found = walked(scope, walker, nodes_in(scope, value), steps)?;
+            Ok(nodes_value(scope, found))
+        }
+        Expr::Filter { start, predicates } => {
+            let value = value_at(scope, walker, place, start)?;
+            let found = filtered(scope, walker, nodes_in(scope, value), predicates)?;
+            Ok(nodes_value(scope, found))
+        }
+        Expr::Literal(text) => literal(scope, text),
+        Expr::Number(spelling) => numeral(scope, spelling),
+        Expr::Variable(_) => Ok(nodes_value(scope, no_nodes(scope))),
+        Expr::Call { name, arguments } => {
+            let values = values_at(scope, walker, place, arguments, no_values(scope))?;
+            answered(scope, walker, place, name, values)
+        }
+    }
+}
+
+/// The values of expressions at a place, after others.
+#[cycle(evaluation)]
+fn values_at<W: Words>(
+    scope: &Scope<'_, '_, W>,
+    walker: &mut Walker<'_, '_, W>,
+    place: Place,
+    list: &Exprs,
+    done: Values,
+) -> Result<Values, ValueFault>
+    requires place { IsPlace scope.now place }
+    requires done { AreValuesOf scope.now done }
+    requires walker { walker.old ≡ source_of scope.now }
+    ensures values { ListMeans scope.now place done result (listed (trees_of list.now)) }
+    ensures of { IfOk result (AreValuesOf scope.now) }
+    ensures walker { walker.new ≡ walker.old }
+{
+    match list {
+        Exprs::End => Ok(done),
+        Exprs::More(first, rest) => {
+            let value = value_at(scope, walker, place, first)?;
+            let done = with_value(scope, done, value)?;
+            values_at(scope, walker, place, rest, done)
+        }
+    }
+}
+
+/// The nodes that steps find from some nodes.
+#[cycle(evaluation)]
+fn walked<W: Words>(
+    scope: &Scope<'_, '_, W>,
+    walker: &mut Walker<'_, '_, W>,
+    nodes: NodeList,
+    steps: &Steps,
+) -> Result<NodeList, ValueFault>
+    requires nodes { AreFewOf scope.now nodes }
+    requires walker { walker.old ≡ source_of scope.now }
+    ensures found { Finds scope.now nodes result (walked (walk_of steps.now)) }
+    ensures of { IfOk result (AreFewOf scope.now) }
+    ensures walker { walker.new ≡ walker.old }
+{
+    match steps {
+        Steps::End => Ok(nodes),
+        Steps::More(step, rest) => {
+            let found = step_from(
+                scope,
+                walker,
+                nodes.held.as_slice(),
+                step.axis,
+                &step.test,
+                &step.predicates,
+            )?;
+            walked(scope, walker, found, rest)
+        }
+    }
+}
+
+/// The nodes that a step finds from some nodes.
+#[cycle(evaluation)]
+fn step_from<W: Words>(
+    scope: &Scope<'_, '_, W>,
+    walker: &mut Walker<'_, '_, W>,
+    nodes: &[Node],
+    axis: StepAxis,
+    test: &StepTest,
+    predicates: &Exprs,
+) -> Result<NodeList, ValueFault>
+    requires nodes { AreFewOf scope.now nodes.now }
+    requires walker { walker.old ≡ source_of scope.now }
+    ensures found { Finds scope.now nodes.now result (step_from (filtered (trees_of predicates.now)) axis test.now) }
+    ensures of { IfOk result (AreFewOf scope.now) }
+    ensures walker { walker.new ≡ walker.old }
+{
+    let mut found = Vec::new(scope.alloc);
+    for i in 0..nodes.len() {
+        let place = place_at(scope, nodes, i);
+        let list = stepped(scope, walker, place, axis, test)?;
+        let passed = filtered(scope, walker, list, predicates)?;
+        append(&mut found, passed)?;
+    }
+    Ok(in_order(scope, NodeList { held: found }))
+}
+
+/// The nodes that all predicates pass.
+#[cycle(evaluation)]
+fn filtered<W: Words>(
+    scope: &Scope<'_, '_, W>,
+    walker: &mut Walker<'_, '_, W>,
+    nodes: NodeList,
+    predicates: &Exprs,
+) -> Result<NodeList, ValueFault>
+    requires nodes { AreFewOf scope.now nodes }
+    requires walker { walker.old ≡ source_of scope.now }
+    ensures found { Finds scope.now nodes result (filtered (trees_of predicates.now)) }
+    ensures of { IfOk result (AreFewOf scope.now) }
+    ensures walker { walker.new ≡ walker.old }
+{
+    match predicates {
+        Exprs::End => Ok(nodes),
+        Exprs::More(first, rest) => {
+            let found = kept(scope, walker, nodes.held.as_slice(), first)?;
+            filtered(scope, walker, found, rest)
+        }
+    }
+}
+
+/// The nodes that a predicate passes.
+#[cycle(evaluation)]
+fn kept<W: Words>(
+    scope: &Scope<'_, '_, W>,
+    walker: &mut Walker<'_, '_, W>,
+    nodes: &[Node],
+    predicate: &Expr,
+) -> Result<NodeList, ValueFault>
+    requires nodes { AreFewOf scope.now nodes.now }
+    requires walker { walker.old ≡ source_of scope.now }
+    ensures found { Finds scope.now nodes.now result (λ c es. kept (mean (tree_of predicate.now)) c (length es) 1 es) }
+    ensures of { IfOk result (AreFewOf scope.now) }
+    ensures walker { walker.new ≡ walker.old }
+{
+    let mut found = Vec::new(scope.alloc);
+    for i in 0..nodes.len() {
+        let place = place_at(scope, nodes, i);
+        let value = value_at(scope, walker, place, predicate)?;
+        keep(&mut found, value, place)?;
+    }
+    Ok(NodeList { held: found })
+}

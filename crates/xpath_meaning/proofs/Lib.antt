@@ -1,0 +1,10 @@
+pub mod ArgumentLemmas
+pub mod Lists
+pub mod Tables
+pub mod MakerLemmas
+pub mod Meetings
+pub mod PlaceLemmas
+pub mod Nodes
+pub mod Orders
+pub mod NumberLemmas
+pub mod CallLemmas

@@ -1,0 +1,5 @@
+use Rattle.xpath_meaning.proofs.MakerLemmas.{text_is_of}
+use Rattle.xpath_meaning.proofs.makers.text_value.Goals as goal
+
+pub returns-in-Ok-clause-of : goal.returns-in-Ok-clause-of
+returns-in-Ok-clause-of g c = text_is_of _ _

@@ -1,0 +1,5 @@
+pub mod Meets
+pub mod Context
+pub mod Functions
+pub mod Meaning
+pub mod Scope
