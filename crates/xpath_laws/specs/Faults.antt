@@ -110,7 +110,7 @@ abbrev mutual
 
   pub faultless_steps : Walk → Bool
   faultless_steps stop = true
-  faultless_steps (go axis test ps w) = all_faultless ps && faultless_steps w
+  faultless_steps (go axis t ps w) = all_faultless ps && faultless_steps w
 
 -- an answer is no fault
 pub record IsFine {X : Type 0} (m : Answer X) : Type 0 where
