@@ -1,2 +1,6 @@
 pub mod Sending
 pub mod Joined
+pub mod Heads
+pub mod Written
+pub mod Prefixes
+pub mod Reading

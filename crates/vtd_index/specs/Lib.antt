@@ -1,3 +1,5 @@
 pub mod Layout
 pub mod Pieces
 pub mod Sending
+pub mod Heads
+pub mod Holding

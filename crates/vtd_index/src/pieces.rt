@@ -27,7 +27,7 @@ pub enum Piece {
 }
 
 /// The first bytes of an index file.
-const MAGIC: &[u8] = b"VTDIDX02";
+pub const MAGIC: &[u8] = b"VTDIDX02";
 
 /// How many words are put into the buffer before it is added to the file.
 const MANY: u32 = 8192;
