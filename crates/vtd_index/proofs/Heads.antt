@@ -1,5 +1,5 @@
 -- What a head that is found says of the file.
-use Rattle.std.proofs.Common.{◌≡◌, ℕ, zero, suc, ◌+◌, ◌-◌, ◌*◌, ◌^◌, ◌<◌, ◌≤◌, Bool, true, false, cond, not, nat_lt, ◌==◌, List, [], ◌∷◌, length, take, drop, get_or, codes, Option, Some, None, Result, Ok, Err, refl, ap, subst, sym, ◌∙◌, arith}
+use Rattle.std.proofs.Common.{◌≡◌, ℕ, zero, suc, ◌+◌, ◌-◌, ◌*◌, ◌^◌, ◌<◌, ◌≤◌, Bool, true, false, cond, not, nat_lt, ◌==◌, List, [], ◌∷◌, length, take, drop, get_or, codes, Option, Some, None, Result, Ok, Err, refl, ap, subst, arith}
 use Rattle.std.specs.Prelude.{bytes_eq}
 use Rattle.std.specs.List.{position, position_or_len}
 use Rattle.std.proofs.lemmas.Bool.Decides.{nat_tests}
@@ -88,7 +88,7 @@ are_short at n k bytes within few e =
 
 pub can_view : (file : List ℕ) (h : Head) → IsHead file h → length file < 2 ^ 32
     → CanView (slice (records_at h) h.records file) (slice (level1_at h) h.level1 file) (slice (level2_at h) h.level2 file)
-      (slice (level3_at h) h.level3 file) (slice (level4_at h) h.level4 file) (slice (level5_at h) h.level5 file)
+    (slice (level3_at h) h.level3 file) (slice (level4_at h) h.level4 file) (slice (level5_at h) h.level5 file)
 can_view file h i few = record {
   records = are_long _ _ (number 4 (drop 12 file)) file (omega (arith, i.fills)) few (ap (λ (x : Head). x.records) i.is);
   level1 = are_long _ _ (number 4 (drop 16 file)) file (omega (arith, i.fills)) few (ap (λ (x : Head). x.level1) i.is);

@@ -1,13 +1,11 @@
 -- Pieces that are added one after another.
-use Rattle.std.proofs.Common.{◌≡◌, ℕ, suc, ◌+◌, ◌<◌, ◌≤◌, true, List, [], ◌∷◌, ◌++◌, length, map, take, drop, get_or, Result, Ok, Err, refl, ap, sym, ◌∙◌, arith, append_assoc, append-nil}
-use Rattle.std.specs.List.{concat}
+use Rattle.std.proofs.Common.{◌≡◌, ℕ, suc, ◌+◌, ◌<◌, ◌≤◌, true, List, [], ◌∷◌, ◌++◌, length, take, drop, get_or, refl, ap, sym, ◌∙◌, arith, append_assoc, append-nil}
 use Rattle.std.proofs.lemmas.List.{take-append-drop, take_all}
 use Rattle.std.proofs.Math.Seq.{take-suc}
 use Rattle.vtd_outside.specs.declared.Failed.{Failed}
 use Rattle.vtd_outside.specs.Known.{SeenFiles}
 use Rattle.vtd_outside.specs.Written.{Adds}
 use Rattle.vtd_outside.proofs.Adds.{okay, failing, adds_none, adds_then, adds_prefix}
-use Rattle.vtd_words.specs.Numbers.{bytes_of}
 use Rattle.vtd_words.specs.Lists.{Lists}
 use Rattle.vtd_index.specs.declared.pieces.Piece.{Piece}
 use Rattle.vtd_index.specs.Layout.{file_of}
@@ -25,7 +23,7 @@ one_piece bytes words ps n d within =
     let e : n + 1 ≡ suc n = omega arith in
     let t : take (n + 1) ps ≡ take n ps ++ get_or ps n d ∷ [] = ap (λ (j : ℕ). take j ps) e ∙ take-suc ps n d within in
     sym (ap (λ (qs : List Piece). pieces_bytes bytes words qs) t ∙ pieces_append bytes words (take n ps) (get_or ps n d ∷ [])
-      ∙ ap (λ (zs : List ℕ). pieces_bytes bytes words (take n ps) ++ zs) (append-nil (piece_bytes bytes words (get_or ps n d))))
+    ∙ ap (λ (zs : List ℕ). pieces_bytes bytes words (take n ps) ++ zs) (append-nil (piece_bytes bytes words (get_or ps n d))))
 
 pub going_starts : (s : SeenFiles) (bytes : List ℕ) (words : Lists) (ps : List Piece) → s.is_writing ≡ true → Going s s bytes words ps 0
 going_starts s bytes words ps w = record { adds = adds_none s tt w; writing = w }
@@ -42,8 +40,8 @@ pub going_prefix : (s l t : SeenFiles) (bytes : List ℕ) (words : Lists) (ps : 
 going_prefix s l t bytes words ps n d f within k a =
     let both = adds_then s l t (pieces_bytes bytes words (take n ps)) (piece_bytes bytes words (get_or ps n d)) tt (failing {U = Unit {0}} {E = Failed} f) k.adds a in
     let whole : pieces_bytes bytes words ps ≡ (pieces_bytes bytes words (take n ps) ++ piece_bytes bytes words (get_or ps n d)) ++ pieces_bytes bytes words (drop (n + 1) ps) =
-      ap (λ (qs : List Piece). pieces_bytes bytes words qs) (sym (take-append-drop (n + 1) ps)) ∙ pieces_append bytes words (take (n + 1) ps) (drop (n + 1) ps)
-      ∙ ap (λ (zs : List ℕ). zs ++ pieces_bytes bytes words (drop (n + 1) ps)) (sym (one_piece bytes words ps n d within)) in
+    ap (λ (qs : List Piece). pieces_bytes bytes words qs) (sym (take-append-drop (n + 1) ps)) ∙ pieces_append bytes words (take (n + 1) ps) (drop (n + 1) ps)
+    ∙ ap (λ (zs : List ℕ). zs ++ pieces_bytes bytes words (drop (n + 1) ps)) (sym (one_piece bytes words ps n d within)) in
     rw whole (adds_prefix s t _ (pieces_bytes bytes words (drop (n + 1) ps)) f both)
 
 -- the pieces are the file

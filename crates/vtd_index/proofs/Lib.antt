@@ -4,3 +4,5 @@ pub mod Heads
 pub mod Written
 pub mod Prefixes
 pub mod Reading
+pub mod Differing
+pub mod Documents

@@ -1,5 +1,5 @@
 -- A prefix of an index file is refused by its head.
-use Rattle.std.proofs.Common.{◌≡◌, ℕ, zero, suc, ◌+◌, ◌-◌, ◌<◌, ◌≤◌, true, false, cond, nat_lt, ◌==◌, List, length, take, drop, codes, Err, refl, ap, subst, sym, ◌∙◌, arith, inl, inr, ◌⊎◌}
+use Rattle.std.proofs.Common.{◌≡◌, ℕ, zero, suc, ◌+◌, ◌-◌, ◌<◌, ◌≤◌, true, false, cond, nat_lt, ◌==◌, List, length, take, drop, codes, Err, refl, ap, subst, ◌∙◌, arith, inl, inr, ◌⊎◌}
 use Rattle.std.specs.Prelude.{bytes_eq}
 use Rattle.std.proofs.lemmas.Bool.Decides.{nat_tests}
 use Rattle.std.proofs.lemmas.Bool.{cases_lt}
@@ -25,9 +25,15 @@ number_cut n p m k file e within = rw (e, drop-take p k file) (cut_from 0 n k (d
 
 head_cut : (m : ℕ) (file : List ℕ) → 40 ≤ m → head_in (take m file) ≡ head_in file
 head_cut m file long =
-    rw (number_cut 4 8 m (m - 8) file (omega arith) (omega arith), number_cut 4 12 m (m - 12) file (omega arith) (omega arith), number_cut 4 16 m (m - 16) file (omega arith) (omega arith),
-      number_cut 4 20 m (m - 20) file (omega arith) (omega arith), number_cut 4 24 m (m - 24) file (omega arith) (omega arith), number_cut 4 28 m (m - 28) file (omega arith) (omega arith),
-      number_cut 4 32 m (m - 32) file (omega arith) (omega arith)) refl
+    rw (
+      number_cut 4 8 m (m - 8) file (omega arith) (omega arith),
+      number_cut 4 12 m (m - 12) file (omega arith) (omega arith),
+      number_cut 4 16 m (m - 16) file (omega arith) (omega arith),
+      number_cut 4 20 m (m - 20) file (omega arith) (omega arith),
+      number_cut 4 24 m (m - 24) file (omega arith) (omega arith),
+      number_cut 4 28 m (m - 28) file (omega arith) (omega arith),
+      number_cut 4 32 m (m - 32) file (omega arith) (omega arith),
+    ) refl
 
 -- Short below 40 bytes, and else Size
 pub prefix_refused : (file : List ℕ) (h : Head) (m : ℕ) → IsHead file h → m < length file → head_of (take m file) ≡ cond (nat_lt m 40) (Err Short) (Err Size)
@@ -37,12 +43,14 @@ prefix_refused file h m i low =
   where
     magic : 8 ≤ m → bytes_eq (codes "VTDIDX02") (take 8 (take m file)) ≡ true
     magic e = ap (λ (bs : List ℕ). bytes_eq (codes "VTDIDX02") bs) (take-take 8 m file e) ∙ i.magic
+
     sized : 40 ≤ m → length (take m file) ≡ m → with_size (take m file) (head_in file) ≡ Err Size
     sized e long =
         let P : Head → Type 0 = λ x. with_size (take m file) x ≡ Err Size in
         let a : nat_lt 1073741823 h.document ≡ false = let s = i.short in grind (arith, nat_tests) in
         let b : (m == end_of h) ≡ false = let f = i.fills in grind (arith, nat_tests) in
         subst P i.is (rw (a, long, b) refl)
+
     by_length : (m < 32) ⊎ (32 ≤ m) → (m < 40) ⊎ (40 ≤ m) → length (take m file) ≡ m → head_of (take m file) ≡ cond (nat_lt m 40) (Err Short) (Err Size)
     by_length (inl a) b long =
         let t : nat_lt m 32 ≡ true = grind (arith, nat_tests) in

@@ -1,13 +1,12 @@
 -- The file of a document and its words is read back: its head has no fault, and the parts are those.
-use Rattle.std.proofs.Common.{◌≡◌, ℕ, zero, suc, ◌+◌, ◌-◌, ◌*◌, ◌/◌, ◌^◌, ◌<◌, true, false, cond, nat_lt, ◌==◌, List, [], ◌∷◌, ◌++◌, length, take, drop, codes, replicate, None, Result, Ok, Err, refl, ap, sym, ◌∙◌, arith, append-nil}
+use Rattle.std.proofs.Common.{◌≡◌, ℕ, zero, suc, ◌+◌, ◌-◌, ◌*◌, ◌^◌, ◌<◌, true, false, cond, nat_lt, ◌==◌, List, [], ◌∷◌, ◌++◌, length, take, drop, codes, replicate, None, Result, Ok, Err, refl, ap, sym, ◌∙◌, arith}
 use Rattle.std.specs.Prelude.{bytes_eq}
-use Rattle.std.specs.List.{AllByRecursion, concat}
 use Rattle.std.proofs.lemmas.Bool.Decides.{nat_tests}
 use Rattle.std.proofs.lemmas.Slice.Eq.{bytes_eq-Decides}
 use Rattle.std.proofs.lemmas.List.{length-append, take_at, drop-drop}
 use Rattle.std.proofs.Math.Nat.{mul-suc, mul-zero}
 use Rattle.byteorder.specs.Numbers.{big_number-reads_back}
-use Rattle.vtd_words.specs.Numbers.{number, number_bytes, numbers, bytes_of, words_in}
+use Rattle.vtd_words.specs.Numbers.{number, number_bytes, bytes_of, words_in}
 use Rattle.vtd_words.specs.Lists.{Lists}
 use Rattle.vtd_words.proofs.Back.{words_there}
 use Rattle.vtd_index.specs.declared.head.Head.{Head}
@@ -138,7 +137,7 @@ parts f bytes w e =
     let a8 = next f 32 4 36 4 40 _ (replicate 4 0) _ a7 refl refl in
     let a9 = next f 36 4 40 (length bytes) (40 + length bytes) _ bytes _ a8 refl refl in
     let b0 = next f 40 (length bytes) (40 + length bytes) (padded (length bytes) - length bytes) (records_at h) _ (replicate (padded (length bytes) - length bytes) 0) _ a9
-        (length_zeros _) (omega arith) in
+    (length_zeros _) (omega arith) in
     let b1 = next f (40 + length bytes) (padded (length bytes) - length bytes) (records_at h) h.records (level1_at h) _ (bytes_of 8 w.records) _ b0 (length_bytes 8 _) refl in
     let b2 = next f (records_at h) h.records (level1_at h) h.level1 (level2_at h) _ (bytes_of 8 w.level1) _ b1 (length_bytes 8 _) refl in
     let b3 = next f (level1_at h) h.level1 (level2_at h) h.level2 (level3_at h) _ (bytes_of 8 w.level2) _ b2 (length_bytes 8 _) refl in
@@ -146,10 +145,39 @@ parts f bytes w e =
     let b5 = next f (level3_at h) h.level3 (level4_at h) h.level4 (level5_at h) _ (bytes_of 8 w.level4) _ b4 (length_bytes 8 _) refl in
     let b6 = next f (level4_at h) h.level4 (level5_at h) h.level5 (end_of h) _ (bytes_of 4 w.level5) [] b5 (length_bytes 4 _) refl in
     record {
-      rest0 = _; magic = a0; rest1 = _; document_len = a1; rest2 = _; records_len = a2; rest3 = _; level1_len = a3; rest4 = _; level2_len = a4;
-      rest5 = _; level3_len = a5; rest6 = _; level4_len = a6; rest7 = _; level5_len = a7; rest8 = _; spare = a8; rest9 = _; document = a9;
-      rest10 = _; padding = b0; rest11 = _; records = b1; rest12 = _; level1 = b2; rest13 = _; level2 = b3; rest14 = _; level3 = b4;
-      rest15 = _; level4 = b5; level5 = b6;
+      rest0 = _;
+      magic = a0;
+      rest1 = _;
+      document_len = a1;
+      rest2 = _;
+      records_len = a2;
+      rest3 = _;
+      level1_len = a3;
+      rest4 = _;
+      level2_len = a4;
+      rest5 = _;
+      level3_len = a5;
+      rest6 = _;
+      level4_len = a6;
+      rest7 = _;
+      level5_len = a7;
+      rest8 = _;
+      spare = a8;
+      rest9 = _;
+      document = a9;
+      rest10 = _;
+      padding = b0;
+      rest11 = _;
+      records = b1;
+      rest12 = _;
+      level1 = b2;
+      rest13 = _;
+      level2 = b3;
+      rest14 = _;
+      level3 = b4;
+      rest15 = _;
+      level4 = b5;
+      level5 = b6;
     }
 
 -- how long it is
@@ -186,11 +214,20 @@ reads_file f bytes w c e =
     record {
       head = sized_ok f bytes w magic is all c.few spare padding;
       document = part_is f 40 (length bytes) (40 + length bytes) bytes p.rest9 p.document;
-      words = rw (part_is f (records_at h) h.records (level1_at h) (bytes_of 8 w.records) p.rest11 p.records, part_is f (level1_at h) h.level1 (level2_at h) (bytes_of 8 w.level1) p.rest12 p.level1,
-        part_is f (level2_at h) h.level2 (level3_at h) (bytes_of 8 w.level2) p.rest13 p.level2, part_is f (level3_at h) h.level3 (level4_at h) (bytes_of 8 w.level3) p.rest14 p.level3,
-        part_is f (level4_at h) h.level4 (level5_at h) (bytes_of 8 w.level4) p.rest15 p.level4, part_is f (level5_at h) h.level5 (end_of h) (bytes_of 4 w.level5) [] p.level5,
-        read_words 8 w.records (omega arith) c.records, read_words 8 w.level1 (omega arith) c.level1, read_words 8 w.level2 (omega arith) c.level2,
-        read_words 8 w.level3 (omega arith) c.level3, read_words 8 w.level4 (omega arith) c.level4, read_words 4 w.level5 (omega arith) c.level5) refl;
+      words = rw (
+        part_is f (records_at h) h.records (level1_at h) (bytes_of 8 w.records) p.rest11 p.records,
+        part_is f (level1_at h) h.level1 (level2_at h) (bytes_of 8 w.level1) p.rest12 p.level1,
+        part_is f (level2_at h) h.level2 (level3_at h) (bytes_of 8 w.level2) p.rest13 p.level2,
+        part_is f (level3_at h) h.level3 (level4_at h) (bytes_of 8 w.level3) p.rest14 p.level3,
+        part_is f (level4_at h) h.level4 (level5_at h) (bytes_of 8 w.level4) p.rest15 p.level4,
+        part_is f (level5_at h) h.level5 (end_of h) (bytes_of 4 w.level5) [] p.level5,
+        read_words 8 w.records (omega arith) c.records,
+        read_words 8 w.level1 (omega arith) c.level1,
+        read_words 8 w.level2 (omega arith) c.level2,
+        read_words 8 w.level3 (omega arith) c.level3,
+        read_words 8 w.level4 (omega arith) c.level4,
+        read_words 4 w.level5 (omega arith) c.level5,
+      ) refl;
     }
 
 pub reads_back : (bytes : List ℕ) (w : Lists) → CanHold bytes w → ReadBack (file_of bytes w) bytes w

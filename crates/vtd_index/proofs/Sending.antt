@@ -1,5 +1,5 @@
 -- Words that are put into a buffer, and words that are added to a file.
-use Rattle.std.proofs.Common.{◌≡◌, ℕ, zero, suc, ◌+◌, ◌*◌, ◌<◌, ◌≤◌, List, [], ◌∷◌, ◌++◌, length, take, drop, Result, Ok, Err, refl, ap, sym, ◌∙◌, arith, append_assoc, append-nil, slice_index}
+use Rattle.std.proofs.Common.{◌≡◌, ℕ, zero, suc, ◌+◌, ◌*◌, ◌<◌, ◌≤◌, List, [], ◌∷◌, ◌++◌, length, take, drop, refl, ap, sym, ◌∙◌, arith, append_assoc, append-nil, slice_index}
 use Rattle.std.proofs.lemmas.List.{length-append, take-take, get_or-drop, length-drop, length-take-le, take_at, take-append-drop}
 use Rattle.std.proofs.lemmas.Slice.{take-put_mid}
 use Rattle.std.proofs.Math.Seq.{take-add, take-suc}
@@ -9,7 +9,7 @@ use borrow.Rule.Slice.PartMut.{put_mid}
 use Rattle.vtd_outside.specs.declared.Failed.{Failed}
 use Rattle.vtd_outside.specs.Known.{SeenFiles}
 use Rattle.vtd_outside.specs.Written.{Adds}
-use Rattle.vtd_outside.proofs.Adds.{okay, failing, adds_none, adds_then, adds_prefix}
+use Rattle.vtd_outside.proofs.Adds.{okay, failing, adds_then, adds_prefix}
 use Rattle.vtd_words.specs.Numbers.{number_bytes, bytes_of}
 use Rattle.vtd_index.specs.Sending.{Sent}
 
@@ -42,12 +42,12 @@ one_more size k at i w words chunk rest new room within e n before =
     let place : size * (i + 1) ≡ size * i + size = mul_one size i in
     let inside : i < length (drop at words) = rw length-drop (omega arith) in
     let next : take (i + 1) (drop at words) ≡ take i (drop at words) ++ w ∷ [] =
-      (let s : i + 1 ≡ suc i = omega arith in ap (λ (j : ℕ). take j (drop at words)) s) ∙ take-suc (drop at words) i 0 inside
-      ∙ ap (λ (x : ℕ). take i (drop at words) ++ x ∷ []) (get_or-drop at words i 0 ∙ sym e) in
+    (let s : i + 1 ≡ suc i = omega arith in ap (λ (j : ℕ). take j (drop at words)) s) ∙ take-suc (drop at words) i 0 inside
+    ∙ ap (λ (x : ℕ). take i (drop at words) ++ x ∷ []) (get_or-drop at words i 0 ∙ sym e) in
     rw (place, next) (put_at (size * i) size k chunk (number_bytes size w) rest new room (length_number size w) n
-      ∙ ap (λ (xs : List ℕ). xs ++ number_bytes size w) before
-      ∙ ap (λ (xs : List ℕ). bytes_of size (take i (drop at words)) ++ xs) (sym (append-nil (number_bytes size w)))
-      ∙ sym (bytes_append size (take i (drop at words)) (w ∷ [])))
+    ∙ ap (λ (xs : List ℕ). xs ++ number_bytes size w) before
+    ∙ ap (λ (xs : List ℕ). bytes_of size (take i (drop at words)) ++ xs) (sym (append-nil (number_bytes size w)))
+    ∙ sym (bytes_append size (take i (drop at words)) (w ∷ [])))
   where
     mul_one : (n i : ℕ) → n * (i + 1) ≡ n * i + n
     mul_one n i = let s : i + 1 ≡ suc i = omega arith in rw s (mul-suc n i)
@@ -69,6 +69,6 @@ pub sent_prefix : (s l t : SeenFiles) (size at count : ℕ) (words ys : List ℕ
 sent_prefix s l t size at count words ys f k e a =
     let both = adds_then s l t (bytes_of size (take at words)) ys tt (failing {U = Unit {0}} {E = Failed} f) k.adds a in
     let whole : bytes_of size words ≡ (bytes_of size (take at words) ++ ys) ++ bytes_of size (drop (at + count) words) =
-      ap (λ (xs : List ℕ). bytes_of size xs) (sym (take-append-drop (at + count) words)) ∙ bytes_append size (take (at + count) words) (drop (at + count) words)
-      ∙ ap (λ (xs : List ℕ). xs ++ bytes_of size (drop (at + count) words)) (sym (sent_on size at count words) ∙ ap (λ (xs : List ℕ). bytes_of size (take at words) ++ xs) (sym e)) in
+    ap (λ (xs : List ℕ). bytes_of size xs) (sym (take-append-drop (at + count) words)) ∙ bytes_append size (take (at + count) words) (drop (at + count) words)
+    ∙ ap (λ (xs : List ℕ). xs ++ bytes_of size (drop (at + count) words)) (sym (sent_on size at count words) ∙ ap (λ (xs : List ℕ). bytes_of size (take at words) ++ xs) (sym e)) in
     rw whole (adds_prefix s t _ (bytes_of size (drop (at + count) words)) f both)

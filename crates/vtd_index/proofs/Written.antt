@@ -1,5 +1,5 @@
 -- A file whose head has no fault is that of its document and its words.
-use Rattle.std.proofs.Common.{◌≡◌, ℕ, zero, suc, ◌+◌, ◌-◌, ◌*◌, ◌≤◌, Bool, true, false, cond, ◌==◌, List, [], ◌∷◌, ◌++◌, length, take, drop, codes, Some, None, refl, ap, sym, ◌∙◌, arith, append-nil, replicate}
+use Rattle.std.proofs.Common.{◌≡◌, ℕ, zero, suc, ◌+◌, ◌-◌, ◌*◌, ◌≤◌, Bool, true, false, cond, ◌==◌, List, [], ◌∷◌, ◌++◌, length, take, drop, codes, Some, None, refl, ap, sym, ◌∙◌, arith, replicate}
 use Rattle.std.specs.Prelude.{bytes_eq}
 use Rattle.std.proofs.lemmas.List.{length-drop, take-append-drop, drop-drop}
 use Rattle.std.proofs.lemmas.Bool.Decides.{nat_tests}
@@ -105,7 +105,7 @@ is_file file h a i =
     (piece 36 4 40 file _ _ refl (zero_part 36 4 4 file (omega arith) refl i.spare)
     (piece 40 h.document (40 + h.document) file _ _ refl refl
     (piece (40 + h.document) (padded h.document - h.document) (records_at h) file _ _ (omega arith)
-        (zero_part _ _ _ file (omega arith) (ap (λ (n : ℕ). padded n - n) doc) i.padding)
+    (zero_part _ _ _ file (omega arith) (ap (λ (n : ℕ). padded n - n) doc) i.padding)
     (piece (records_at h) h.records (level1_at h) file _ _ refl (long_part _ _ _ file a (omega arith) records)
     (piece (level1_at h) h.level1 (level2_at h) file _ _ refl (long_part _ _ _ file a (omega arith) level1)
     (piece (level2_at h) h.level2 (level3_at h) file _ _ refl (long_part _ _ _ file a (omega arith) level2)

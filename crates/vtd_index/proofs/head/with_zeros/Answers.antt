@@ -1,4 +1,4 @@
-use Rattle.std.proofs.Common.{◌≡◌, ◌+◌, ◌-◌, ℕ, arith, ap}
+use Rattle.std.proofs.Common.{◌≡◌, ◌+◌, ◌-◌, ℕ, arith}
 use Rattle.vtd_index.specs.Layout.{padded}
 use Rattle.vtd_index.proofs.Heads.{nonzero_spare, nonzero_padding, all_zeros}
 use Rattle.vtd_index.proofs.head.with_zeros.Goals as goal
@@ -14,10 +14,10 @@ pub returns-in-Some-first_nonzero : goal.returns-in-Some-first_nonzero
 returns-in-Some-first_nonzero c =
     let b = between c.args.head.document _ c.records_start.ensures in
     nonzero_padding c.args.file.now c.args.head _ (cc (c.first_nonzero.ensures, c.in_default.is))
-        (cc (b, c.first_nonzero-2.ensures, c.in-Some-first_nonzero.is))
+    (cc (b, c.first_nonzero-2.ensures, c.in-Some-first_nonzero.is))
 
 pub returns : goal.returns
 returns c =
     let b = between c.args.head.document _ c.records_start.ensures in
     all_zeros c.args.file.now c.args.head (cc (c.first_nonzero.ensures, c.in_default.is))
-        (cc (b, c.first_nonzero-2.ensures, c.in_default-first_nonzero.is))
+    (cc (b, c.first_nonzero-2.ensures, c.in_default-first_nonzero.is))

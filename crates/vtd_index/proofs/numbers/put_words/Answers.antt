@@ -12,5 +12,5 @@ loop-i-preserved g c =
     let size = c.word_len-size.result in
     let room : size * c.args.count ≤ length c.args.chunk.now = rw c.word_len-size.ensures c.requires.room in
     one_more size _ c.args.at c.loop-i.i c.word.result (list_of c.args.part (g.W.Words.lists c.args.words.now)) c.loop-i.chunk _ _
-        (rw c.loop-i.auto.chunk (more size c.loop-i.i c.args.count (length c.args.chunk.now) room (omega arith)))
-        (omega (arith, c.requires.within, c.loop-i-test.true)) c.word.ensures.value (rw (sym c.word_len-size.ensures) at c.put_word.ensures) c.loop-i.invariant
+    (rw c.loop-i.auto.chunk (more size c.loop-i.i c.args.count (length c.args.chunk.now) room (omega arith)))
+    (omega (arith, c.requires.within, c.loop-i-test.true)) c.word.ensures.value (rw (sym c.word_len-size.ensures) at c.put_word.ensures) c.loop-i.invariant
