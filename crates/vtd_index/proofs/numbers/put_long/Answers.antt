@@ -1,0 +1,6 @@
+use Rattle.vtd_words.specs.Numbers.{number_bytes}
+use Rattle.vtd_index.proofs.numbers.put_long.Goals as goal
+
+pub returns : goal.returns
+unfolding number_bytes
+returns c = c.write_u64.ensures

@@ -1,0 +1,185 @@
+//! The head of an index file, and where its parts lie.
+
+ghost use Rattle.std.specs.Prelude.{◌≡◌, ◌+◌, ◌-◌, ◌*◌, ◌≤◌, ◌<◌, ◌^◌, ◌==◌, length, drop, not, position, Ok};
+ghost use Rattle.vtd_words.specs.Numbers.{number};
+ghost use Rattle.vtd_index.specs.Heads.{document_in, end_of, first_nonzero, head_in, head_of, lists_at, records_at, slice};
+ghost use Rattle.vtd_index.specs.Heads.{with_size, with_zeros};
+
+use crate::faults::IndexFault;
+use crate::pieces::{MAGIC, padded_len};
+use vtd_words::{WordView, short_from};
+
+/// The greatest length of a document, in bytes.
+const LONGEST: usize = 1_073_741_823;
+
+/// Where the spare bytes begin.
+const SPARE: usize = 36;
+
+/// Where the document begins.
+const DOCUMENT: usize = 40;
+
+/// How many bytes each part of an index file has.
+#[derive(Clone, Copy)]
+pub struct Head {
+    pub document: usize,
+    pub records: usize,
+    pub level1: usize,
+    pub level2: usize,
+    pub level3: usize,
+    pub level4: usize,
+    pub level5: usize,
+}
+
+/// The number in the 4 bytes from a place on.
+fn number_at(file: &[u8], at: usize) -> usize
+    requires { at + 4 ≤ length file.now }
+    ensures value { result ≡ number 4 (drop at file.now) }
+    ensures small { result < 2 ^ 32 }
+{
+    short_from(file, at) as usize
+}
+
+/// So many bytes from a place on.
+fn part(file: &[u8], at: usize, len: usize) -> &[u8]
+    requires { at + len ≤ length file.now }
+    ensures { result.now ≡ slice at len file.now }
+{
+    &file[at..at + len]
+}
+
+/// The index of the first byte that is not zero.
+fn nonzero_index(bytes: &[u8]) -> Option<usize>
+    ensures { result ≡ position (λ b. not (b == 0)) bytes.now }
+{
+    bytes.iter().position(|b| *b != 0)
+}
+
+/// The place of the first byte that is not zero, among so many from a place on.
+fn first_nonzero(file: &[u8], at: usize, len: usize) -> Option<u32>
+    requires few { length file.now < 2 ^ 32 }
+    requires within { at + len ≤ length file.now }
+    ensures { result ≡ first_nonzero at (slice at len file.now) }
+{
+    match nonzero_index(part(file, at, len)) {
+        Some(i) => Some((at + i) as u32),
+        None => None,
+    }
+}
+
+/// The lengths that the head tells.
+fn head_in(file: &[u8]) -> Head
+    requires { 40 ≤ length file.now }
+    ensures value { result ≡ head_in file.now }
+    ensures small { end_of result < 2 ^ 63 }
+{
+    Head {
+        document: number_at(file, 8),
+        records: 8 * number_at(file, 12),
+        level1: 8 * number_at(file, 16),
+        level2: 8 * number_at(file, 20),
+        level3: 8 * number_at(file, 24),
+        level4: 8 * number_at(file, 28),
+        level5: 4 * number_at(file, 32),
+    }
+}
+
+/// Where the records begin.
+fn records_start(head: &Head) -> usize
+    requires { end_of head.now < 2 ^ 63 }
+    ensures { result ≡ records_at head.now }
+{
+    DOCUMENT + padded_len(head.document)
+}
+
+/// How many bytes a file with that head has.
+fn end(head: &Head) -> usize
+    requires { end_of head.now < 2 ^ 63 }
+    ensures { result ≡ end_of head.now }
+{
+    records_start(head)
+        + head.records
+        + head.level1
+        + head.level2
+        + head.level3
+        + head.level4
+        + head.level5
+}
+
+/// The head, where the bytes that are to be zero are so.
+fn with_zeros(file: &[u8], head: Head) -> Result<Head, IndexFault>
+    requires few { length file.now < 2 ^ 32 }
+    requires size { length file.now ≡ end_of head }
+    ensures { result ≡ with_zeros file.now head }
+{
+    if let Some(at) = first_nonzero(file, SPARE, DOCUMENT - SPARE) {
+        return Err(IndexFault::Padding { at });
+    }
+    let past = DOCUMENT + head.document;
+    if let Some(at) = first_nonzero(file, past, records_start(&head) - past) {
+        return Err(IndexFault::Padding { at });
+    }
+    Ok(head)
+}
+
+/// The head, where the parts fill the file.
+fn with_size(file: &[u8], head: Head) -> Result<Head, IndexFault>
+    requires few { length file.now < 2 ^ 32 }
+    requires small { end_of head < 2 ^ 63 }
+    ensures { result ≡ with_size file.now head }
+{
+    if head.document > LONGEST || file.len() != end(&head) {
+        return Err(IndexFault::Size);
+    }
+    with_zeros(file, head)
+}
+
+/// The head of a file, or the first fault that shows before the document is read.
+pub fn read_head(file: &[u8]) -> Result<Head, IndexFault>
+    requires { length file.now < 2 ^ 32 }
+    ensures { result ≡ head_of file.now }
+{
+    if file.len() < 32 {
+        return Err(IndexFault::Short);
+    }
+    if !file.starts_with(MAGIC) {
+        return Err(IndexFault::Magic);
+    }
+    if file.len() < DOCUMENT {
+        return Err(IndexFault::Short);
+    }
+    with_size(file, head_in(file))
+}
+
+/// The document in a file.
+pub fn document<'a>(file: &'a [u8], head: &Head) -> &'a [u8]
+    requires { head_of file.now ≡ Ok head.now }
+    ensures { result.now ≡ document_in file.now head.now }
+{
+    part(file, DOCUMENT, head.document)
+}
+
+/// The words in a file, which stay where they lie.
+pub fn words<'a>(file: &'a [u8], head: &Head) -> WordView<'a>
+    requires head { head_of file.now ≡ Ok head.now }
+    requires few { length file.now < 2 ^ 32 }
+    ensures { result ≡ lists_at file.now head.now }
+{
+    let records = records_start(head);
+    let level1 = records + head.records;
+    let level2 = level1 + head.level1;
+    let level3 = level2 + head.level2;
+    let level4 = level3 + head.level3;
+    let level5 = level4 + head.level4;
+    let view = WordView::of(
+        part(file, records, head.records),
+        part(file, level1, head.level1),
+        part(file, level2, head.level2),
+        part(file, level3, head.level3),
+        part(file, level4, head.level4),
+        part(file, level5, head.level5),
+    );
+    match view {
+        Some(view) => view,
+        None => unreachable!(),
+    }
+}

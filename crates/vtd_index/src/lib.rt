@@ -1,0 +1,17 @@
+//! Index files: a document beside the words of its records and levels in one file, which is written, checked, and lent
+//! from where it lies.
+#![tactic(auto)]
+
+mod checking;
+mod comparer;
+mod faults;
+mod head;
+mod numbers;
+mod parts;
+mod pieces;
+mod writing;
+
+pub use checking::check_index;
+pub use faults::IndexFault;
+pub use parts::{IndexParts, Loaded};
+pub use writing::{index_length, write_index};
