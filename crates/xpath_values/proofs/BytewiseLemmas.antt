@@ -1,5 +1,5 @@
 -- Translating a text byte by byte.
-use Rattle.std.proofs.Common.{◌≡◌, ◌≢◌, ℕ, suc, ◌+◌, ◌<◌, ◌≤◌, Bool, true, false, cond, ◌⊎◌, inl, inr, List, [], ◌∷◌, ◌++◌, length, take, drop, get_or, refl, sym, ◌∙◌, ap, subst, arith}
+use Rattle.std.proofs.Common.{◌≡◌, ◌≢◌, ℕ, suc, ◌+◌, ◌<◌, ◌≤◌, true, cond, ◌⊎◌, inl, inr, List, [], ◌∷◌, ◌++◌, length, drop, get_or, refl, sym, ◌∙◌, ap, subst, arith}
 use Rattle.std.proofs.Common.{add-one, append-nil, drop-cons}
 use Rattle.std.specs.Prelude.{◌==◌, map, slice_index}
 use Rattle.std.specs.List.{flat_map}
@@ -11,10 +11,8 @@ use Rattle.std.proofs.lemmas.Bool.{cases_lt, cases_eq, eq-eqb, ne_eqb, and_parts
 use Rattle.std.proofs.lemmas.Grind.{same_number_lists, get_or_default_zero}
 use Rattle.std.proofs.Math.ListN.{get_or-map, length-map, length-set}
 use Rattle.std.proofs.lemmas.List.{get_or_append_left, get_or-append-add, get_or-set_same, get_or-set_other, map-append, length-append, length-drop, nil_from_length}
-use Rattle.std.proofs.lemmas.Str.{encodes-append, encodes-chars, encode_ascii, inside_one, scalars-chars, chars-IsAscii}
-use Rattle.xpath_values.specs.Texts.{translate}
+use Rattle.std.proofs.lemmas.Str.{encodes-append, encodes-chars, encode_ascii, inside_one, scalars-chars}
 use Rattle.xpath_values.specs.Translating.{IsByteTable, becomes}
-use Rattle.xpath_values.proofs.TranslateLemmas.{translation}
 
 -- ---- the table
 

@@ -1,6 +1,6 @@
 -- Normalizing the bytes of a text in place of its characters, many at once.
 use Rattle.std.proofs.Common.{◌≡◌, ℕ, suc, ◌+◌, ◌<◌, ◌≤◌, Bool, true, false, ◌⊎◌, inl, inr, List, [], ◌∷◌, ◌++◌, length, take, drop, get_or, refl, sym, ◌∙◌, ap, subst, arith}
-use Rattle.std.proofs.Common.{add-one, append_assoc, append-nil, drop-cons}
+use Rattle.std.proofs.Common.{add-one, append_assoc, drop-cons}
 use Rattle.std.specs.Str.{IsCharBoundary, IsUtf8, chars}
 use lib.Utf8.{encode, encodes}
 use Rattle.std.proofs.lemmas.Bool.{cases_Bool, cases_lt, false_from_ne_true, false≢true}

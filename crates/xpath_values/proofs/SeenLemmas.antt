@@ -1,5 +1,5 @@
 -- Values as they are seen: what is held, beside the string-values of its nodes.
-use Rattle.std.proofs.Common.{◌≡◌, ℕ, Bool, List, [], ◌∷◌, length, arith, subst, refl, sym, ◌∙◌, ap, Some, None, Option}
+use Rattle.std.proofs.Common.{◌≡◌, ℕ, List, [], ◌∷◌, length, arith, subst, refl, sym, ◌∙◌, ap, Some, None}
 use Rattle.std.specs.Prelude.{map, IfOk}
 use Rattle.std.specs.List.{AllByRecursion, Contains, slice_get}
 use Rattle.xml_model.specs.declared.Node.{Node}
@@ -9,7 +9,6 @@ use Rattle.vtd_words.specs.Lists.{Lists}
 use Rattle.vtd_words.specs.Table.{IsNestOf, IsNodeOf, node_of, nodes_of}
 use Rattle.xpath_values.specs.declared.Number.{Number}
 use Rattle.xpath_values.specs.declared.Value.{Value}
-use Rattle.xpath_values.specs.declared.Value.TheVariants as held
 use Rattle.xpath_values.specs.Answers.{Answer}
 use Rattle.xpath_values.specs.Numbers.{IsNumber, number_of_text}
 use Rattle.xpath_values.specs.Seen.{HasString, HaveStrings, IsLeft, IsSeen, first_text, string_seen, number_seen}

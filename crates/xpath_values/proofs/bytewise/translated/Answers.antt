@@ -1,4 +1,4 @@
-use Rattle.std.proofs.Common.{◌≡◌, ℕ, ◌<◌, length, arith, List, refl, subst, sym, ◌∙◌, get_or, string_bytes}
+use Rattle.std.proofs.Common.{◌≡◌, ℕ, arith, List, refl, subst, sym, ◌∙◌, string_bytes}
 use Rattle.std.specs.Str.{chars}
 use Rattle.std.proofs.lemmas.Str.{chars-IsAscii, chars_from_encodes, IsUtf8-string_bytes}
 use Rattle.xpath_values.specs.Translating.{IsByteTable, becomes}

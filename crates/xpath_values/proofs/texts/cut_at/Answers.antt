@@ -1,7 +1,7 @@
 use Rattle.std.proofs.Common.{◌≡◌, ℕ, List, Some, None, subst, sym, ap, ◌∙◌, length, drop}
 use Rattle.std.specs.Str.{IsCharBoundary, chars}
 use Rattle.memchr.specs.Find.{FindsNeedle}
-use Rattle.xpath_values.proofs.TextLemmas.{Cuts, needle_cut, no_needle_cut}
+use Rattle.xpath_values.proofs.TextLemmas.{needle_cut, no_needle_cut}
 use Rattle.xpath_values.proofs.texts.cut_at.Goals as goal
 
 found : (s p t q : List ℕ) (k : ℕ) → t ≡ s → q ≡ p → FindsNeedle t q 0 (Some k) → FindsNeedle s p 0 (Some k)
