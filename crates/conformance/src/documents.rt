@@ -2,7 +2,6 @@
 
 ghost use Rattle.std.specs.Prelude.{◌≡◌, ◌==◌, ◌&&◌, ◌<◌, ◌≤◌, ◌^◌, length, nat_lt, not, take, slice_index, []};
 
-use crate::levels;
 use std::alloc::{AllocError, Global};
 use vtd_builder::{BuildFault, Doc, RecordSink, build, check, emit};
 use vtd_words::{Counts, Part, Parts, WordVec, WordView, Words, pack, unpack};
@@ -277,7 +276,6 @@ pub fn answer(
         "prefixes" => return write_prefixes(out, input),
         "built" => return write_build(alloc, out, input),
         "records" => return write_records(alloc, out, input),
-        "levels" => return levels::write_levels(alloc, out, input),
         _ => (),
     }
     let Ok(text) = str::from_utf8(input) else {

@@ -7,7 +7,6 @@ mod characters;
 mod documents;
 mod doors;
 mod items;
-mod levels;
 mod moves;
 mod names;
 mod nodes;

@@ -1,8 +1,5 @@
 //! Moves over the nodes of a document.
 
-ghost use Rattle.std.specs.Prelude.{◌<◌, ◌^◌, length};
-
-use crate::documents::built;
 use std::alloc::{AllocError, Global};
 use vtd_cursor::Cursor;
 use vtd_location::Nav;
@@ -28,7 +25,7 @@ fn go<W: Words>(cursor: &mut Cursor<'_, '_, W>, to: &str) -> bool {
 }
 
 /// The record after each move, with a `!` where there was no such node.
-fn write_moves<W: Words>(
+pub fn answer<W: Words>(
     alloc: Global,
     out: &mut String,
     nav: &Nav<'_, W>,
@@ -40,14 +37,4 @@ fn write_moves<W: Words>(
         write!(out, "{}{mark};", cursor.node().at)?;
     }
     Ok(())
-}
-
-/// The answer of a table of moves.
-pub fn answer(alloc: Global, out: &mut String, given: &[u8], moves: &str) -> Result<(), AllocError>
-    requires { length given.now < 2 ^ 30 }
-{
-    match built(alloc, given)? {
-        Ok(doc) => write_moves(alloc, out, &doc.nav(), moves),
-        Err(_) => out.push_str("refused"),
-    }
 }

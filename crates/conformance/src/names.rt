@@ -1,15 +1,13 @@
 //! Names of nodes and name tests (Namespaces in XML 1.0, sections 2.1 and 6; XPath 1.0, section 2.3).
 
-ghost use Rattle.std.specs.Prelude.{◌<◌, ◌^◌, length};
 ghost use Rattle.vtd_words.specs.Table.{IsNodeOf};
 ghost use Rattle.vtd_namespaces.specs.NodeNames.{HasName};
 
-use crate::documents::built;
 use crate::nodes::number_of;
 use crate::texts::push_chars;
-use std::alloc::{AllocError, Global};
+use std::alloc::AllocError;
 use vtd_namespaces::{Uri, local_of, matches, prefix_of, uri_of};
-use vtd_words::{Table, WordVec, Words};
+use vtd_words::{Table, Words};
 use xml_model::{Kind, NameTest, Node};
 
 fn write_uri<W: Words>(out: &mut String, uri: Uri<'_, W>) -> Result<(), AllocError> {
@@ -86,11 +84,11 @@ fn write_match<W: Words>(
     out.push_str(if passes { "yes" } else { "no" })
 }
 
-/// The answer of a table of names of one document.
-fn write_answer(
+/// The answer of a table of names of a document.
+pub fn answer<W: Words>(
     out: &mut String,
     table: &str,
-    document: &Table<'_, WordVec>,
+    document: &Table<'_, W>,
     input: &str,
 ) -> Result<(), AllocError> {
     match table {
@@ -100,21 +98,5 @@ fn write_answer(
             write_match(out, document, number_of(at), &test_in(test))
         }
         _ => out.push_str("no such table"),
-    }
-}
-
-/// The answer of a table of names.
-pub fn answer(
-    alloc: Global,
-    out: &mut String,
-    table: &str,
-    given: &[u8],
-    input: &str,
-) -> Result<(), AllocError>
-    requires { length given.now < 2 ^ 30 }
-{
-    match built(alloc, given)? {
-        Ok(doc) => write_answer(out, table, doc.nav().table(), input),
-        Err(_) => out.push_str("refused"),
     }
 }

@@ -1,13 +1,12 @@
 //! The nodes of a document (XPath 1.0, section 5), where they are, and where their parts are.
 
-ghost use Rattle.std.specs.Prelude.{◌≡◌, ◌<◌, ◌^◌, length};
+ghost use Rattle.std.specs.Prelude.{◌≡◌};
 ghost use Rattle.vtd_words.specs.Table.{IsNodeOf};
 
-use crate::documents::built;
-use std::alloc::{AllocError, Global};
+use std::alloc::AllocError;
 use vtd_cursor::{span, tags_of, value_span};
 use vtd_location::Nav;
-use vtd_words::{Part, Table, WordVec, Words};
+use vtd_words::{Part, Table, Words};
 use xml_model::{Kind, Node};
 
 /// The word of a kind of node.
@@ -93,11 +92,11 @@ fn write_whole<W: Words>(
     write!(out, "{}", table.words().len(Part::Records))
 }
 
-/// The answer of a table of nodes of one document.
-fn write_answer(
+/// The answer of a table of nodes of a document.
+pub fn answer<W: Words>(
     out: &mut String,
     table: &str,
-    nav: &Nav<'_, WordVec>,
+    nav: &Nav<'_, W>,
     given: &[u8],
     input: &str,
 ) -> Result<(), AllocError> {
@@ -108,21 +107,5 @@ fn write_answer(
         "parts" => write_parts(out, nav, at),
         "counts" => write_whole(out, nav.table(), given),
         _ => out.push_str("no such table"),
-    }
-}
-
-/// The answer of a table of nodes.
-pub fn answer(
-    alloc: Global,
-    out: &mut String,
-    table: &str,
-    given: &[u8],
-    input: &str,
-) -> Result<(), AllocError>
-    requires { length given.now < 2 ^ 30 }
-{
-    match built(alloc, given)? {
-        Ok(doc) => write_answer(out, table, &doc.nav(), given, input),
-        Err(_) => out.push_str("refused"),
     }
 }

@@ -1,13 +1,11 @@
 //! The string-values of nodes (XPath 1.0, section 5; XML 1.0, sections 2.11, 3.3.3, 4.1 and 4.6).
 
-ghost use Rattle.std.specs.Prelude.{◌<◌, ◌^◌, length};
 ghost use Rattle.vtd_words.specs.Table.{IsNodeOf};
 
-use crate::documents::built;
 use crate::nodes::{kind_word, number_of};
 use std::alloc::{AllocError, Global};
 use vtd_text::{Chars, append_to, equals, equals_str, raw};
-use vtd_words::{Table, WordVec, Words};
+use vtd_words::{Table, Words};
 use xml_model::{Node, Text};
 
 /// Adds code points, one after another.
@@ -107,12 +105,12 @@ fn write_equal<W: Words>(
     out.push_str("no")
 }
 
-/// The answer of a table of texts of one document.
-fn write_answer(
+/// The answer of a table of texts of a document.
+pub fn answer<W: Words>(
     alloc: Global,
     out: &mut String,
     table: &str,
-    document: &Table<'_, WordVec>,
+    document: &Table<'_, W>,
     input: &str,
 ) -> Result<(), AllocError> {
     match table {
@@ -123,21 +121,5 @@ fn write_answer(
             write_equal(out, document, number_of(one), number_of(other))
         }
         _ => out.push_str("no such table"),
-    }
-}
-
-/// The answer of a table of texts.
-pub fn answer(
-    alloc: Global,
-    out: &mut String,
-    table: &str,
-    given: &[u8],
-    input: &str,
-) -> Result<(), AllocError>
-    requires { length given.now < 2 ^ 30 }
-{
-    match built(alloc, given)? {
-        Ok(doc) => write_answer(alloc, out, table, doc.nav().table(), input),
-        Err(_) => out.push_str("refused"),
     }
 }

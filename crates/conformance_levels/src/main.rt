@@ -1,6 +1,6 @@
 //! The levels of documents and the child elements that they tell, as tables in files: inputs and answers are worked out
-//! by hand. The program reads each file that its words name, asks every row, over a document's own words and over a view
-//! of the same, and prints the rows that answer otherwise and how many rows there were.
+//! by hand. The program reads each file that its words name, asks every row, over a document's own words and over a
+//! view of the same, and prints the rows that answer otherwise and how many rows there were.
 #![tactic(auto)]
 
 mod doors;

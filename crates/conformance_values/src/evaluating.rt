@@ -1,8 +1,8 @@
 //! The value of an expression with the root as the context node (XPath 1.0).
 //!
-//! A table is `evaluate`, or `evaluate P=URI Q=URI` where prefixes are bound. A row is an expression, and the answer its
-//! value as a string, or for a node-set the kind, the start and the length in bytes of each node, or `nodes 0`; or the
-//! refusal.
+//! A table is `evaluate`, or `evaluate P=URI Q=URI` where prefixes are bound. A row is an expression, and the answer
+//! its value as a string, or for a node-set the kind, the start and the length in bytes of each node, or `nodes 0`; or
+//! the refusal.
 
 ghost use Rattle.std.specs.Prelude.{◌<◌, ◌^◌, length};
 

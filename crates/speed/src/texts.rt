@@ -1,5 +1,5 @@
 //! Appending resolved texts: `append_to` of all texts of a document beside a plain copy of as many bytes, first into
-//! new memory and then into memory that was written before.
+//! new memory and then into memory that was written before. And a count of their code points, one by one.
 
 ghost use Rattle.vtd_words.specs.Table.{IsNodeOf};
 
@@ -36,6 +36,22 @@ fn time_copy(clock: &impl Clock, from: &str, into: &mut String) -> io::Result<Du
     start.elapsed(clock)
 }
 
+/// Counts the code points of a node's text, and answers how many there are and how long that took.
+fn time_count<W: Words>(
+    clock: &impl Clock,
+    table: &Table<'_, W>,
+    node: Node,
+) -> io::Result<(u64, Duration)>
+    requires { IsNodeOf table.now.bytes (W.lists table.now.words) node }
+{
+    let start = Instant::now(clock)?;
+    let mut count = 0u64;
+    for _c in Chars::of(table, node) {
+        count = count.wrapping_add(1);
+    }
+    Ok((count, start.elapsed(clock)?))
+}
+
 /// Times the texts of a document of fewer than 2 to the power 30 bytes.
 pub fn time<R: Clock + Print + Eprint + AllocGlobal>(rt: &R, bytes: Vec<u8>) -> io::Result<()> {
     if bytes.len() >= 1 << 30 {
@@ -62,5 +78,7 @@ pub fn time<R: Clock + Print + Eprint + AllocGlobal>(rt: &R, bytes: Vec<u8>) -> 
         println!(rt; "{memory} memory: bytes {}, same {same}", copy.len())?;
         eprintln!(rt; "{memory} memory: append {appended:?}, copy {copied:?}")?;
     }
-    Ok(())
+    let (count, counted) = time_count(rt, table, root)?;
+    println!(rt; "characters {count}")?;
+    eprintln!(rt; "counted: {counted:?}")
 }

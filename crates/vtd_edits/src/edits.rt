@@ -170,8 +170,8 @@ impl Edits {
         self.order.len()
     }
 
-    /// The splice with an index in the order of the bytes: by where it starts, an insertion before an empty range before
-    /// another range, and then in staging order.
+    /// The splice with an index in the order of the bytes: by where it starts, an insertion before an empty range
+    /// before another range, and then in staging order.
     pub fn splice(&self, i: usize) -> &Splice
         requires { i < length self.now.splices }
         ensures { result.now ≡ splice_at (in_order self.now.splices) i }

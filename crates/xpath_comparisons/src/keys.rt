@@ -34,7 +34,8 @@ fn hash_of<W: Words>(chars: Chars<'_, W>) -> u64
     hash
 }
 
-/// How two texts are ordered: by the first characters in which they differ, and a text before those that go on after it.
+/// How two texts are ordered: by the first characters in which they differ, and a text before those that go on after
+/// it.
 fn order<W: Words>(one: Chars<'_, W>, other: Chars<'_, W>) -> Ordering
     ensures { result ≡ slice_cmp nat_cmp one.entry other.entry }
 {

@@ -1,8 +1,7 @@
 -- Languages, character by character.
-use Rattle.std.proofs.Common.{◌≡◌, ℕ, Bool, true, false, cond, List, [], ◌∷◌, ◌++◌, refl, sym, ◌∙◌, ap, arith, inl, inr}
-use Rattle.std.specs.Prelude.{map, ◌==◌, ◌&&◌, ◌||◌, bytes_eq, nat_lt}
+use Rattle.std.proofs.Common.{◌≡◌, ℕ, Bool, true, false, List, [], ◌∷◌, ◌++◌, refl, sym, ◌∙◌, ap, arith}
+use Rattle.std.specs.Prelude.{map, ◌==◌, ◌&&◌, ◌||◌, bytes_eq}
 use Rattle.std.specs.Char.{to_ascii_lowercase, eq_ignore_ascii_case}
-use Rattle.std.proofs.lemmas.Bool.{cases_Bool}
 use Rattle.std.proofs.lemmas.Bool.Decides.{nat_tests}
 use Rattle.xml_model.specs.Chars.{begins}
 use Rattle.xpath_values.specs.Texts.{is_language}

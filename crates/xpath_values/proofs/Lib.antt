@@ -1,4 +1,6 @@
+pub mod BytewiseLemmas
 pub mod FitLemmas
+pub mod KeptLemmas
 pub mod LanguageLemmas
 pub mod NormalLemmas
 pub mod NumberExamples

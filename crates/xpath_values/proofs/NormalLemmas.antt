@@ -23,17 +23,17 @@ put_in : (c : ℕ) (ps : List (List ℕ)) → in_word (put c ps) ≡ c ∷ in_wo
 put_in c [] = refl
 put_in c (w ∷ ws) = refl
 
-space_left : (some gap : Bool) (c : ℕ) (t : List ℕ) → is_space c ≡ true → left some true t ≡ left some gap (c ∷ t)
+pub space_left : (some gap : Bool) (c : ℕ) (t : List ℕ) → is_space c ≡ true → left some true t ≡ left some gap (c ∷ t)
 space_left false gap c t e = sym (ap (λ b. joined (filter is_some_text (next_parts b c t))) e)
 space_left true true c t e = sym (ap (λ b. spaced (filter is_some_text (next_parts b c t))) e)
 space_left true false c t e = sym (ap (λ b. in_word (next_parts b c t)) e)
 
-char_left : (some gap : Bool) (c : ℕ) (t : List ℕ) → is_space c ≡ false → left some gap (c ∷ t) ≡ due some gap ++ c ∷ left true false t
+pub char_left : (some gap : Bool) (c : ℕ) (t : List ℕ) → is_space c ≡ false → left some gap (c ∷ t) ≡ due some gap ++ c ∷ left true false t
 char_left false gap c t e = ap (λ b. joined (filter is_some_text (next_parts b c t))) e ∙ put_joined c (parts t)
 char_left true true c t e = ap (λ b. spaced (filter is_some_text (next_parts b c t))) e ∙ put_spaced c (parts t)
 char_left true false c t e = ap (λ b. in_word (next_parts b c t)) e ∙ put_in c (parts t)
 
-due_bytes : (some gap : Bool) → encodes (due some gap) ≡ due some gap
+pub due_bytes : (some gap : Bool) → encodes (due some gap) ≡ due some gap
 due_bytes false gap = refl
 due_bytes true false = refl
 due_bytes true true = ap (λ (l : List ℕ). l ++ []) (encode_ascii 32 (omega arith))

@@ -1,5 +1,5 @@
 -- Values as they are seen: what is held, beside the string-values of its nodes.
-use Rattle.std.proofs.Common.{◌≡◌, ℕ, Bool, List, [], ◌∷◌, length, arith, subst, refl, sym, ◌∙◌, ap, Some, None, Option}
+use Rattle.std.proofs.Common.{◌≡◌, ℕ, List, [], ◌∷◌, length, arith, subst, refl, sym, ◌∙◌, ap, Some, None}
 use Rattle.std.specs.Prelude.{map, IfOk}
 use Rattle.std.specs.List.{AllByRecursion, Contains, slice_get}
 use Rattle.xml_model.specs.declared.Node.{Node}
@@ -9,10 +9,10 @@ use Rattle.vtd_words.specs.Lists.{Lists}
 use Rattle.vtd_words.specs.Table.{IsNestOf, IsNodeOf, node_of, nodes_of}
 use Rattle.xpath_values.specs.declared.Number.{Number}
 use Rattle.xpath_values.specs.declared.Value.{Value}
-use Rattle.xpath_values.specs.declared.Value.TheVariants as held
 use Rattle.xpath_values.specs.Answers.{Answer}
-use Rattle.xpath_values.specs.Numbers.{number_of_text}
+use Rattle.xpath_values.specs.Numbers.{IsNumber, number_of_text}
 use Rattle.xpath_values.specs.Seen.{HasString, HaveStrings, IsLeft, IsSeen, first_text, string_seen, number_seen}
+use Rattle.xpath_values.proofs.RangeLemmas.{number_fits}
 use Rattle.xpath_values.specs.Values.{Meant, nodes, truth, number, text, held_as, AreAmong, IsHeld, string_value, string_of, number_of}
 
 -- the texts of what is meant
@@ -109,3 +109,11 @@ head_all P xs rest x e h = let H : List Node → Type 0 = λ (l : List Node). Al
 
 pub tail_all : (P : Node → Type 0) (xs rest : List Node) (x : Node) → xs ≡ x ∷ rest → AllByRecursion P xs → AllByRecursion P rest
 tail_all P xs rest x e h = let H : List Node → Type 0 = λ (l : List Node). AllByRecursion P l in (subst H e h).1
+
+-- the number of a node is in range
+pub number_seen_fits : (bytes : List ℕ) (lists : Lists) (node : Node) (r : Answer Number) → IsNodeOf bytes lists node
+    → ((t : List ℕ) → HasString bytes lists node t → r ≡ number_of_text t) → IfOk r IsNumber
+number_seen_fits bytes lists node r n g =
+    let t : List ℕ = string_value n.entry in
+    let e : r ≡ number_of_text t = g t (record { nest = n.nest; shown = n.shown; entry = n.entry; holds = n.holds; same = refl }) in
+    subst (λ (x : Answer Number). IfOk x IsNumber) (sym e) (number_fits t)

@@ -1,17 +1,20 @@
 -- Where a text is cut, from what a search of its bytes finds.
 use Rattle.std.proofs.Common.{◌≡◌, ℕ, ◌+◌, ◌<◌, ◌≤◌, Bool, true, false, cond, List, [], ◌∷◌, ◌++◌, Option, Some, None}
-use Rattle.std.proofs.Common.{length, take, drop, refl, sym, ◌∙◌, ap, subst, arith, append_assoc, length-append}
-use lib.Utf8.{encodes}
+use Rattle.std.proofs.Common.{length, take, drop, get_or, refl, sym, ◌∙◌, ap, subst, arith, append_assoc, length-append, length-drop, ◌⊎◌, inl, inr}
+use Rattle.std.proofs.lemmas.Bool.{cases_lt}
+use Rattle.std.proofs.lemmas.Grind.{same_number_lists}
+use Rattle.std.proofs.lemmas.List.{length-take, get_or-take, get_or-drop, get_or_append_left, take-append-drop, drop-drop}
+use lib.Utf8.{encodes, scalars}
 use denote.Bor.{Bor}
 use Rattle.std.specs.Prelude.{nat_eq, MatchOption, IfOk, Result, Ok, Err, is_some}
 use Rattle.std.specs.List.{starts_with}
 use Rattle.std.specs.Str.{chars, IsUtf8, IsCharBoundary}
-use Rattle.std.specs.Str.Pattern.{FindsText, LacksTextAt}
+use Rattle.std.specs.Str.Pattern.{LacksTextAt}
+use Rattle.memchr.specs.Find.{FindsNeedle, OccursAt}
 use Rattle.std.proofs.lemmas.Bool.{false_from_ne_true, true≢false, false≢true}
 use Rattle.std.proofs.lemmas.Str.{chars-nil, encodes-append, encodes-chars, chars-append, length-le-encodes, IsCharBoundary-at_seam}
-use Rattle.std.proofs.lemmas.Str.{IsUtf8-append, IsUtf8-drop, IsUtf8-take}
-use Rattle.std.proofs.lemmas.Str.Pattern.{split_text_parts}
-use Rattle.xml_chars.proofs.TextLemmas.{pointwise-begins}
+use Rattle.std.proofs.lemmas.Str.{IsUtf8-drop, IsUtf8-take, IsCharBoundary-start, scalars-chars}
+use Rattle.xml_chars.proofs.TextLemmas.{pointwise-begins, scalars_back}
 use Rattle.xml_chars.proofs.HoldLemmas.{encodes_prefix, holds_prefix}
 use Rattle.xml_model.specs.Chars.{begins}
 use Rattle.xml_chars.proofs.Readers.{begins_split, begins_append}
@@ -90,20 +93,69 @@ cut_some s p a b i f g h e l none =
     none (length (encodes u)) (omega arith) _ (bytes_there s p u (d ++ (chars p ++ chars b)) f g c t)) in
     ap (cut_at (chars p)) parts ∙ cut_first (chars p) (chars a) (chars b) first
 
--- what the library's search of a text finds
-pub split_cut : (p s : List ℕ) (r : Option (Bor (List ℕ) × Bor (List ℕ))) → IsUtf8 s → IsUtf8 p
-    → MatchOption r (FindsText p s None) (λ x. (i : ℕ) × (j : ℕ) × FindsText p s (Some (i, j)) × (x.0.now ≡ take i s)
-    × (x.1.now ≡ drop j s) × (i ≤ j) × (length x.0.now ≡ i) × (length x.1.now + j ≡ length s))
-    → MatchOption r (cut_at (chars p) (chars s) ≡ None) (λ x. cut_at (chars p) (chars s) ≡ Some (chars x.0.now, chars x.1.now))
-split_cut p s None f g h = cut_none s p f g h
-split_cut p s (Some x) f g h =
-    let e : s ≡ x.0.now ++ (p ++ x.1.now) = split_text_parts p s (Some x) h in
-    let d : IsUtf8 (drop h.1 s) = subst (λ k. IsUtf8 (drop k s)) (sym h.2.1.ends) (IsUtf8-drop s (h.0 + length p) f h.2.1.after) in
-    let b : IsUtf8 x.1.now = subst IsUtf8 (sym h.4) d in
-    let m : IsCharBoundary s (length x.0.now) = IsCharBoundary-at_seam s x.0.now (p ++ x.1.now) e (IsUtf8-append p x.1.now g b) in
-    let t : IsUtf8 (take (length x.0.now) s) = IsUtf8-take s (length x.0.now) f m in
-    let a : IsUtf8 x.0.now = subst IsUtf8 (ap (λ k. take k s) h.6 ∙ sym h.3) t in
-    cut_some s p x.0.now x.1.now h.0 f g a e h.6 h.2.0
+-- bytes that stand at a place
+seam : (s p : List ℕ) (k : ℕ) → OccursAt s p k → drop k s ≡ p ++ drop (k + length p) s
+seam s p k o =
+    let n : length (take (length p) (drop k s)) ≡ length p = omega (arith, o.fits, length-take (length p) (drop k s), length-drop k s) in
+    let same : take (length p) (drop k s) ≡ p = same_number_lists _ p n (λ j lt.
+    get_or-take (length p) (drop k s) j 0 (omega arith) ∙ get_or-drop k s j 0 ∙ o.reads j (omega arith)) in
+    sym (take-append-drop (length p) (drop k s))
+    ∙ ap (λ (l : List ℕ). l ++ drop (length p) (drop k s)) same
+    ∙ ap (λ (l : List ℕ). p ++ l) (drop-drop (length p) k s)
+
+lacks : (s p : List ℕ) (k : ℕ) → k ≤ length s → ¬ OccursAt s p k → LacksTextAt p s k
+lacks s p k within never = λ rest e.
+    let n : length (drop k s) ≡ length p + length rest = ap (λ (l : List ℕ). length l) e ∙ length-append p rest in
+    never (record {
+      fits = omega (arith, n, length-drop k s);
+      reads = λ j lt. sym (get_or-drop k s j 0) ∙ ap (λ (l : List ℕ). get_or l j 0) e ∙ get_or_append_left p rest 0 j lt;
+    })
+
+-- a character begins where a text was found
+found_place : (s p : List ℕ) (k : ℕ) → IsUtf8 s → IsUtf8 p → FindsNeedle s p 0 (Some k) → IsCharBoundary s k
+found_place s [] k f g h = this (cases_lt 0 k)
+  where
+    this : (0 < k) ⊎ (k ≤ 0) → IsCharBoundary s k
+    this (inl l) = absurd (h.0.before 0 (omega arith) l (record { fits = omega arith; reads = λ j lt. absurd (omega arith) }))
+    this (inr l) = let zero : 0 ≡ k = omega arith in subst (λ i. IsCharBoundary s i) zero (IsCharBoundary-start s f)
+found_place s (b ∷ p) k f g h =
+    let first : get_or s (k + 0) 0 ≡ b = h.1.reads 0 (omega arith) in
+    let here : k ≡ k + 0 = omega arith in
+    let same : get_or s k 0 ≡ b = ap (λ i. get_or s i 0) here ∙ first in
+    (omega (arith, h.1.fits), λ lt wide. omega (arith, same, (IsCharBoundary-start (b ∷ p) g).1 (omega arith) (omega (arith, same))))
+
+-- what follows a text in a text is one
+rest_utf8 : (s p rest : List ℕ) → IsUtf8 s → IsUtf8 p → s ≡ p ++ rest → IsUtf8 rest
+rest_utf8 s p rest f g e =
+    let q = encodes_prefix (chars p) (chars s) rest (encodes-chars s f ∙ e ∙ ap (λ (l : List ℕ). l ++ rest) (sym (encodes-chars p g))) in
+    (q.0, (scalars_back (chars p) q.0 (ap scalars (sym q.1) ∙ scalars-chars s f), q.2))
+
+-- where a text is cut
+pub record Cuts (s p : List ℕ) (k : ℕ) : Type 0 where
+  pub place : IsCharBoundary s k
+  pub end : IsCharBoundary (drop k s) (length p)
+  pub same : cut_at (chars p) (chars s) ≡ Some (chars (take k s), chars (drop (length p) (drop k s)))
+
+pub needle_cut : (s p : List ℕ) (k : ℕ) → IsUtf8 s → IsUtf8 p → FindsNeedle s p 0 (Some k) → Cuts s p k
+needle_cut s p k f g h =
+    let place : IsCharBoundary s k = found_place s p k f g h in
+    let there : IsUtf8 (drop k s) = IsUtf8-drop s k f place in
+    let e : drop k s ≡ p ++ drop (k + length p) s = seam s p k h.1 in
+    let after : IsUtf8 (drop (k + length p) s) = rest_utf8 (drop k s) p (drop (k + length p) s) there g e in
+    let whole : s ≡ take k s ++ (p ++ drop (k + length p) s) =
+    sym (take-append-drop k s) ∙ ap (λ (l : List ℕ). take k s ++ l) e in
+    let n : length (take k s) ≡ k = omega (arith, h.1.fits, length-take k s) in
+    record {
+      place = place;
+      end = IsCharBoundary-at_seam (drop k s) p (drop (k + length p) s) e after;
+      same =
+          cut_some s p (take k s) (drop (k + length p) s) k f g (IsUtf8-take s k f place) whole n
+          (λ i lt. lacks s p i (omega (arith, h.1.fits)) (h.0.before i (omega arith) lt))
+          ∙ ap (λ (l : List ℕ). cut (chars (take k s)) (chars l)) (sym (drop-drop (length p) k s));
+    }
+
+pub no_needle_cut : (s p : List ℕ) → IsUtf8 s → IsUtf8 p → FindsNeedle s p 0 None → cut_at (chars p) (chars s) ≡ None
+no_needle_cut s p f g h = cut_none s p f g (λ i within. lacks s p i within (h i (omega arith) (omega arith)))
 
 pub cut_found : (r : Option (Bor (List ℕ) × Bor (List ℕ))) (q t : List ℕ)
     → MatchOption r (cut_at q t ≡ None) (λ x. cut_at q t ≡ Some (chars x.0.now, chars x.1.now)) → is_some r ≡ is_some (cut_at q t)

@@ -2,7 +2,7 @@
 use Rattle.std.proofs.Common.{◌≡◌, ℕ, suc, ◌+◌, add-one, arith, length, Bool, true, false, cond, List, [], ◌∷◌, ◌++◌, Option, Some, None, refl, sym, ◌∙◌, ap}
 use Rattle.std.proofs.Common.{append_assoc, append-nil}
 use Rattle.std.specs.Prelude.{not, nat_lt, ◌==◌, position, option_map, option_to_list, MatchOption}
-use Rattle.std.specs.List.{flat_map, slice_get, position_or_len}
+use Rattle.std.specs.List.{flat_map, position_or_len}
 use lib.Utf8.{encodes}
 use Rattle.std.proofs.Math.Numerals.{one-add}
 use Rattle.std.proofs.lemmas.Bool.Decides.{nat_tests}

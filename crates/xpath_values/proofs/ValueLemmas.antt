@@ -1,5 +1,5 @@
 -- What a program holds for a value, and what is meant by it.
-use Rattle.std.proofs.Common.{◌≡◌, ℕ, Bool, List, [], ◌∷◌, refl, ◌∙◌, ap}
+use Rattle.std.proofs.Common.{◌≡◌, Bool, [], ◌∷◌, refl, ◌∙◌, ap}
 use Rattle.xpath_values.specs.declared.Value.{Value}
 use Rattle.xpath_values.specs.Seen.{truth_seen}
 use Rattle.xpath_values.specs.Values.{Meant, nodes, truth, number, text, held_as, truth_of}

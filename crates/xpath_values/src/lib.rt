@@ -3,6 +3,7 @@
 #![tactic(auto)]
 
 mod building;
+mod bytewise;
 mod languages;
 pub mod laws;
 mod normal;

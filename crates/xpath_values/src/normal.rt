@@ -1,7 +1,9 @@
 //! `normalize-space`: XPath 1.0, section 4.2.
 
-ghost use Rattle.std.specs.Prelude.{◌≡◌, ◌++◌, ◌∷◌, IfOk, List, ℕ, encode_utf8_all, string_bytes};
-ghost use Rattle.std.specs.Str.{chars};
+ghost use Rattle.std.specs.Prelude.{◌≡◌, ◌≤◌, ◌++◌, ◌∷◌, IfOk, List, ℕ, drop, encode_utf8_all, length, string_bytes};
+ghost use Rattle.std.specs.Prelude.{take, true, false};
+ghost use Rattle.std.specs.Str.{IsCharBoundary, chars};
+ghost use Rattle.xml_model.specs.Chars.{is_space};
 ghost use Rattle.xpath_values.specs.Normal.{due, left};
 ghost use Rattle.xpath_values.specs.Texts.{normalize_space};
 
@@ -46,6 +48,56 @@ fn take_next(held: &mut String, passed: Passed, c: char) -> Result<Passed, Alloc
     })
 }
 
+/// Whether a byte is white space (XML 1.0, production 3).
+#[inline(always)]
+#[tactic(auto, unfolding(xml_model::specs::Chars::is_space, xml_model::specs::Chars::in_ranges))]
+fn is_space_byte(b: u8) -> bool
+    ensures { result ≡ is_space b }
+{
+    matches!(b, b' ' | b'\t' | b'\n' | b'\r')
+}
+
+/// The length of the longest prefix that stays as it is after a character of a word: words with single spaces between
+/// them, up to the end of one. A place between characters, where the bytes are UTF-8.
+fn stays_len(bytes: &[u8]) -> usize
+    ensures same { left true false bytes.now ≡ take result bytes.now ++ left true false (drop result bytes.now) }
+    ensures place { IsCharBoundary bytes.now result }
+{
+    let mut end = 0;
+    for (i, b) in bytes.iter().enumerate() {
+        if !is_space_byte(*b) {
+            end = i + 1;
+        } else if *b != b' ' || i != end {
+            return end;
+        }
+    }
+    end
+}
+
+/// How many bytes of a text stay as they are: none where it is in no word.
+fn kept_len(passed: Passed, text: &str) -> usize
+    ensures same { left passed.some passed.gap text.now
+        ≡ take result text.now ++ left passed.some passed.gap (drop result text.now) }
+    ensures place { IsCharBoundary text.now result }
+{
+    if !passed.some {
+        return 0;
+    }
+    if passed.gap {
+        return 0;
+    }
+    stays_len(text.as_bytes())
+}
+
+/// What of a text stays as it is, and what follows that.
+fn kept(passed: Passed, text: &str) -> (&str, &str)
+    ensures same { encode_utf8_all (left passed.some passed.gap (chars text.now))
+        ≡ result.0.now ++ encode_utf8_all (left passed.some passed.gap (chars result.1.now)) }
+    ensures shorter { length result.1.now ≤ length text.now }
+{
+    text.split_at(kept_len(passed, text))
+}
+
 /// The words of a text with one space between them.
 fn normalized(alloc: Global, text: &str) -> Result<String, AllocError>
     ensures { IfOk result (λ s. string_bytes s ≡ encode_utf8_all (normalize_space (chars text.now))) }
@@ -58,7 +110,9 @@ fn normalized(alloc: Global, text: &str) -> Result<String, AllocError>
     let mut rest = text;
     while let Some((c, after)) = step(rest) {
         passed = take_next(&mut held, passed, c)?;
-        rest = after;
+        let (piece, next) = kept(passed, after);
+        held.push_str(piece)?;
+        rest = next;
     }
     Ok(held)
 }

@@ -6,6 +6,7 @@ ghost use Rattle.xpath_values.specs.Numbers.{in_range, one};
 ghost use Rattle.xpath_values.specs.Texts.{contains, cut_at, starts_with};
 
 use crate::{Number, ValueFault};
+use memchr::memmem;
 use xml_model::Text;
 use xml_model::texts::as_str;
 use xpath_tokens::GREATEST;
@@ -16,7 +17,14 @@ fn cut_at<'a>(text: &'a str, piece: &str) -> Option<(&'a str, &'a str)>
     ensures { MatchOption result (cut_at (chars piece.now) (chars text.now) ≡ None)
         (λ x. cut_at (chars piece.now) (chars text.now) ≡ Some (chars x.0.now, chars x.1.now)) }
 {
-    text.split_once(piece)
+    match memmem::find(text.as_bytes(), piece.as_bytes()) {
+        None => None,
+        Some(place) => {
+            let (before, there) = text.split_at(place);
+            let (_, after) = there.split_at(piece.len());
+            Some((before, after))
+        }
+    }
 }
 
 /// A text cut at the first place where another one is.

@@ -9,6 +9,7 @@ ghost use Rattle.std.specs.Str.{chars};
 ghost use Rattle.xpath_values.specs.Texts.{translate};
 ghost use Rattle.xpath_values.specs.Translating.{becomes, noted};
 
+use crate::bytewise;
 use std::alloc::{AllocError, Global};
 use std::collections::BTreeMap;
 use xml_chars::text::step;
@@ -101,6 +102,9 @@ fn translated(alloc: Global, text: &str, changes: &Changes) -> Result<String, Al
 fn translated_text(alloc: Global, text: &str, from: &str, to: &str) -> Result<Text, AllocError>
     ensures { IfOk result (λ t. t ≡ translate (chars text.now) (chars from.now) (chars to.now)) }
 {
+    if from.is_ascii() && to.is_ascii() && from.len() <= to.len() {
+        return bytewise::translated(alloc, text, from, to);
+    }
     let changes = changes(alloc, from, to)?;
     Ok(Text {
         held: translated(alloc, text, &changes)?,
@@ -109,7 +113,8 @@ fn translated_text(alloc: Global, text: &str, from: &str, to: &str) -> Result<Te
 
 /// A text in which each character that is in the second text becomes the one at the same place in the third, or goes
 /// where the third has none there; of a character that is twice in the second the first place counts (XPath 1.0,
-/// section 4.2). It takes one pass over each text, and a look-up in the second for each character of the first.
+/// section 4.2). It takes one pass over each text, and a look-up in the second for each character of the first; where
+/// both are ASCII and none goes, the look-up is in a table of bytes.
 ///
 /// # Errors
 /// Where memory was not to be had.

@@ -1,7 +1,6 @@
 use Rattle.std.proofs.Common.{Ok}
 use Rattle.vtd_words.specs.Table.{IsNodeOf}
-use Rattle.xpath_values.proofs.SeenLemmas.{head_all, tail_all}
-use Rattle.conformance_documents.proofs.NodesLemmas.{number_seen_fits}
+use Rattle.xpath_values.proofs.SeenLemmas.{head_all, number_seen_fits, tail_all}
 use Rattle.conformance_documents.proofs.values.sum_of.Goals as goal
 
 pub number_seen-requires : goal.number_seen-requires

@@ -4,6 +4,7 @@ use Rattle.std.specs.Str.{chars}
 use Rattle.xml_chars.proofs.Runs.{char_some, char_none}
 use Rattle.xpath_values.specs.Normal.{left}
 use Rattle.xpath_values.specs.Texts.{normalize_space}
+use Rattle.xpath_values.proofs.KeptLemmas.{piece_written}
 use Rattle.xpath_values.proofs.NormalLemmas.{at_end}
 use Rattle.xpath_values.proofs.normal.normalized.Goals as goal
 
@@ -16,10 +17,12 @@ loop-c-init c = record {
 pub loop-c-preserved : goal.loop-c-preserved
 loop-c-preserved c = record {
   same =
-      c.in_ok-passed.ensures (chars c.in-Some.after.now)
+      piece_written (string_bytes c.take_next.new.held) (string_bytes c.push_str.new.self) c.kept.result.0.now _ _ _ c.in_ok-push_str.ensures.bytes
+      c.kept.ensures.same
+      (c.in_ok-passed.ensures (chars c.in-Some.after.now)
       ∙ ap (λ (l : List ℕ). string_bytes c.loop-c.held ++ encode_utf8_all (left c.loop-c.passed.some c.loop-c.passed.gap l)) (sym (char_some
       (chars c.loop-c.rest.now) (chars c.in-Some.after.now) c.in-Some.c c.in-Some.ensures.read))
-      ∙ c.loop-c.invariant.same;
+      ∙ c.loop-c.invariant.same);
   text = search rules;
 }
 

@@ -1,4 +1,4 @@
-use Rattle.std.proofs.Common.{rules, ◌%◌, ◌≡◌, string_bytes, refl}
+use Rattle.std.proofs.Common.{string_bytes}
 use Rattle.xpath_values.proofs.SpelledLemmas.{spelling_made}
 use Rattle.xpath_values.proofs.spelled.spelled.Goals as goal
 

@@ -1,4 +1,4 @@
-use Rattle.std.proofs.Common.{ap, ◌∙◌, refl, sym}
+use Rattle.std.proofs.Common.{ap, sym}
 use Rattle.std.specs.Str.{chars}
 use Rattle.xpath_values.specs.Values.{truth_text}
 use Rattle.xpath_values.proofs.strings.truth_text.Goals as goal
