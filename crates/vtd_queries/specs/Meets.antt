@@ -1,5 +1,8 @@
 -- How what calls answer stands for what is meant (this project's own). Want of memory may come in place of any answer.
-use Rattle.std.specs.Prelude.{◌≡◌, ℕ, List, Result, Ok, Err}
+use Rattle.std.specs.Prelude.{◌≡◌, ℕ, List, [], Result, Ok, Err}
+use Rattle.xml_model.specs.declared.Node.{Node}
+use Rattle.xpath_values.specs.declared.Value.{Value}
+use Rattle.xpath_values.specs.declared.Value.TheVariants as held
 use Rattle.xpath_values.specs.Values.{Meant, string_of}
 use Rattle.vtd_queries.specs.declared.faults.OperationFault.{OperationFault}
 use Rattle.vtd_queries.specs.declared.faults.OperationFault.TheVariants as operation
@@ -33,3 +36,10 @@ IsString x v = x ≡ string_of v
 abbrev pub Makes : (Result Operated OperationFault → Type 0) → Result Operated OperationFault → Type 0
 Makes Answers (Err (operation.Query query.NoMemory)) = Unit {0}
 Makes Answers result = Answers result
+
+-- What private functions promise.
+
+-- the nodes of a value that a program holds
+abbrev pub held_nodes : Value → List Node
+held_nodes (held.Nodes nodes) = nodes
+held_nodes _ = []

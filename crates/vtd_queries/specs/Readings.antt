@@ -1,6 +1,6 @@
 -- What a text is as an expression, where prefixes are bound (XPath 1.0, section 3): an expression that may meet a
 -- document, or the first refusal. The grammar's refusals come first, then those that the expression shows.
-use Rattle.std.specs.Prelude.{ℕ, ◌<◌, ◌≤◌, List, [], ◌∷◌, length, Result, Ok, Err}
+use Rattle.std.specs.Prelude.{ℕ, ◌<◌, ◌≤◌, false, List, [], ◌∷◌, length, Result, Ok, Err}
 use Rattle.std.specs.Str.{chars}
 use Rattle.xpath_tokens.specs.declared.Token.{Token}
 use Rattle.xpath_tokens.specs.Tokens.{Splits}

@@ -8,7 +8,7 @@ ghost use Rattle.vtd_words.specs.Table.{IsNodeOf, nodes_of};
 ghost use Rattle.vtd_location.specs.Nav.{IsNavOf};
 ghost use Rattle.xpath_values.specs.Values.{HasNodesOf, IsHeld};
 ghost use Rattle.xpath_meaning.specs.Scope.{AreNodes, Fits, IsInOrder};
-ghost use Rattle.vtd_queries.specs.Meets.{IsString, Meets};
+ghost use Rattle.vtd_queries.specs.Meets.{IsString, Meets, held_nodes};
 ghost use Rattle.vtd_queries.specs.Questions.{Asks, AsksNodes};
 
 use crate::faults::QueryFault;
@@ -46,7 +46,9 @@ pub fn ask<W: Words>(
 }
 
 /// The nodes of a node-set; those of another value are none.
-fn nodes_in(alloc: Global, value: Value) -> NodeList {
+fn nodes_in(alloc: Global, value: Value) -> NodeList
+    ensures { result ≡ held_nodes value }
+{
     match value {
         Value::Nodes(nodes) => nodes,
         _ => NodeList {

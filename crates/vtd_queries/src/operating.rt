@@ -15,6 +15,7 @@ use vtd_edits::Splices;
 use vtd_location::Nav;
 use vtd_modifier::{Operation, splices_of};
 use vtd_words::Words;
+use xml_model::NodeList;
 use xpath_grammar::Bindings;
 
 /// What an operation makes of nodes.
@@ -24,6 +25,13 @@ pub struct Operated {
     pub count: u64,
     /// The splices of each node, in document order.
     pub splices: Splices,
+}
+
+/// How many nodes a list has.
+fn count_of(nodes: &NodeList) -> u64
+    ensures { result ≡ length nodes.now }
+{
+    nodes.held.as_slice().len() as u64
 }
 
 /// The splices of an operation on the nodes that the text of an expression answers on a document; they are within the
@@ -47,7 +55,7 @@ pub fn operate<W: Words>(
     let nodes = ask_nodes(alloc, nav, bindings, text)?;
     let splices = splices_of(alloc, nav, operation, &nodes)?;
     Ok(Operated {
-        count: nodes.held.len() as u64,
+        count: count_of(&nodes),
         splices,
     })
 }
