@@ -6,3 +6,5 @@ pub mod Prefixes
 pub mod Reading
 pub mod Differing
 pub mod Documents
+pub mod Fitting
+pub mod Verdicts

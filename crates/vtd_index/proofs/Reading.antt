@@ -195,7 +195,7 @@ sized_ok f bytes w magic is all few spare padding =
     let s : with_size f (head_for bytes w) ≡ Ok (head_for bytes w) = rw (t4, t5) (sym (all_zeros f (head_for bytes w) spare padding)) in
     rw (t1, magic, t3) (ap (λ (x : Head). with_size f x) is ∙ s)
 
-reads_file : (f bytes : List ℕ) (w : Lists) → CanHold bytes w → f ≡ file_of bytes w → ReadBack f bytes w
+pub reads_file : (f bytes : List ℕ) (w : Lists) → CanHold bytes w → f ≡ file_of bytes w → ReadBack f bytes w
 reads_file f bytes w c e =
     let h = head_for bytes w in
     let p = parts f bytes w e in

@@ -6,3 +6,4 @@ pub mod Holding
 pub mod Index
 pub mod Loading
 pub mod Comparing
+pub mod Laws

@@ -1,12 +1,13 @@
 //! Whether a file is an index file, and what is wrong with it.
 
-ghost use Rattle.std.specs.Prelude.{◌≡◌, ℕ, ◌-◌, ◌<◌, ◌≤◌, ◌^◌, length, IfOk, IfErr, OnOk, Ok};
+ghost use Rattle.std.specs.Prelude.{◌≡◌, ℕ, ◌-◌, ◌<◌, ◌≤◌, ◌^◌, ◌↔◌, length, IfOk, IfErr, OnOk, IsOk, Ok};
+ghost use Rattle.std.specs.Prelude.{Err};
 ghost use Rattle.xml_model.specs.Accepted.{Accepted, IsRefusal, layer};
 ghost use Rattle.xml_model.specs.Nest.{Forest};
 ghost use Rattle.vtd_words.specs.Table.{IsNestTo};
 ghost use Rattle.vtd_builder.specs.Documents.{IsDoc};
 ghost use Rattle.vtd_builder.specs.Offered.{record_words};
-ghost use Rattle.vtd_index.specs.Index.{IsFault, IsIndexOf, RefusesParts, RefusesRecords};
+ghost use Rattle.vtd_index.specs.Index.{IsFault, IsIndexFile, IsIndexOf, RefusesParts, RefusesRecords};
 ghost use Rattle.vtd_index.specs.Loading.{held_in, IsLoaded};
 
 use crate::comparer::Comparer;
@@ -83,8 +84,9 @@ pub fn check_index(file: &[u8]) -> Result<IndexParts<'_>, IndexFault>
     requires { length file.now < 2 ^ 32 }
     ensures parts { IfOk result (λ parts. parts ≡ held_in file.now) }
     ensures index { IfOk result (λ parts. IsIndexOf file.now parts.bytes) }
+    ensures accepted { IsOk result ↔ IsIndexFile file.now }
+    ensures fault { (fault : IndexFault) → (result ≡ Err fault) ↔ IsFault file.now fault }
     ensures loaded { OnOk result (IsLoaded file.now) }
-    ensures fault { IfErr result (IsFault file.now) }
 {
     let head = read_head(file)?;
     let bytes = document(file, &head);

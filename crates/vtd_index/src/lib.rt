@@ -6,6 +6,7 @@ mod checking;
 mod comparer;
 mod faults;
 mod head;
+pub mod laws;
 mod numbers;
 mod parts;
 mod pieces;

@@ -1,8 +1,8 @@
 //! A document and its words where they lie in an index file, lent or owned.
 
-ghost use Rattle.std.specs.Prelude.{◌≡◌, ◌<◌, ◌^◌, length, vec_len, IfOk, IfErr};
+ghost use Rattle.std.specs.Prelude.{◌≡◌, ◌<◌, ◌^◌, ◌↔◌, length, vec_len, IfOk, IfErr, IsOk};
 ghost use Rattle.vtd_builder.specs.Documents.{IsDoc};
-ghost use Rattle.vtd_index.specs.Index.{IsFault, IsIndexOf};
+ghost use Rattle.vtd_index.specs.Index.{IsFault, IsIndexFile, IsIndexOf};
 ghost use Rattle.vtd_index.specs.Loading.{held_in};
 
 use crate::checking::check_index;
@@ -90,6 +90,7 @@ impl Loaded {
         requires { vec_len file < 2 ^ 32 }
         ensures parts { IfOk result (λ loaded. loaded ≡ held_in file.items) }
         ensures index { IfOk result (λ loaded. IsIndexOf file.items loaded.bytes) }
+        ensures accepted { IsOk result ↔ IsIndexFile file.items }
         ensures given_back { IfErr result (λ e. e.0 ≡ file) }
         ensures fault { IfErr result (λ e. IsFault file.items e.1) }
     {
