@@ -1,14 +1,14 @@
 //! The document and the script of a generated run, which measures and shows the program without a file.
 #![tactic(auto)]
 
-ghost use Rattle.std.specs.Prelude.{◌≡◌, ℕ, ◌+◌, ◌-◌, ◌*◌, ◌^◌, ◌%◌, ◌<◌, ◌++◌, codes, OnOk, IfOk};
+ghost use Rattle.std.specs.Prelude.{◌≡◌, ℕ, ◌+◌, ◌-◌, ◌*◌, ◌^◌, ◌%◌, ◌<◌, ◌≤◌, ◌++◌, codes, vec_len, OnOk, IfOk};
 ghost use Rattle.std.specs.Fmt.{decimal};
 ghost use Rattle.vtd_generator.specs.Generated.{generated, generated_script, item, order, orders};
 
 mod pushing;
 
-use std::alloc::Global;
 use crate::pushing::{push_decimal, push_text};
+use std::alloc::Global;
 use xml_model::NoMemory;
 
 /// Adds what follows the number of an order.
@@ -35,13 +35,14 @@ fn push_order(document: &mut Vec<u8>, number: u64) -> Result<(), NoMemory>
     push_item(document, number)
 }
 
-/// The document of so many orders. It is linear in their number, and has about 45 bytes an order.
+/// The document of so many orders. It takes linear time, and has at most 53 bytes for each order and 17 more.
 ///
 /// # Errors
 /// `NoMemory` where the memory for it was not to be had.
-#[tactic(auto, unfolding(crate::specs::Generated::generated))]
+#[tactic(auto, using(crate::proofs::Sizes::generated_size), unfolding(crate::specs::Generated::generated))]
 pub fn generated_document(alloc: Global, count: u32) -> Result<Vec<u8>, NoMemory>
-    ensures { IfOk result (λ bytes. bytes.items ≡ generated count) }
+    ensures document { IfOk result (λ bytes. bytes.items ≡ generated count) }
+    ensures size { IfOk result (λ bytes. vec_len bytes ≤ 53 * count + 17) }
 {
     let mut document = Vec::new(alloc);
     push_text(&mut document, b"<orders>")?;

@@ -36,4 +36,3 @@ pub fn push_text(lines: &mut Vec<u8>, text: &[u8]) -> Result<(), NoMemory>
 {
     lines.extend_from_slice(text).map_err(|_| NoMemory)
 }
-

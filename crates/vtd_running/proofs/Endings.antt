@@ -17,13 +17,14 @@ use Rattle.vtd_script.specs.Faults.{fault_line}
 use Rattle.vtd_script.specs.Runs.{EndsKnown}
 use Rattle.vtd_script.specs.declared.endings.End.{End}
 use Rattle.vtd_script.proofs.Parts.{prefix_of}
-use Rattle.vtd_running.specs.Form.{Form, document, no_form}
+use Rattle.vtd_running.specs.Form.{Form, document, generation, no_form}
 use Rattle.vtd_running.specs.Statuses.{status_of}
 use Rattle.vtd_script.specs.Steps.{document_limit}
 use Rattle.vtd_running.specs.Meaning.{Outcome, EndsWith, RunsScript, RunsName, Runs, Ran, script_limit}
 use Rattle.vtd_running.specs.Meaning.{script_long_line, document_long_line, usage_line}
 use Rattle.vtd_running.specs.Meaning.{script_unread, script_unkept, script_long, carried, document_long, document_unfit, accepted}
-use Rattle.vtd_running.specs.Meaning.{document_missing, document_unread, document_unkept, there, words_unkept, told, nothing_done, only_printed}
+use Rattle.vtd_running.specs.Meaning.{document_missing, document_unread, document_unkept, generated_unkept, there, words_unkept, told}
+use Rattle.vtd_running.specs.Meaning.{nothing_done, only_printed}
 use Rattle.vtd_running.specs.Parts.{LineSent, Begins, ReadsDocument, DocumentCause, Left}
 use Rattle.vtd_running.specs.declared.reading.NoDocument.{NoDocument}
 use Rattle.vtd_running.specs.declared.reading.NoDocument.TheVariants as no
@@ -306,4 +307,5 @@ ran_no_memory sr fr or er asked files script fa la out oa err ea f l t e = recor
   where
     by : (asked : Form) → Runs sr fr or er asked files script (nothing_done files script statuses.NoMemory)
     by (document name keep) = document_unkept
+    by (generation count) = generated_unkept
     by no_form = words_unkept

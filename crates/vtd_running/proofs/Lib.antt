@@ -1,3 +1,5 @@
 pub mod FormLemmas
+pub mod CountLemmas
 pub mod Endings
+pub mod Generations
 pub mod Outcomes

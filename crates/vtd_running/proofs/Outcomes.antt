@@ -1,5 +1,5 @@
 -- Words, files and a script mean one outcome, and a run without a fault ends with it or for want of memory.
-use Rattle.std.proofs.Common.{◌≡◌, ℕ, ◌≤◌, ◌<◌, ◌⊎◌, inl, inr, Bool, List, [], length, drop, Option, Some, None}
+use Rattle.std.proofs.Common.{◌≡◌, ℕ, ◌≤◌, ◌<◌, ◌⊎◌, inl, inr, Bool, false, List, [], length, drop, Option, Some, None}
 use Rattle.std.proofs.Common.{refl, sym, ap, ◌∙◌, subst, arith}
 use Rattle.std.proofs.lemmas.Option.{same_Some, none-some}
 use Rattle.vtd_outside.specs.Known.{NameMap}
@@ -16,13 +16,15 @@ use Rattle.vtd_script.specs.Runs as script
 use Rattle.vtd_script.specs.declared.endings.End.{End}
 use Rattle.vtd_script.specs.declared.endings.End.TheVariants as ends
 use Rattle.vtd_script.proofs.RunLaws as laws
-use Rattle.vtd_running.specs.Form.{Form, document, no_form}
+use Rattle.vtd_generator.specs.Generated.{generated, generated_script}
+use Rattle.vtd_running.specs.Form.{Form, document, generation, no_form}
 use Rattle.vtd_running.specs.Statuses.{status_of, IsMeant}
 use Rattle.vtd_script.specs.Steps.{document_limit}
-use Rattle.vtd_running.specs.Meaning.{Outcome, EndsWith, RunsScript, RunsDocument, RunsName, RunsUsage, Runs, Ran, Means}
+use Rattle.vtd_running.specs.Meaning.{Outcome, EndsWith, RunsScript, RunsDocument, RunsName, RunsGenerated, RunsUsage, Runs, Ran, Means}
 use Rattle.vtd_running.specs.Meaning.{script_limit, script_long_line, document_long_line, usage_line, first_state}
 use Rattle.vtd_running.specs.Meaning.{script_unread, script_unkept, script_long, carried, document_long, document_unfit, accepted}
 use Rattle.vtd_running.specs.Meaning.{document_missing, document_unread, document_unkept, there, words_unkept, told, only_printed}
+use Rattle.vtd_running.specs.Meaning.{generated_unkept, generated_run, no_files}
 use Rattle.vtd_running.specs.declared.status.Status.{Status}
 use Rattle.vtd_running.specs.declared.status.Status.TheVariants as statuses
 
@@ -95,6 +97,15 @@ exact_name sr fr or keep files name text m ns nf nw document_unkept = inl refl
 exact_name sr fr or keep files name text m ns nf nw (there bytes e x h) =
     elim (exact_document sr fr or keep files bytes text x ns nf nw h) [ inl q ↦ inl q | inr q ↦ inr (q.0, there bytes e x q.1) ]
 
+exact_generated : (or : Type 0) (count : ℕ) (files : NameMap) (text : List ℕ) (m : Outcome) → (or → ⊥) → RunsGenerated or count files text m
+    → MeansOr (RunsGenerated ⊥ count files text) m
+exact_generated or count files text m nw generated_unkept = inl refl
+exact_generated or count files text m nw (generated_run own h) =
+    elim (exact_document ⊥ ⊥ or false no_files (generated count) generated_script own (λ x. x) (λ x. x) nw h) [
+      | inl q ↦ inl q
+      | inr q ↦ inr (q.0, generated_run own q.1)
+    ]
+
 exact_usage : (er : Type 0) (files : NameMap) (text : List ℕ) (m : Outcome) → (er → ⊥) → RunsUsage er files text m → MeansOr (RunsUsage ⊥ files text) m
 exact_usage er files text m ne words_unkept = inl refl
 exact_usage er files text m ne (told sent status e) =
@@ -104,6 +115,7 @@ exact_usage er files text m ne (told sent status e) =
 exact_runs : (sr fr or er : Type 0) (asked : Form) (files : NameMap) (text : List ℕ) (m : Outcome) → (sr → ⊥) → (fr → ⊥) → (or → ⊥) → (er → ⊥)
     → Runs sr fr or er asked files text m → MeansOr (Runs ⊥ ⊥ ⊥ ⊥ asked files text) m
 exact_runs sr fr or er (document name keep) files text m ns nf nw ne h = exact_name sr fr or keep files name text m ns nf nw h
+exact_runs sr fr or er (generation count) files text m ns nf nw ne h = exact_generated or count files text m nw h
 exact_runs sr fr or er no_form files text m ns nf nw ne h = exact_usage er files text m ne h
 
 pub exact_ran : (sr fr or er : Type 0) (asked : Form) (files : NameMap) (text : List ℕ) (files_after : Option NameMap) (left_after : Option (List ℕ))
@@ -197,6 +209,13 @@ one_name keep files name text m n p q (there bytes f o h) (there other g x k) =
     let P : List ℕ → Type 0 = λ b. RunsDocument ⊥ ⊥ ⊥ keep files b text x in
     one_document keep files bytes text o x p q h (subst P (same_Some other bytes (sym g ∙ f)) k)
 
+one_generated : (count : ℕ) (files : NameMap) (text : List ℕ) (m n : Outcome) → IsMeant m.status → IsMeant n.status → RunsGenerated ⊥ count files text m
+    → RunsGenerated ⊥ count files text n → m ≡ n
+one_generated count files text m n p q generated_unkept y = absurd p
+one_generated count files text m n p q (generated_run own h) generated_unkept = absurd q
+one_generated count files text m n p q (generated_run own h) (generated_run other k) =
+    ap (λ (o : Outcome). only_printed o.out files text o.status) (one_document false no_files (generated count) generated_script own other p q h k)
+
 one_usage : (files : NameMap) (text : List ℕ) (m n : Outcome) → IsMeant m.status → IsMeant n.status → RunsUsage ⊥ files text m
     → RunsUsage ⊥ files text n → m ≡ n
 one_usage files text m n p q words_unkept y = absurd p
@@ -207,6 +226,7 @@ one_usage files text m n p q (told a x e) (told b y f) =
 one_run : (asked : Form) (files : NameMap) (text : List ℕ) (m n : Outcome) → IsMeant m.status → IsMeant n.status → Runs ⊥ ⊥ ⊥ ⊥ asked files text m
     → Runs ⊥ ⊥ ⊥ ⊥ asked files text n → m ≡ n
 one_run (document name keep) files text m n p q h k = one_name keep files name text m n p q h k
+one_run (generation count) files text m n p q h k = one_generated count files text m n p q h k
 one_run no_form files text m n p q h k = one_usage files text m n p q h k
 
 pub one_outcome : (asked : Form) (files : NameMap) (text : List ℕ) (m n : Outcome) → Means asked files text m → Means asked files text n → m ≡ n
@@ -243,8 +263,14 @@ some_name keep files name text (Some bytes) e =
     let r = some_document keep files bytes text in
     (r.0, r.1, there bytes e r.0 r.2)
 
+some_generated : (count : ℕ) (files : NameMap) (text : List ℕ) → Some' (RunsGenerated ⊥ count files text)
+some_generated count files text =
+    let r = some_document false no_files (generated count) generated_script in
+    (only_printed r.0.out files text r.0.status, r.1, generated_run r.0 r.2)
+
 some_run : (asked : Form) (files : NameMap) (text : List ℕ) → Some' (Runs ⊥ ⊥ ⊥ ⊥ asked files text)
 some_run (document name keep) files text = some_name keep files name text (files name) refl
+some_run (generation count) files text = some_generated count files text
 some_run no_form files text = (_, tt, told usage_line statuses.Usage (inl (refl, refl)))
 
 pub some_meaning : (asked : Form) (files : NameMap) (text : List ℕ) → (m : Outcome) × Means asked files text m

@@ -1,6 +1,6 @@
 -- How a run may end, and what it means (this project's own): what standard output and standard error took, the files,
 -- what is left of the script, and the status, by the words after the program's name, the files and the script.
-use Rattle.std.specs.Prelude.{◌⊎◌, ◌≡◌, ℕ, ◌+◌, ◌<◌, ◌≤◌, Bool, List, [], ◌++◌, length, drop, codes}
+use Rattle.std.specs.Prelude.{◌⊎◌, ◌≡◌, ℕ, ◌+◌, ◌<◌, ◌≤◌, Bool, false, List, [], ◌++◌, length, drop, codes}
 use Rattle.std.specs.Prelude.{Option, Some, None}
 use Rattle.vtd_outside.specs.Known.{NameMap}
 use Rattle.vtd_outside.specs.Gathered.{TakesUpTo}
@@ -14,7 +14,8 @@ use Rattle.vtd_script.specs.States.{State, state_of}
 use Rattle.vtd_script.specs.Steps.{document_limit}
 use Rattle.vtd_script.specs.Runs.{Ends, IsPrefix}
 use Rattle.vtd_script.specs.declared.endings.End.{End}
-use Rattle.vtd_running.specs.Form.{Form, document, no_form}
+use Rattle.vtd_generator.specs.Generated.{generated, generated_script}
+use Rattle.vtd_running.specs.Form.{Form, document, generation, no_form}
 use Rattle.vtd_running.specs.Statuses.{status_of, IsMeant}
 use Rattle.vtd_running.specs.declared.status.Status.{Status}
 use Rattle.vtd_running.specs.declared.status.Status.TheVariants as statuses
@@ -98,6 +99,18 @@ pub data RunsName (script_rose file_rose out_rose : Type 0) (keep : Bool) (files
       RunsDocument script_rose file_rose out_rose keep files bytes script m →
       RunsName script_rose file_rose out_rose keep files name script m
 
+abbrev pub no_files : NameMap
+no_files name = None
+
+-- A generated run: there was no memory for its document; or it prints and ends as a run over the generated document
+-- does that has the generated script, no -k and no file beside it, and in which standard output alone can fail. The
+-- files and the script that the run was handed stay as they are.
+pub data RunsGenerated (out_rose : Type 0) (count : ℕ) (files : NameMap) (script : List ℕ) : Outcome → Type 0 where
+  generated_unkept : RunsGenerated out_rose count files script (nothing_done files script statuses.NoMemory)
+  generated_run : (own : Outcome) →
+      RunsDocument ⊥ ⊥ out_rose false no_files (generated count) generated_script own →
+      RunsGenerated out_rose count files script (only_printed own.out files script own.status)
+
 -- Words that are not of the form: standard error takes the usage line, or there was no memory to read them.
 pub data RunsUsage (err_rose : Type 0) (files : NameMap) (script : List ℕ) : Outcome → Type 0 where
   words_unkept : RunsUsage err_rose files script (nothing_done files script statuses.NoMemory)
@@ -110,6 +123,8 @@ pub data RunsUsage (err_rose : Type 0) (files : NameMap) (script : List ℕ) : O
 abbrev pub Runs : Type 0 → Type 0 → Type 0 → Type 0 → Form → NameMap → List ℕ → Outcome → Type 0
 Runs script_rose file_rose out_rose err_rose (document name keep) files script m =
     RunsName script_rose file_rose out_rose keep files name script m
+Runs script_rose file_rose out_rose err_rose (generation count) files script m =
+    RunsGenerated out_rose count files script m
 Runs script_rose file_rose out_rose err_rose no_form files script m = RunsUsage err_rose files script m
 
 -- What words, files and a script mean: how a run ends in which no count rose and for which there was memory.

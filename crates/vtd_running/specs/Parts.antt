@@ -1,12 +1,13 @@
 -- What private functions promise.
-use Rattle.std.specs.Prelude.{◌≡◌, ℕ, ◌<◌, ◌≤◌, Bool, List, [], ◌++◌, length, Option, Some, Result, Ok, Err}
+use Rattle.std.specs.Prelude.{◌≡◌, ℕ, ◌<◌, ◌≤◌, Bool, false, List, [], ◌++◌, length, Option, Some, Result, Ok, Err}
 use Rattle.vtd_outside.specs.Causes.{RoseAlone}
 use Rattle.vtd_outside.specs.Known.{NameMap}
 use Rattle.xml_model.specs.Nest.{Forest}
 use Rattle.xml_model.specs.Accepted.{Accepted, IsRefusal}
-use Rattle.vtd_script.specs.States.{Work}
+use Rattle.vtd_script.specs.States.{Work, State}
 use Rattle.vtd_script.specs.Steps.{document_limit}
-use Rattle.vtd_running.specs.Meaning.{Outcome, EndsWith}
+use Rattle.vtd_generator.specs.Generated.{generated_script}
+use Rattle.vtd_running.specs.Meaning.{Outcome, EndsWith, RunsGenerated, RunsScript, only_printed}
 use Rattle.vtd_running.specs.declared.reading.NoDocument.{NoDocument}
 use Rattle.vtd_running.specs.declared.reading.NoDocument.TheVariants as no
 use Rattle.vtd_running.specs.declared.status.Status.{Status}
@@ -54,3 +55,19 @@ pub record Left (kind : Outcome → Type 0) (files_after : Option NameMap) (left
   pub taken : out_after ≡ Some (before ++ m.out)
   pub silent : m.err ≡ []
   pub status_is : status ≡ m.status
+
+-- what the generated script printed over a state, and how it ended
+pub record Carries (out_rose : Type 0) (s : State) (before : List ℕ) (out_after : Option (List ℕ)) (status : Status) :
+    Type 0 where
+  pub own : Outcome
+  pub runs : RunsScript ⊥ ⊥ out_rose false s generated_script own
+  pub taken : out_after ≡ Some (before ++ own.out)
+  pub status_is : status ≡ own.status
+
+-- what a generated run printed, and how it ended
+pub record Generates (out_rose : Type 0) (count : ℕ) (before : List ℕ) (out_after : Option (List ℕ)) (status : Status) :
+    Type 0 where
+  pub sent : List ℕ
+  pub taken : out_after ≡ Some (before ++ sent)
+  pub runs : (files : NameMap) (script : List ℕ) →
+      RunsGenerated out_rose count files script (only_printed sent files script status)

@@ -1,6 +1,8 @@
 //! The top call: what the words of a command line, the files and a script mean.
 #![tactic(auto)]
 
+mod counts;
+mod generating;
 pub mod laws;
 mod reading;
 mod running;

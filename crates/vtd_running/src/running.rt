@@ -3,12 +3,13 @@
 ghost use Rattle.std.specs.Prelude.{◌⊎◌, ◌≡◌, ℕ, Bool, List, map, false, Some, string_bytes, IsTrue};
 ghost use Rattle.vtd_outside.specs.Causes.{Rose, is_missing};
 ghost use Rattle.vtd_outside.specs.Known.{NameMap};
-ghost use Rattle.vtd_running.specs.Form.{form, document};
+ghost use Rattle.vtd_running.specs.Form.{form, document, generation};
 ghost use Rattle.vtd_running.specs.Meaning.{Runs, RunsName, Means, Ran};
 ghost use Rattle.vtd_running.specs.Parts.{Left};
 ghost use Rattle.vtd_running.specs.Statuses.{ReadCounts, RunFiles, SendCounts, WriteCounts, FitsForm};
 ghost use Rattle.vtd_running.specs.Statuses.{EndsMissing, EndsScript};
 
+use crate::generating::run_generated;
 use crate::reading::{NoDocument, read_document};
 use crate::scripts::run_script;
 use crate::sending::{refuse, say_usage};
@@ -55,11 +56,13 @@ fn run_document<F: Files, S: Source, K: Sink>(
 
 /// Runs the program: reads the document that the words name, then the script, and carries out its lines in turn.
 ///
-/// `words` are those after the program's name, read by `clap`: `-k` or not, and one name. Where they are not of this
-/// form, `err` takes the usage line, and it takes nothing else. A document, a script or a command that is refused
-/// prints one line on `out`. A refused document ends the run, and so does a script of more than 16,777,216 bytes, of
-/// which no line is carried out. A refused command ends it too, but with `-k` the run goes on and ends as refused. No
-/// file may be being written at the call, and none is after it.
+/// `words` are those after the program's name, read by `clap`: one name, with `-k` or without; or `-g` and one to seven
+/// digits whose number is 1 to 1,000,000. Where they are not of this form, `err` takes the usage line, and it takes
+/// nothing else. With `-g` the document of so many orders and its own script are made, the lines are carried out beside
+/// no files, and neither `files` nor `script` is touched. A document, a script or a command that is refused prints one
+/// line on `out`. A refused document ends the run, and so does a script of more than 16,777,216 bytes, of which no line
+/// is carried out. A refused command ends it too, but with `-k` the run goes on and ends as refused. No file may be
+/// being written at the call, and none is after it.
 ///
 /// How a run may end, `Runs` of `specs/Meaning.antt` says, and what is meant, `Means`. Where the objects say their
 /// bytes, `Done`, `Refused` and `Usage` come only with exactly what is meant. At every other status one k tells the
@@ -106,10 +109,14 @@ pub fn run<F: Files, S: Source, K: Sink, E: Sink>(
     ensures usage { FitsForm (form (map string_bytes words.now)) result }
     ensures missing { (name : List ℕ) (keep : Bool) → form (map string_bytes words.now) ≡ document name keep
         → IsTrue (is_missing (F.seen files.old).contents name) → EndsMissing result }
+    // A generated run touches neither the files nor the script.
+    ensures untouched { (count : ℕ) → form (map string_bytes words.now) ≡ generation count
+        → (files.new ≡ files.old) × (script.new ≡ script.old) }
     ensures writing_stays { (F.seen files.new).is_writing ≡ false }
 {
     match read_words(alloc, words) {
         Ok(Words::Document(name, keep)) => run_document(alloc, name, keep, files, script, out),
+        Ok(Words::Generation(count)) => run_generated(alloc, count, out),
         Ok(Words::NoForm) => say_usage(err),
         Err(_) => Status::NoMemory,
     }

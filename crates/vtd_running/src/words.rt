@@ -1,10 +1,12 @@
 //! The words of a command line, read by `clap`: what they ask for is that crate's exact rule for a simple command.
 
-ghost use Rattle.std.specs.Prelude.{◌≡◌, codes, map, IfOk, string_bytes};
+ghost use Rattle.std.specs.Prelude.{◌≡◌, codes, map, option_copied, IfOk, string_bytes};
 ghost use Rattle.clap.specs.Words.{app_of, found_of, first_value};
-ghost use Rattle.vtd_running.specs.Form.{choose, form, is_set, vtd_app};
+ghost use Rattle.vtd_running.specs.Form.{choose, form, generation_of, is_set, vtd_app};
+ghost use Rattle.vtd_running.specs.Form.{count_of};
 ghost use Rattle.vtd_running.specs.Seen.{form_seen};
 
+use crate::counts::count_of;
 use clap::error::ErrorKind;
 use clap::{Arg, ArgAction, ArgMatches, Command};
 use std::alloc::{AllocError, Global};
@@ -15,22 +17,28 @@ use xml_model::NoMemory;
 pub enum Words<'a> {
     /// To read the document of this name, and to go on after refused commands or not.
     Document(&'a str, bool),
+    /// To generate the document of so many orders, 1 to 1,000,000, and to carry out its script over it.
+    Generation(u32),
     /// Nothing: they are not of the form.
     NoForm,
 }
 
-/// The command: the flag `-k`, and the name of a document.
+/// The command: the flag `-k`, the option `-g` with its value, and the name of a document.
 fn vtd_command<'a>(alloc: Global) -> Result<Command<'a>, AllocError>
     ensures { IfOk result (λ command. app_of command ≡ vtd_app) }
 {
     let keep = Arg::new(alloc, "keep")
         .short('k')
         .action(ArgAction::SetTrue);
+    let generate = Arg::new(alloc, "generate")
+        .short('g')
+        .action(ArgAction::Set);
     let doc = Arg::new(alloc, "doc").action(ArgAction::Set);
     Command::new(alloc, "vtd")
         .no_binary_name(true)
         .disable_help_flag(true)
         .arg(keep)?
+        .arg(generate)?
         .arg(doc)
 }
 
@@ -41,16 +49,38 @@ fn has_flag(matches: &ArgMatches<'_>, id: &str) -> bool
     matches.get_str(id) == Some("true")
 }
 
-/// What the name of a document and the flag ask for.
-fn chosen<'a>(matches: &ArgMatches<'a>) -> Words<'a>
-    ensures { form_seen result ≡ choose (first_value (found_of matches.now) (codes "doc"))
-        (is_set (first_value (found_of matches.now) (codes "keep"))) }
+/// What the text of `-g` asks for.
+fn generation_of<'a>(count: &str) -> Words<'a>
+    ensures { form_seen result ≡ generation_of (count_of count.now) }
 {
-    let keep = has_flag(matches, "keep");
-    match matches.get_str("doc") {
-        Some(doc) => Words::Document(doc, keep),
+    match count_of(count) {
+        Some(count) => Words::Generation(count),
         None => Words::NoForm,
     }
+}
+
+/// What the name of a document, the text of `-g` and the flag `-k` ask for.
+fn choose<'a>(doc: Option<&'a str>, count: Option<&str>, keep: bool) -> Words<'a>
+    ensures { form_seen result ≡ choose (option_copied doc.entry) (option_copied count.entry) keep }
+{
+    match (doc, count) {
+        (Some(doc), None) => Words::Document(doc, keep),
+        (None, Some(count)) if !keep => generation_of(count),
+        _ => Words::NoForm,
+    }
+}
+
+/// What was found in the words asks for.
+fn chosen<'a>(matches: &ArgMatches<'a>) -> Words<'a>
+    ensures { form_seen result ≡ choose (first_value (found_of matches.now) (codes "doc"))
+        (first_value (found_of matches.now) (codes "generate"))
+        (is_set (first_value (found_of matches.now) (codes "keep"))) }
+{
+    choose(
+        matches.get_str("doc"),
+        matches.get_str("generate"),
+        has_flag(matches, "keep"),
+    )
 }
 
 /// What the words, those after the program's name, ask for.
