@@ -26,7 +26,9 @@ are_nodes document x (values.truth b) h = record { same = ap held_nodes h.same; 
 are_nodes document x (values.number n) h = record { same = ap held_nodes h.same; within = tt }
 are_nodes document x (values.text t) h = record { same = ap held_nodes h.same; within = tt }
 
-pub nodes_answered : (bytes : List ℕ) (nest : Forest) (bound : List (List ℕ × List ℕ)) (text : List ℕ) (t : Tree) (x : Value) → Reads bound text (Ok t) → gives_nodes t ≡ true → IsHeldFor (IsHeld (table.nodes_of bytes nest)) x (mean t (root_context bytes nest bound)) → IsAnswer (AreNodes (table.nodes_of bytes nest)) (AsksNodes bytes nest bound text) (held_nodes x)
+pub nodes_answered : (bytes : List ℕ) (nest : Forest) (bound : List (List ℕ × List ℕ)) (text : List ℕ) (t : Tree) (x : Value) → Reads bound text (Ok t) →
+    gives_nodes t ≡ true → IsHeldFor (IsHeld (table.nodes_of bytes nest)) x (mean t (root_context bytes nest bound)) →
+    IsAnswer (AreNodes (table.nodes_of bytes nest)) (AsksNodes bytes nest bound text) (held_nodes x)
 nodes_answered bytes nest bound text t x r g h = record {
   value = nodes_in h.value;
   held = are_nodes (table.nodes_of bytes nest) x h.value h.held;

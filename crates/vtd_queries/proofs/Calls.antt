@@ -45,6 +45,7 @@ not_memory P static.Fraction p = p
 not_memory P static.Range p = p
 not_memory P static.NotNodes p = p
 
-pub static_refused : (bound : List (List ℕ × List ℕ)) (text : List ℕ) (e : Expr) (f : StaticFault) → IsParse text e → IsFirst f (refusals bound (tree_of e)) → IsRefused (Reads bound text) (static_fault f)
+pub static_refused : (bound : List (List ℕ × List ℕ)) (text : List ℕ) (e : Expr) (f : StaticFault) → IsParse text e → IsFirst f (refusals bound (tree_of e)) →
+    IsRefused (Reads bound text) (static_fault f)
 static_refused bound text e f p h =
     not_memory (Reads bound text) f (subst (λ z. Reads bound text (unless_refused z (tree_of e))) h.1 (expression (tree_of e) (is_expression text e p)))

@@ -27,7 +27,15 @@ cut_from : (k d : ℕ) (b : Bool) (ts : List Token) → CutFrom k d b ts ⊎ Fre
 cut_from k d b [] = inr tt
 cut_from k d b (t ∷ ts) =
     elim (cut_from k (depth_after d t) (ends t) ts) [
-      | inl c ↦ inl (record { prefix = t ∷ c.prefix; token = c.token; rest = c.rest; whole = ap (λ x. t ∷ x) c.whole; level = c.level; is = c.is; later = c.later })
+      | inl c ↦ inl (record {
+        prefix = t ∷ c.prefix;
+        token = c.token;
+        rest = c.rest;
+        whole = ap (λ x. t ∷ x) c.whole;
+        level = c.level;
+        is = c.is;
+        later = c.later;
+      })
       | inr f ↦ here_or k d b t ts f
     ]
 
@@ -42,6 +50,12 @@ pub record LastCut (k : ℕ) (ts : List Token) : Type 0 where
 pub cut_or_free : (k : ℕ) (ts : List Token) → LastCut k ts ⊎ Free k 0 false ts
 cut_or_free k ts =
     elim (cut_from k 0 false ts) [
-      | inl c ↦ inl (record { prefix = c.prefix; token = c.token; rest = c.rest; whole = c.whole; cuts = record { level = c.level; is = c.is; later = c.later } })
+      | inl c ↦ inl (record {
+        prefix = c.prefix;
+        token = c.token;
+        rest = c.rest;
+        whole = c.whole;
+        cuts = record { level = c.level; is = c.is; later = c.later };
+      })
       | inr f ↦ inr f
     ]

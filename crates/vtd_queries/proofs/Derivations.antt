@@ -81,7 +81,8 @@ abbrev Then : {X : Type 0} → (X → Phrase) → Symbol → List Token → List
 Then view s us [] = ⊥
 Then view s us (v ∷ vs) = Some view s us × Some expr Predicate (v ∷ vs)
 
-after : {X : Type 0} {view : X → Phrase} {s : Symbol} (us vs ts : List Token) → us ++ vs ≡ ts → Shorter view s ts → ((xs : List Token) → length xs ≤ length ts → Either expr Predicate xs) → Decided (Then view s us vs)
+after : {X : Type 0} {view : X → Phrase} {s : Symbol} (us vs ts : List Token) → us ++ vs ≡ ts → Shorter view s ts →
+    ((xs : List Token) → length xs ≤ length ts → Either expr Predicate xs) → Decided (Then view s us vs)
 after us [] ts w left right = inr (λ x. x)
 after us (v ∷ vs) ts w left right =
     decided_both (decided (left us (left_shorter us v vs ts (sym w)))) (decided (right (v ∷ vs) (let l = right_shorter us v vs ts (sym w) in omega (arith, l))))
@@ -98,7 +99,8 @@ no_predicates some never predicates_none = some refl
 no_predicates some never (predicates_more {us} c (predicate d)) =
     never (record { one = us; other = _; whole = refl; passes = ((_, c), (_, predicate d)) })
 
-predicates : (ts : List Token) → Shorter exprs Predicates ts → ((xs : List Token) → length xs ≤ length ts → Either expr Predicate xs) → Either exprs Predicates ts
+predicates : (ts : List Token) → Shorter exprs Predicates ts → ((xs : List Token) → length xs ≤ length ts → Either expr Predicate xs) →
+    Either exprs Predicates ts
 predicates [] left right = inl (none, predicates_none)
 predicates (t ∷ ts) left right =
     elim (halves (Then exprs Predicates) (t ∷ ts) (λ us vs w. after us vs (t ∷ ts) w left right)) [
@@ -114,12 +116,14 @@ filters_made h = this h.one h.other h.whole h.passes
     this us [] w x = absurd x
     this us (v ∷ vs) w x = subst (λ z. Some filter_view FilterExpr z) (sym w) ((_, _), filter_more x.0.1 x.1.1)
 
-no_filter : {ts : List Token} {e : Phrase} → ((e : Phrase) → Derives PrimaryExpr ts e → ⊥) → (Halves (Then filter_view FilterExpr) ts → ⊥) → Derives FilterExpr ts e → ⊥
+no_filter : {ts : List Token} {e : Phrase} → ((e : Phrase) → Derives PrimaryExpr ts e → ⊥) → (Halves (Then filter_view FilterExpr) ts → ⊥) →
+    Derives FilterExpr ts e → ⊥
 no_filter alone never (filter_one d) = alone _ d
 no_filter alone never (filter_more {us} c (predicate d)) =
     never (record { one = us; other = _; whole = refl; passes = ((_, c), (_, predicate d)) })
 
-filters : (ts : List Token) → Either expr PrimaryExpr ts → Shorter filter_view FilterExpr ts → ((xs : List Token) → length xs ≤ length ts → Either expr Predicate xs) → Either filter_view FilterExpr ts
+filters : (ts : List Token) → Either expr PrimaryExpr ts → Shorter filter_view FilterExpr ts →
+    ((xs : List Token) → length xs ≤ length ts → Either expr Predicate xs) → Either filter_view FilterExpr ts
 filters ts (inl x) left right = inl ((x.0, none), filter_one x.1)
 filters ts (inr alone) left right =
     elim (halves (Then filter_view FilterExpr) ts (λ us vs w. after us vs ts w left right)) [
@@ -136,7 +140,8 @@ bracketed : {X : Type 0} {view : X → Phrase} {s : Symbol} (us vs : List Token)
 bracketed us (Close ∷ []) d = d
 bracketed us _ d = inr (λ x. x)
 
-brackets : {X : Type 0} (view : X → Phrase) (s : Symbol) (ts : List Token) → ((us : List Token) → length us ≤ length ts → Either view s us) → Decided (Halves (Bracketed view s) ts)
+brackets : {X : Type 0} (view : X → Phrase) (s : Symbol) (ts : List Token) → ((us : List Token) → length us ≤ length ts → Either view s us) →
+    Decided (Halves (Bracketed view s) ts)
 brackets view s ts inner =
     halves (Bracketed view s) ts (λ us vs w. bracketed us vs (decided (inner us (let l = ap length w in let m = length-append us vs in omega (arith, l, m)))))
 
@@ -163,7 +168,8 @@ closes_or (Close ∷ []) = inl refl
 closes_or [] = inr (λ h. cc)
 closes_or (t ∷ ts) = inr (λ h. cc)
 
-called : {f : List ℕ} {ts : List Token} → Decided (ts ≡ Close ∷ []) → Decided (Halves (Bracketed exprs Arguments) ts) → Either expr PrimaryExpr (Function f ∷ Open ∷ ts)
+called : {f : List ℕ} {ts : List Token} → Decided (ts ≡ Close ∷ []) → Decided (Halves (Bracketed exprs Arguments) ts) →
+    Either expr PrimaryExpr (Function f ∷ Open ∷ ts)
 called {f} (inl e) o = inl (call f none, rw e call_none)
 called {f} (inr some) (inl h) = inl (call_made h)
 called {f} (inr some) (inr never) = inr (λ e d. elim (primary_call d) [
@@ -245,7 +251,8 @@ From us (Slash ∷ vs) = Some filter_view FilterExpr us × Some walk RelativeLoc
 From us (SlashSlash ∷ vs) = Some filter_view FilterExpr us × Some walk RelativeLocationPath vs
 From us _ = ⊥
 
-both_sides : (us : List Token) (t : Token) (vs ts : List Token) → us ++ t ∷ vs ≡ ts → Shorter filter_view FilterExpr ts → Shorter walk RelativeLocationPath ts → Decided (Some filter_view FilterExpr us × Some walk RelativeLocationPath vs)
+both_sides : (us : List Token) (t : Token) (vs ts : List Token) → us ++ t ∷ vs ≡ ts → Shorter filter_view FilterExpr ts →
+    Shorter walk RelativeLocationPath ts → Decided (Some filter_view FilterExpr us × Some walk RelativeLocationPath vs)
 both_sides us t vs ts w left right =
     decided_both (decided (left us (left_shorter us t vs ts (sym w)))) (decided (right vs (right_shorter us t vs ts (sym w))))
 
@@ -264,7 +271,8 @@ from_made h = this h.one h.other h.whole h.passes
     this us [] w x = absurd x
     this us (t ∷ vs) w x = absurd x
 
-no_path : {ts : List Token} {e : Phrase} → ((e : Phrase) → Derives LocationPath ts e → ⊥) → ((e : Phrase) → Derives FilterExpr ts e → ⊥) → (Halves From ts → ⊥) → Derives PathExpr ts e → ⊥
+no_path : {ts : List Token} {e : Phrase} → ((e : Phrase) → Derives LocationPath ts e → ⊥) → ((e : Phrase) → Derives FilterExpr ts e → ⊥) →
+    (Halves From ts → ⊥) → Derives PathExpr ts e → ⊥
 no_path places alone never (path_location d) = places _ d
 no_path places alone never (path_filter d) = alone _ d
 no_path places alone never (path_slash {us} {vs} c d) =
@@ -272,7 +280,8 @@ no_path places alone never (path_slash {us} {vs} c d) =
 no_path places alone never (path_slash_slash {us} {vs} c d) =
     never (record { one = us; other = SlashSlash ∷ vs; whole = refl; passes = ((_, c), (_, d)) })
 
-paths : (ts : List Token) → Either expr LocationPath ts → Either filter_view FilterExpr ts → Shorter filter_view FilterExpr ts → Shorter walk RelativeLocationPath ts → Either expr PathExpr ts
+paths : (ts : List Token) → Either expr LocationPath ts → Either filter_view FilterExpr ts → Shorter filter_view FilterExpr ts →
+    Shorter walk RelativeLocationPath ts → Either expr PathExpr ts
 paths ts (inl x) f left right = inl (x.0, path_location x.1)
 paths ts (inr places) (inl x) left right = inl (_, path_filter x.1)
 paths ts (inr places) (inr alone) left right =
@@ -292,7 +301,8 @@ rest_within ts t h =
     let w = length-append k.0 (after_test (after_axis ts)) in
     omega (arith, x, y, z, w)
 
-tested : (ts : List Token) → dot_axis ts ≡ None → (o : Option StepTest) → test_of (after_axis ts) ≡ o → ((us : List Token) → length us ≤ length ts → Either exprs Predicates us) → Either walk StepPart ts
+tested : (ts : List Token) → dot_axis ts ≡ None → (o : Option StepTest) → test_of (after_axis ts) ≡ o →
+    ((us : List Token) → length us ≤ length ts → Either exprs Predicates us) → Either walk StepPart ts
 tested ts plain None e rest = inr (λ f d. no_step plain e f d)
 tested ts plain (There t) e rest = this (rest (after_test (after_axis ts)) (rest_within ts t e))
   where
@@ -300,7 +310,8 @@ tested ts plain (There t) e rest = this (rest (after_test (after_axis ts)) (rest
     this (inl x) = inl (_, step_made ts e x.1)
     this (inr never) = inr (λ f d. let x = step_rest plain f d in never x.0 x.1)
 
-step_of : (ts : List Token) → (o : Option Axis) → dot_axis ts ≡ o → ((us : List Token) → length us ≤ length ts → Either exprs Predicates us) → Either walk StepPart ts
+step_of : (ts : List Token) → (o : Option Axis) → dot_axis ts ≡ o → ((us : List Token) → length us ≤ length ts → Either exprs Predicates us) →
+    Either walk StepPart ts
 step_of ts (There a) e rest = inl (_, dot_made ts a e)
 step_of ts None e rest = tested ts e (test_of (after_axis ts)) refl rest
 
@@ -350,28 +361,49 @@ Lighter n = (s : Symbol) (us : List Token) → 20 * length us + weight s < n →
 shorter : (n : ℕ) (s t : Symbol) (ts : List Token) → 20 * length ts + weight s ≤ n → Lighter n → Shorter (phrase t) t ts
 shorter n s t ts h less us l = less t us (let w = light t in omega (arith, h, l, w))
 
-within : (n : ℕ) (s t : Symbol) (ts : List Token) → 20 * length ts + weight s ≤ n → weight t < weight s → Lighter n → (us : List Token) → length us ≤ length ts → Known t us
+within : (n : ℕ) (s t : Symbol) (ts : List Token) → 20 * length ts + weight s ≤ n → weight t < weight s → Lighter n → (us : List Token) →
+    length us ≤ length ts → Known t us
 within n s t ts h k less us l = less t us (omega (arith, h, k, l))
 
 same : (n : ℕ) (s t : Symbol) (ts : List Token) → 20 * length ts + weight s ≤ n → weight t < weight s → Lighter n → Known t ts
 same n s t ts h k less = less t ts (omega (arith, h, k))
 
 by_weight : (n : ℕ) (s : Symbol) (ts : List Token) → 20 * length ts + weight s ≤ n → Lighter n → Known s ts
-by_weight n OrExpr ts h less = binary rust.Or ts (same n OrExpr AndExpr ts h (omega arith) less) (shorter n OrExpr OrExpr ts h less) (shorter n OrExpr AndExpr ts h less)
-by_weight n AndExpr ts h less = binary rust.And ts (same n AndExpr EqualityExpr ts h (omega arith) less) (shorter n AndExpr AndExpr ts h less) (shorter n AndExpr EqualityExpr ts h less)
-by_weight n EqualityExpr ts h less = binary rust.Equality ts (same n EqualityExpr RelationalExpr ts h (omega arith) less) (shorter n EqualityExpr EqualityExpr ts h less) (shorter n EqualityExpr RelationalExpr ts h less)
-by_weight n RelationalExpr ts h less = binary rust.Relational ts (same n RelationalExpr AdditiveExpr ts h (omega arith) less) (shorter n RelationalExpr RelationalExpr ts h less) (shorter n RelationalExpr AdditiveExpr ts h less)
-by_weight n AdditiveExpr ts h less = binary rust.Additive ts (same n AdditiveExpr MultiplicativeExpr ts h (omega arith) less) (shorter n AdditiveExpr AdditiveExpr ts h less) (shorter n AdditiveExpr MultiplicativeExpr ts h less)
-by_weight n MultiplicativeExpr ts h less = binary rust.Multiplicative ts (same n MultiplicativeExpr UnaryExpr ts h (omega arith) less) (shorter n MultiplicativeExpr MultiplicativeExpr ts h less) (shorter n MultiplicativeExpr UnaryExpr ts h less)
-by_weight n UnionExpr ts h less = binary rust.Union ts (same n UnionExpr PathExpr ts h (omega arith) less) (shorter n UnionExpr UnionExpr ts h less) (shorter n UnionExpr PathExpr ts h less)
+by_weight n OrExpr ts h less =
+    binary rust.Or ts (same n OrExpr AndExpr ts h (omega arith) less) (shorter n OrExpr OrExpr ts h less) (shorter n OrExpr AndExpr ts h less)
+by_weight n AndExpr ts h less =
+    binary rust.And ts (same n AndExpr EqualityExpr ts h (omega arith) less) (shorter n AndExpr AndExpr ts h less) (shorter n AndExpr EqualityExpr ts h less)
+by_weight n EqualityExpr ts h less =
+    binary rust.Equality ts (same n EqualityExpr RelationalExpr ts h (omega arith) less) (shorter n EqualityExpr EqualityExpr ts h less)
+    (shorter n EqualityExpr RelationalExpr ts h less)
+by_weight n RelationalExpr ts h less =
+    binary rust.Relational ts (same n RelationalExpr AdditiveExpr ts h (omega arith) less) (shorter n RelationalExpr RelationalExpr ts h less)
+    (shorter n RelationalExpr AdditiveExpr ts h less)
+by_weight n AdditiveExpr ts h less =
+    binary rust.Additive ts (same n AdditiveExpr MultiplicativeExpr ts h (omega arith) less) (shorter n AdditiveExpr AdditiveExpr ts h less)
+    (shorter n AdditiveExpr MultiplicativeExpr ts h less)
+by_weight n MultiplicativeExpr ts h less =
+    binary rust.Multiplicative ts (same n MultiplicativeExpr UnaryExpr ts h (omega arith) less) (shorter n MultiplicativeExpr MultiplicativeExpr ts h less)
+    (shorter n MultiplicativeExpr UnaryExpr ts h less)
+by_weight n UnionExpr ts h less =
+    binary rust.Union ts (same n UnionExpr PathExpr ts h (omega arith) less) (shorter n UnionExpr UnionExpr ts h less)
+    (shorter n UnionExpr PathExpr ts h less)
 by_weight n UnaryExpr ts h less = unary ts (same n UnaryExpr UnionExpr ts h (omega arith) less) (shorter n UnaryExpr UnaryExpr ts h less)
-by_weight n PathExpr ts h less = paths ts (same n PathExpr LocationPath ts h (omega arith) less) (same n PathExpr FilterExpr ts h (omega arith) less) (shorter n PathExpr FilterExpr ts h less) (shorter n PathExpr RelativeLocationPath ts h less)
-by_weight n LocationPath ts h less = location ts (same n LocationPath RelativeLocationPath ts h (omega arith) less) (shorter n LocationPath RelativeLocationPath ts h less)
-by_weight n RelativeLocationPath ts h less = relative ts (same n RelativeLocationPath StepPart ts h (omega arith) less) (shorter n RelativeLocationPath RelativeLocationPath ts h less) (shorter n RelativeLocationPath StepPart ts h less)
+by_weight n PathExpr ts h less =
+    paths ts (same n PathExpr LocationPath ts h (omega arith) less) (same n PathExpr FilterExpr ts h (omega arith) less)
+    (shorter n PathExpr FilterExpr ts h less) (shorter n PathExpr RelativeLocationPath ts h less)
+by_weight n LocationPath ts h less =
+    location ts (same n LocationPath RelativeLocationPath ts h (omega arith) less) (shorter n LocationPath RelativeLocationPath ts h less)
+by_weight n RelativeLocationPath ts h less =
+    relative ts (same n RelativeLocationPath StepPart ts h (omega arith) less) (shorter n RelativeLocationPath RelativeLocationPath ts h less)
+    (shorter n RelativeLocationPath StepPart ts h less)
 by_weight n StepPart ts h less = step_of ts (dot_axis ts) refl (within n StepPart Predicates ts h (omega arith) less)
-by_weight n FilterExpr ts h less = filters ts (same n FilterExpr PrimaryExpr ts h (omega arith) less) (shorter n FilterExpr FilterExpr ts h less) (within n FilterExpr Predicate ts h (omega arith) less)
+by_weight n FilterExpr ts h less =
+    filters ts (same n FilterExpr PrimaryExpr ts h (omega arith) less) (shorter n FilterExpr FilterExpr ts h less)
+    (within n FilterExpr Predicate ts h (omega arith) less)
 by_weight n PrimaryExpr ts h less = primary ts (shorter n PrimaryExpr OrExpr ts h less) (shorter n PrimaryExpr Arguments ts h less)
-by_weight n Arguments ts h less = arguments ts (same n Arguments OrExpr ts h (omega arith) less) (shorter n Arguments Arguments ts h less) (shorter n Arguments OrExpr ts h less)
+by_weight n Arguments ts h less =
+    arguments ts (same n Arguments OrExpr ts h (omega arith) less) (shorter n Arguments Arguments ts h less) (shorter n Arguments OrExpr ts h less)
 by_weight n Predicates ts h less = predicates ts (shorter n Predicates Predicates ts h less) (within n Predicates Predicate ts h (omega arith) less)
 by_weight n Predicate ts h less = one_predicate ts (shorter n Predicate OrExpr ts h less)
 

@@ -11,7 +11,8 @@ pub record Halves {A : Type 0} (P : List A → List A → Type 0) (ts : List A) 
 abbrev pub Decided : Type 0 → Type 0
 Decided X = X ⊎ (X → ⊥)
 
-none_first : {A : Type 0} (P : List A → List A → Type 0) (t : A) (ts : List A) → (P [] (t ∷ ts) → ⊥) → (Halves (λ us vs. P (t ∷ us) vs) ts → ⊥) → Halves P (t ∷ ts) → ⊥
+none_first : {A : Type 0} (P : List A → List A → Type 0) (t : A) (ts : List A) → (P [] (t ∷ ts) → ⊥) → (Halves (λ us vs. P (t ∷ us) vs) ts → ⊥) →
+    Halves P (t ∷ ts) → ⊥
 none_first {A} P t ts never none h = this h.one h.other h.whole h.passes
   where
     this : (us vs : List A) → t ∷ ts ≡ us ++ vs → P us vs → ⊥

@@ -75,7 +75,8 @@ pub right_shorter : (us : List Token) (t : Token) (vs ts : List Token) → ts �
 right_shorter us t vs ts w = let l = ap length w in let m = length-append us (t ∷ vs) in omega (arith, l, m)
 
 -- two parts with an operator between
-binary_join : {l : Binary} {t : Token} {us vs : List Token} {a b : Tree} → Operates l t → Derives (symbol (form l)) us (expr a) → Derives (operand (form l)) vs (expr b) → Some expr (symbol (form l)) (us ++ t ∷ vs)
+binary_join : {l : Binary} {t : Token} {us vs : List Token} {a b : Tree} → Operates l t → Derives (symbol (form l)) us (expr a) →
+    Derives (operand (form l)) vs (expr b) → Some expr (symbol (form l)) (us ++ t ∷ vs)
 binary_join by_or c d = (_, or_more c d)
 binary_join by_and c d = (_, and_more c d)
 binary_join (by_equality is) c d = (_, equality_more is c d)
@@ -85,27 +86,34 @@ binary_join (by_multiplicative is) c d = (_, multiplicative_more is c d)
 binary_join by_bar c d = (_, union_more c d)
 
 -- no part before the cut, or none after it
-none_left : (l : Level) {ts : List Token} (c : LastCut (rank_of l) ts) → ((e : Phrase) → Derives (symbol l) c.prefix e → ⊥) → (e : Phrase) → Derives (symbol l) ts e → ⊥
+none_left : (l : Level) {ts : List Token} (c : LastCut (rank_of l) ts) → ((e : Phrase) → Derives (symbol l) c.prefix e → ⊥) → (e : Phrase) →
+    Derives (symbol l) ts e → ⊥
 none_left l {ts} c never e d = let a = at_cut l (subst (λ x. Derives (symbol l) x e) c.whole d) c.cuts in never a.one a.left
 
-none_right : (l : Level) {ts : List Token} (c : LastCut (rank_of l) ts) → ((e : Phrase) → Derives (operand l) c.rest e → ⊥) → (e : Phrase) → Derives (symbol l) ts e → ⊥
+none_right : (l : Level) {ts : List Token} (c : LastCut (rank_of l) ts) → ((e : Phrase) → Derives (operand l) c.rest e → ⊥) → (e : Phrase) →
+    Derives (symbol l) ts e → ⊥
 none_right l {ts} c never e d = let a = at_cut l (subst (λ x. Derives (symbol l) x e) c.whole d) c.cuts in never a.other a.right
 
-none_alone : (l : Level) {ts : List Token} → Free (rank_of l) 0 false ts → ((e : Phrase) → Derives (operand l) ts e → ⊥) → (e : Phrase) → Derives (symbol l) ts e → ⊥
+none_alone : (l : Level) {ts : List Token} → Free (rank_of l) 0 false ts → ((e : Phrase) → Derives (operand l) ts e → ⊥) → (e : Phrase) →
+    Derives (symbol l) ts e → ⊥
 none_alone l f never e d = let a = cut_none l f e d in never a.0 a.1
 
 -- where a list is cut, each phrase of it has two parts
-at_level : {X Y : Type 0} (view : X → Phrase) (part : Y → Phrase) (l : Level) {ts : List Token} (c : LastCut (rank_of l) ts) → ((x : X) (y : Y) → Derives (symbol l) c.prefix (view x) → Derives (operand l) c.rest (part y) → Some view (symbol l) (c.prefix ++ c.token ∷ c.rest)) → Either view (symbol l) c.prefix → Either part (operand l) c.rest → Either view (symbol l) ts
+at_level : {X Y : Type 0} (view : X → Phrase) (part : Y → Phrase) (l : Level) {ts : List Token} (c : LastCut (rank_of l) ts) →
+    ((x : X) (y : Y) → Derives (symbol l) c.prefix (view x) → Derives (operand l) c.rest (part y) → Some view (symbol l) (c.prefix ++ c.token ∷ c.rest)) →
+    Either view (symbol l) c.prefix → Either part (operand l) c.rest → Either view (symbol l) ts
 at_level view part l c join (inr never) right = inr (none_left l c never)
 at_level view part l c join (inl x) (inr never) = inr (none_right l c never)
 at_level view part l c join (inl x) (inl y) =
     inl (subst (λ z. Some view (symbol l) z) (sym c.whole) (join x.0 y.0 x.1 y.1))
 
-alone : {X Y : Type 0} (view : X → Phrase) (part : Y → Phrase) (l : Level) {ts : List Token} → Free (rank_of l) 0 false ts → ((y : Y) → Derives (operand l) ts (part y) → Some view (symbol l) ts) → Either part (operand l) ts → Either view (symbol l) ts
+alone : {X Y : Type 0} (view : X → Phrase) (part : Y → Phrase) (l : Level) {ts : List Token} → Free (rank_of l) 0 false ts →
+    ((y : Y) → Derives (operand l) ts (part y) → Some view (symbol l) ts) → Either part (operand l) ts → Either view (symbol l) ts
 alone view part l f single (inl y) = inl (single y.0 y.1)
 alone view part l f single (inr never) = inr (none_alone l f never)
 
-pub binary : (l : Binary) (ts : List Token) → Either expr (operand (form l)) ts → Shorter expr (symbol (form l)) ts → Shorter expr (operand (form l)) ts → Either expr (symbol (form l)) ts
+pub binary : (l : Binary) (ts : List Token) → Either expr (operand (form l)) ts → Shorter expr (symbol (form l)) ts → Shorter expr (operand (form l)) ts →
+    Either expr (symbol (form l)) ts
 binary l ts whole left right =
     elim (cut_or_free (rank_of (form l)) ts) [
       | inl c ↦
@@ -144,7 +152,8 @@ rank_slash b (Compare how) h = let r = compare_rank b how in let high = r.1 in a
 rank_slash b (Arithmetic op) h = let r = arithmetic_rank b op in absurd (r.1 h)
 rank_slash b _ h = absurd (omega arith)
 
-arguments_join : {us vs : List Token} (t : Token) → t ≡ Comma → (es : Trees) (a : Tree) → Derives Arguments us (exprs es) → Derives OrExpr vs (expr a) → Some exprs Arguments (us ++ t ∷ vs)
+arguments_join : {us vs : List Token} (t : Token) → t ≡ Comma → (es : Trees) (a : Tree) → Derives Arguments us (exprs es) → Derives OrExpr vs (expr a) →
+    Some exprs Arguments (us ++ t ∷ vs)
 arguments_join {us} {vs} t e es a c d = (appended es a, rw e (arguments_more c d))
 
 pub arguments : (ts : List Token) → Either expr OrExpr ts → Shorter exprs Arguments ts → Shorter expr OrExpr ts → Either exprs Arguments ts
@@ -156,11 +165,13 @@ arguments ts whole left right =
       | inr f ↦ alone exprs expr ArgumentLevel f (λ a d. (more a none, arguments_one d)) whole
     ]
 
-relative_join : {us vs : List Token} (t : Token) → (t ≡ Slash) ⊎ (t ≡ SlashSlash) → (v w : Walk) → Derives RelativeLocationPath us (walk v) → Derives StepPart vs (walk w) → Some walk RelativeLocationPath (us ++ t ∷ vs)
+relative_join : {us vs : List Token} (t : Token) → (t ≡ Slash) ⊎ (t ≡ SlashSlash) → (v w : Walk) → Derives RelativeLocationPath us (walk v) →
+    Derives StepPart vs (walk w) → Some walk RelativeLocationPath (us ++ t ∷ vs)
 relative_join t (inl e) v w c d = (joined v w, rw e (relative_slash c d))
 relative_join t (inr e) v w c d = (joined v (any_depth w), rw e (relative_slash_slash c d))
 
-pub relative : (ts : List Token) → Either walk StepPart ts → Shorter walk RelativeLocationPath ts → Shorter walk StepPart ts → Either walk RelativeLocationPath ts
+pub relative : (ts : List Token) → Either walk StepPart ts → Shorter walk RelativeLocationPath ts → Shorter walk StepPart ts →
+    Either walk RelativeLocationPath ts
 relative ts whole left right =
     elim (cut_or_free 9 ts) [
       | inl c ↦

@@ -34,23 +34,34 @@ denote : (all : List Entry) (ns : List Node) (es : List Entry) → AreNodes all 
 denote all ns es h = subst (λ z. Denote all z es) (sym h.same) (denote_all all es h.within)
 
 -- a fault that came through a `?`
-pub through : (P : Result Operated OperationFault → Type 0) (r : Result Operated OperationFault) (f : OperationFault) → IsErrAnd r (λ made. made ≡ f) → P (Err f) → P r
+pub through : (P : Result Operated OperationFault → Type 0) (r : Result Operated OperationFault) (f : OperationFault) → IsErrAnd r (λ made. made ≡ f) →
+    P (Err f) → P r
 through P r f h p = let e = err_from_is_err_and r h in rw (e.1, e.2) p
 
 -- the nodes that a text answers
 abbrev Answered : (bytes : List ℕ) (nest : Forest) (bound : List (List ℕ × List ℕ)) (text : List ℕ) (ns : List Node) → Type 0
 Answered bytes nest bound text ns = IsAnswer (AreNodes (nodes_of bytes nest)) (AsksNodes bytes nest bound text) ns
 
-edit_refused_on : (bytes : List ℕ) (nest : Forest) (bound : List (List ℕ × List ℕ)) (text : List ℕ) (operation : Operation) (es : List Entry) (f : EditFault) → AsksNodes bytes nest bound text (Ok es) → outcomes.IsRefused (outcome bytes operation es) f → Makes (Operates bytes nest bound text operation) (Err (edit_fault f))
+edit_refused_on : (bytes : List ℕ) (nest : Forest) (bound : List (List ℕ × List ℕ)) (text : List ℕ) (operation : Operation) (es : List Entry) (f : EditFault) →
+    AsksNodes bytes nest bound text (Ok es) → outcomes.IsRefused (outcome bytes operation es) f →
+    Makes (Operates bytes nest bound text operation) (Err (edit_fault f))
 edit_refused_on bytes nest bound text operation es edit.NoMemory a h = tt
 edit_refused_on bytes nest bound text operation es edit.Name a h = record { found = Ok es; asked = a; is = sym (ap (counted (length es)) h) }
 edit_refused_on bytes nest bound text operation es (edit.Kind at) a h = record { found = Ok es; asked = a; is = sym (ap (counted (length es)) h) }
 
-pub edit_refused : (bytes : List ℕ) (lists : Lists) (nest : Forest) (bound : List (List ℕ × List ℕ)) (text : List ℕ) (operation : Operation) (ns : List Node) (f : EditFault) → IsNavOf bytes lists nest → Answered bytes nest bound text ns → ForEachEntries bytes lists ns (λ es. outcomes.IsRefused (outcome bytes operation es) f) → Makes (Operates bytes nest bound text operation) (Err (edit_fault f))
+pub edit_refused : (bytes : List ℕ) (lists : Lists) (nest : Forest) (bound : List (List ℕ × List ℕ)) (text : List ℕ)
+    (operation : Operation) (ns : List Node) (f : EditFault) →
+    IsNavOf bytes lists nest → Answered bytes nest bound text ns → ForEachEntries bytes lists ns (λ es. outcomes.IsRefused (outcome bytes operation es) f) →
+    Makes (Operates bytes nest bound text operation) (Err (edit_fault f))
 edit_refused bytes lists nest bound text operation ns f nav a h =
-    edit_refused_on bytes nest bound text operation a.value f a.answers (h nest (nest_of_table bytes lists nest nav) a.value (denote (nodes_of bytes nest) ns a.value a.held))
+    let is = h nest (nest_of_table bytes lists nest nav) a.value (denote (nodes_of bytes nest) ns a.value a.held) in
+    edit_refused_on bytes nest bound text operation a.value f a.answers is
 
-pub made : (bytes : List ℕ) (lists : Lists) (nest : Forest) (bound : List (List ℕ × List ℕ)) (text : List ℕ) (operation : Operation) (ns : List Node) (splices : List Splice) (n : ℕ) → n ≡ length ns → IsNavOf bytes lists nest → Answered bytes nest bound text ns → ForEachEntries bytes lists ns (λ es. outcome bytes operation es ≡ Ok splices) → Operates bytes nest bound text operation (Ok (record { count = n; splices = splices }))
+pub made : (bytes : List ℕ) (lists : Lists) (nest : Forest) (bound : List (List ℕ × List ℕ)) (text : List ℕ)
+    (operation : Operation) (ns : List Node) (splices : List Splice) (n : ℕ) →
+    n ≡ length ns → IsNavOf bytes lists nest → Answered bytes nest bound text ns →
+    ForEachEntries bytes lists ns (λ es. outcome bytes operation es ≡ Ok splices) →
+    Operates bytes nest bound text operation (Ok (record { count = n; splices = splices }))
 made bytes lists nest bound text operation ns splices n e nav a h =
     let is = h nest (nest_of_table bytes lists nest nav) a.value (denote (nodes_of bytes nest) ns a.value a.held) in
     let count : n ≡ length a.value = e ∙ ap length a.held.same ∙ length-map a.value node_of in

@@ -53,7 +53,8 @@ one_reading bound text a b (expression t x) (expression u y) =
 abbrev Reading : List (List ℕ × List ℕ) → List ℕ → Type 0
 Reading bound text = (a : Result Tree QueryFault) × Reads bound text a
 
-of_tokens : (bound : List (List ℕ × List ℕ)) (text : List ℕ) (ts : List Token) → length text ≤ longest_text → Splits false (chars text) ts → (IsDeep ts → ⊥) → Either expr OrExpr ts → Reading bound text
+of_tokens : (bound : List (List ℕ × List ℕ)) (text : List ℕ) (ts : List Token) → length text ≤ longest_text → Splits false (chars text) ts → (IsDeep ts → ⊥) →
+    Either expr OrExpr ts → Reading bound text
 of_tokens bound text ts short d shallow (inl a) =
     (_, expression a.0 (record { short = short; tokens = ts; split = d; shallow = shallow; derived = a.1 }))
 of_tokens bound text ts short d shallow (inr never) = (
@@ -65,7 +66,8 @@ of_tokens bound text ts short d shallow (inr never) = (
   }),
 )
 
-split_text : (bound : List (List ℕ × List ℕ)) (text : List ℕ) (ts : List Token) → length text ≤ longest_text → Splits false (chars text) ts → (b : Bool) → b ≡ deep_from 0 0 ts → Reading bound text
+split_text : (bound : List (List ℕ × List ℕ)) (text : List ℕ) (ts : List Token) → length text ≤ longest_text → Splits false (chars text) ts → (b : Bool) →
+    b ≡ deep_from 0 0 ts → Reading bound text
 split_text bound text ts short d true e =
     (_, deep (record { short = short; tokens = ts; split = d; deep = deep_is ts e refl }))
 split_text bound text ts short d false e = of_tokens bound text ts short d (deep_not ts e refl) (derivation ts)

@@ -31,7 +31,9 @@ space_within (c ∷ cs) = this (space_within cs) (is_space c)
     this i false = omega arith
 
 -- by the first word of what is left
-by_token : (n : ℕ) (after : Bool) (rest : List ℕ) → ((after : Bool) (cs : List ℕ) → length cs < n → Splitting after cs) → after_space rest ≡ rest → rest ≢ [] → word_length rest ≢ 0 → length (drop (word_length rest) rest) < n → (o : Option Token) → token_of after (take (word_length rest) rest) (drop (word_length rest) rest) ≡ o → Splitting after rest
+by_token : (n : ℕ) (after : Bool) (rest : List ℕ) → ((after : Bool) (cs : List ℕ) → length cs < n → Splitting after cs) → after_space rest ≡ rest →
+    rest ≢ [] → word_length rest ≢ 0 → length (drop (word_length rest) rest) < n → (o : Option Token) →
+    token_of after (take (word_length rest) rest) (drop (word_length rest) rest) ≡ o → Splitting after rest
 by_token n after rest others trimmed some word near None e =
     inr (λ ts d. let f = first_token trimmed some (word_within rest) d in let r = f.read in cc)
 by_token n after rest others trimmed some word near (Some t) e = this (others (closes_operand t) (drop (word_length rest) rest) near)
@@ -44,7 +46,8 @@ by_token n after rest others trimmed some word near (Some t) e = this (others (c
         let same : f.token ≡ t = cc in
         never f.others (subst (λ z. Splits (closes_operand z) (drop (word_length rest) rest) f.others) same f.split))
 
-by_word : (n : ℕ) (after : Bool) (rest : List ℕ) → ((after : Bool) (cs : List ℕ) → length cs < n → Splitting after cs) → after_space rest ≡ rest → length rest < suc n → Splitting after rest
+by_word : (n : ℕ) (after : Bool) (rest : List ℕ) → ((after : Bool) (cs : List ℕ) → length cs < n → Splitting after cs) → after_space rest ≡ rest →
+    length rest < suc n → Splitting after rest
 by_word n after [] others trimmed near = inl ([], done blank_nil)
 by_word n after (c ∷ cs) others trimmed near = this (word_length (c ∷ cs) == 0) refl
   where
@@ -53,7 +56,8 @@ by_word n after (c ∷ cs) others trimmed near = this (word_length (c ∷ cs) ==
     this false e =
         let word = eqb-false (word_length (c ∷ cs)) 0 e in
         let back = length-drop (word_length (c ∷ cs)) (c ∷ cs) in
-        by_token n after (c ∷ cs) others trimmed (λ h. cc) word (omega (arith, near, back, word)) (token_of after (take (word_length (c ∷ cs)) (c ∷ cs)) (drop (word_length (c ∷ cs)) (c ∷ cs))) refl
+        by_token n after (c ∷ cs) others trimmed (λ h. cc) word (omega (arith, near, back, word))
+        (token_of after (take (word_length (c ∷ cs)) (c ∷ cs)) (drop (word_length (c ∷ cs)) (c ∷ cs))) refl
 
 splitting_to : (n : ℕ) (after : Bool) (cs : List ℕ) → length cs < n → Splitting after cs
 splitting_to zero after cs h = absurd (omega arith)

@@ -93,7 +93,9 @@ point_within n k (c ∷ cs) h = this (run_within is_decimal_digit cs) (c == 46) 
     this i false b = omega (arith, h)
 
 number_within : (cs : List ℕ) → number_length cs ≤ length cs
-number_within cs = point_within (run is_decimal_digit cs) (length cs) (drop (run is_decimal_digit cs) cs) (after_within (run is_decimal_digit cs) cs (run_within is_decimal_digit cs))
+number_within cs =
+    let n = run is_decimal_digit cs in
+    point_within n (length cs) (drop n cs) (after_within n cs (run_within is_decimal_digit cs))
 
 closed_within : (n m : ℕ) → closed_length n m ≤ suc m
 closed_within n m = this (nat_lt n m) refl
@@ -106,7 +108,8 @@ literal_within : (cs : List ℕ) → literal_length cs ≤ length cs
 literal_within [] = omega arith
 literal_within (q ∷ cs) = this (closed_within (run (is_other q) cs) (length cs)) (is_quote q)
   where
-    this : closed_length (run (is_other q) cs) (length cs) ≤ suc (length cs) → (b : Bool) → cond b (closed_length (run (is_other q) cs) (length cs)) 0 ≤ length (q ∷ cs)
+    this : closed_length (run (is_other q) cs) (length cs) ≤ suc (length cs) → (b : Bool) →
+        cond b (closed_length (run (is_other q) cs) (length cs)) 0 ≤ length (q ∷ cs)
     this i true = omega (arith, i)
     this i false = omega arith
 

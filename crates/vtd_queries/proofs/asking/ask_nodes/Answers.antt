@@ -4,4 +4,5 @@ use Rattle.vtd_queries.proofs.asking.ask_nodes.Goals as goal
 
 pub returns-clause-answers : goal.returns-clause-answers
 returns-clause-answers g c =
-    λ nest nav. rw c.nodes_in.ensures (nodes_answered _ nest _ _ _ _ c.in_ok-expr.ensures.read (sym c.gives_nodes.ensures ∙ c.if-not-gives_nodes.false) (c.in_ok-value.ensures.means nest nav))
+    let given = sym c.gives_nodes.ensures ∙ c.if-not-gives_nodes.false in
+    λ nest nav. rw c.nodes_in.ensures (nodes_answered _ nest _ _ _ _ c.in_ok-expr.ensures.read given (c.in_ok-value.ensures.means nest nav))

@@ -9,7 +9,8 @@ returns-in_err-expr-clause-refused c =
 
 pub returns-in_err-check-clause-refused : goal.returns-in_err-check-clause-refused
 returns-in_err-check-clause-refused c =
-    through _ (IsRefused (Reads c.args.bindings.now c.args.text.now)) _ c.from_residual-in_err-check.ensures.1 (static_refused _ _ _ _ c.in_ok-expr.ensures.expression c.in_err-check.ensures.first)
+    through _ (IsRefused (Reads c.args.bindings.now c.args.text.now)) _ c.from_residual-in_err-check.ensures.1
+    (static_refused _ _ _ _ c.in_ok-expr.ensures.expression c.in_err-check.ensures.first)
 
 pub returns-clause-read : goal.returns-clause-read
 returns-clause-read c = is_read _ _ _ c.in_ok-expr.ensures.expression c.in_ok-check.ensures.none
