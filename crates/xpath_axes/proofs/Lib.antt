@@ -5,3 +5,4 @@ pub mod ClimbLemmas
 pub mod BackLemmas
 pub mod FirstLemmas
 pub mod OrderLemmas
+pub mod ToldLemmas

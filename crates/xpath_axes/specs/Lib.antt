@@ -3,3 +3,4 @@ pub mod Walks
 pub mod Climbs
 pub mod Backs
 pub mod Iters
+pub mod Told

@@ -12,16 +12,18 @@ ghost use Rattle.vtd_words.specs.Table.{node_of, nodes_of};
 ghost use Rattle.xpath_axes.specs.Iters.{nodes_after_first, one_first, records_left, rest_of, to_come};
 ghost use Rattle.xpath_axes.specs.Iters.{AreNodes, IsFirstOf, IsRest};
 ghost use Rattle.xpath_axes.specs.Tests.{node_test, nodes_on};
+ghost use Rattle.xpath_axes.specs.Told.{IsChildWalk};
 
 use crate::back::{preceding_of, preceding_siblings_of};
 use crate::names::{LookBack, Names};
 use crate::node_tests::passes;
-use crate::rest::{Rest, next_of};
+use crate::rest::Rest;
 use crate::starts::{
     attributes_of, children_of, descendants_of, following_of, following_siblings_of,
 };
+use crate::told::{next_left, told_of};
 use std::marker::Model;
-use vtd_location::Nav;
+use vtd_location::{Children, Nav};
 use vtd_words::{Part, Table, Words};
 use xml_model::{Axis, Node, NodeTest};
 
@@ -31,6 +33,7 @@ pub struct AxisIter<'n, 'a, W: Words> {
     nav: &'n Nav<'a, W>,
     first: Option<Node>,
     rest: Rest,
+    told: Option<Children>,
     test: NodeTest<'n>,
 }
 
@@ -38,6 +41,8 @@ impl<'n, 'a, W: Words> Model for AxisIter<'n, 'a, W> {
     ghost use Rattle.std.specs.Prelude.{IfSome};
     ghost use Rattle.vtd_words.specs.Table.{IsNodeOf};
     ghost use Rattle.xpath_axes.specs.Iters.{IterOf, IsRest};
+    ghost use Rattle.xpath_axes.specs.Tests.{node_test};
+    ghost use Rattle.xpath_axes.specs.Told.{IsTold};
 
     ghost Value = { IterOf W };
 
@@ -50,7 +55,8 @@ impl<'n, 'a, W: Words> Model for AxisIter<'n, 'a, W> {
     } };
 
     ghost invariant = { λ i. IfSome i.first (IsNodeOf i.nav.now.bytes (W.lists i.nav.now.words))
-        × IsRest i.nav.now.bytes (W.lists i.nav.now.words) i.rest };
+        × IsRest i.nav.now.bytes (W.lists i.nav.now.words) i.rest
+        × IsTold i.nav.now.bytes (W.lists i.nav.now.words) (node_test i.test) i.rest i.told };
 }
 
 impl<'n, 'a, W: Words> AxisIter<'n, 'a, W> {
@@ -102,7 +108,7 @@ impl<'n, 'a, W: Words> AxisIter<'n, 'a, W> {
             self.first = None;
             return Some(node);
         }
-        let next = next_of(self.nav.table(), names, self.rest, &self.test);
+        let next = next_left(self.nav, names, &mut self.told, self.rest, &self.test);
         self.rest = next.rest;
         next.node
     }
@@ -155,6 +161,7 @@ fn walk_of<W: Words>(table: &Table<'_, W>, node: Node, axis: Axis) -> Rest
     ensures walk { ForEachEntry table.now.bytes (W.lists table.now.words) node (λ nest e.
         (test : Test) → rest_of result test (records nest (first_place table.now.bytes))
         (nodes_of table.now.bytes nest) ≡ nodes_after_first axis test e (nodes_of table.now.bytes nest)) }
+    ensures children { axis ≡ Axis.Child → IsChildWalk table.now.bytes (W.lists table.now.words) node result }
     ensures rest { IsRest table.now.bytes (W.lists table.now.words) result }
 {
     match axis {
@@ -218,10 +225,14 @@ pub fn axis_iter_by<'n, 'a, W: Words, N: Names<W>>(
     ensures names { N.knows names.new (record { bytes = nav.now.bytes; words = nav.now.words }) }
 {
     let table = nav.table();
+    let first = if_passes(table, names, before_walk(table, node, axis), test);
+    let rest = walk_of(table, node, axis);
+    let told = told_of(nav, node, axis, test, rest);
     AxisIter {
         nav,
-        first: if_passes(table, names, before_walk(table, node, axis), test),
-        rest: walk_of(table, node, axis),
+        first,
+        rest,
+        told,
         test: *test,
     }
 }

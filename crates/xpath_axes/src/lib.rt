@@ -10,6 +10,7 @@ pub mod names;
 mod node_tests;
 pub mod rest;
 pub mod starts;
+mod told;
 pub mod walk;
 
 pub use iter::{AxisIter, axis_iter, axis_iter_by};

@@ -72,6 +72,7 @@ pub fn children_of<W: Words>(table: &Table<'_, W>, node: Node) -> Walk
     requires { IsNodeOf table.now.bytes (W.lists table.now.words) node }
     ensures axis { ForEachEntry table.now.bytes (W.lists table.now.words) node (λ nest e.
         Covers axes.Child result (records nest (first_place table.now.bytes)) (nodes_of table.now.bytes nest) e) }
+    ensures children { result.attributes ≡ false }
     ensures stop { ForEachEntry table.now.bytes (W.lists table.now.words) node (λ nest e.
         (node.kind ≡ Kind.Root) ⊎ (node.kind ≡ Kind.Element) →
         stop_of result (records nest (first_place table.now.bytes)) ≡ e.past) }
