@@ -1,12 +1,17 @@
 //! The value of an expression, part by part.
 
-ghost use Rattle.std.specs.Prelude.{◌≡◌, length, IfOk};
-ghost use Rattle.xpath_grammar.specs.Tree.{tree_of, trees_of, walk_of};
+ghost use Rattle.std.specs.Prelude.{◌≡◌, true, length, IfOk};
+ghost use Rattle.xml_model.specs.declared.Axis.TheVariants as axes;
+ghost use Rattle.xpath_tokens.specs.declared.StepAxis.TheVariants.{Known};
+ghost use Rattle.xpath_grammar.specs.declared.expr.StepTest.TheVariants as written;
+ghost use Rattle.xpath_grammar.specs.Tree.{none, tree_of, trees_of, walk_of};
+ghost use Rattle.xpath_values.specs.Answers.{and_then};
 ghost use Rattle.xpath_meaning.specs.Meaning.{mean, filtered, walked, listed, kept, step_from};
 ghost use Rattle.xpath_meaning.specs.Scope.{AreFewOf, AreValuesOf, Finds, IsOf, IsPlace, ListMeans, Means, source_of};
+ghost use Rattle.xpath_sweeps.specs.Sweeps.{is_sweep};
 
 use vtd_words::Words;
-use xml_model::{Node, NodeList};
+use xml_model::{Axis, Node, NodeList};
 use xpath_calls::answered;
 use xpath_grammar::{Expr, Exprs, StepAxis, StepTest, Steps};
 use xpath_meaning::{
@@ -14,6 +19,7 @@ use xpath_meaning::{
     nodes_value, numeral, operated, place_at, start, truth_value, with_value,
 };
 use xpath_nodes::{Walker, compared, in_order, stepped, united};
+use xpath_sweeps::{is_scan, is_sweep, step_all};
 use xpath_values::{Value, ValueFault, truth_of};
 
 /// The value of an expression at a place.
@@ -134,6 +140,18 @@ fn walked<W: Words>(
     match steps {
         Steps::End => Ok(nodes),
         Steps::More(step, rest) => {
+            if let Steps::More(after, others) = &**rest {
+                if is_scan(nodes.held.as_slice(), step, after) {
+                    let found = scanned(
+                        scope,
+                        walker,
+                        nodes.held.as_slice(),
+                        &after.test,
+                        &after.predicates,
+                    )?;
+                    return walked(scope, walker, found, others);
+                }
+            }
             let found = step_from(
                 scope,
                 walker,
@@ -147,9 +165,91 @@ fn walked<W: Words>(
     }
 }
 
+/// The nodes that the step to each node below or at some nodes, and then one to children, find: all of them first, and
+/// then the predicates, once. Where one of these has a fault the steps are taken in turn, since another fault may come
+/// first then.
+#[cycle(evaluation)]
+fn scanned<W: Words>(
+    scope: &Scope<'_, '_, W>,
+    walker: &mut Walker<'_, '_, W>,
+    nodes: &[Node],
+    test: &StepTest,
+    predicates: &Exprs,
+) -> Result<NodeList, ValueFault>
+    requires nodes { AreFewOf scope.now nodes.now }
+    requires at_once { is_sweep nodes.now (trees_of predicates.now) ≡ true }
+    requires walker { walker.old ≡ source_of scope.now }
+    ensures found { Finds scope.now nodes.now result (λ c es. and_then
+        (step_from (filtered none) (Known axes.DescendantOrSelf) written.Node c es)
+        (step_from (filtered (trees_of predicates.now)) (Known axes.Child) test.now c)) }
+    ensures of { IfOk result (AreFewOf scope.now) }
+    ensures walker { walker.new ≡ walker.old }
+{
+    let below = StepAxis::Known(Axis::Descendant);
+    let all = step_all(scope, walker, nodes, below, test)?;
+    match filtered(scope, walker, all, predicates) {
+        Ok(found) => Ok(found),
+        Err(ValueFault::NoMemory) => Err(ValueFault::NoMemory),
+        Err(_) => {
+            let selves = StepAxis::Known(Axis::DescendantOrSelf);
+            let held = step_all(scope, walker, nodes, selves, &StepTest::Node)?;
+            let children = StepAxis::Known(Axis::Child);
+            step_each(scope, walker, held.held.as_slice(), children, test, predicates)
+        }
+    }
+}
+
 /// The nodes that a step finds from some nodes.
 #[cycle(evaluation)]
 fn step_from<W: Words>(
+    scope: &Scope<'_, '_, W>,
+    walker: &mut Walker<'_, '_, W>,
+    nodes: &[Node],
+    axis: StepAxis,
+    test: &StepTest,
+    predicates: &Exprs,
+) -> Result<NodeList, ValueFault>
+    requires nodes { AreFewOf scope.now nodes.now }
+    requires walker { walker.old ≡ source_of scope.now }
+    ensures found { Finds scope.now nodes.now result (step_from (filtered (trees_of predicates.now)) axis test.now) }
+    ensures of { IfOk result (AreFewOf scope.now) }
+    ensures walker { walker.new ≡ walker.old }
+{
+    if is_sweep(nodes, predicates) {
+        return swept(scope, walker, nodes, axis, test, predicates);
+    }
+    step_each(scope, walker, nodes, axis, test, predicates)
+}
+
+/// The nodes that a step finds from some nodes: all of them first, and then the predicates, once. Where one of these has
+/// a fault the step is taken from node to node, since another fault may come first then.
+#[cycle(evaluation)]
+fn swept<W: Words>(
+    scope: &Scope<'_, '_, W>,
+    walker: &mut Walker<'_, '_, W>,
+    nodes: &[Node],
+    axis: StepAxis,
+    test: &StepTest,
+    predicates: &Exprs,
+) -> Result<NodeList, ValueFault>
+    requires nodes { AreFewOf scope.now nodes.now }
+    requires at_once { is_sweep nodes.now (trees_of predicates.now) ≡ true }
+    requires walker { walker.old ≡ source_of scope.now }
+    ensures found { Finds scope.now nodes.now result (step_from (filtered (trees_of predicates.now)) axis test.now) }
+    ensures of { IfOk result (AreFewOf scope.now) }
+    ensures walker { walker.new ≡ walker.old }
+{
+    let all = step_all(scope, walker, nodes, axis, test)?;
+    match filtered(scope, walker, all, predicates) {
+        Ok(found) => Ok(found),
+        Err(ValueFault::NoMemory) => Err(ValueFault::NoMemory),
+        Err(_) => step_each(scope, walker, nodes, axis, test, predicates),
+    }
+}
+
+/// The nodes that a step finds from some nodes, from one after another.
+#[cycle(evaluation)]
+fn step_each<W: Words>(
     scope: &Scope<'_, '_, W>,
     walker: &mut Walker<'_, '_, W>,
     nodes: &[Node],

@@ -34,28 +34,28 @@ kept-returns-clause-of g t c = record {
   few = omega (arith, c.loop-i.invariant.few, c.requires.nodes.few);
 }
 
-pub step_from-loop-i-init : goal.step_from-loop-i-init
-step_from-loop-i-init g t c = record {
+pub step_each-loop-i-init : goal.step_each-loop-i-init
+step_each-loop-i-init g t c = record {
   so_far = rw c.new-found.ensures.items (begins _ _ _);
   walker = first_of (search rules, cc);
 }
 
-pub step_from-returns-in_err-passed-clause-found : goal.step_from-returns-in_err-passed-clause-found
-step_from-returns-in_err-passed-clause-found g t c =
+pub step_each-returns-in_err-passed-clause-found : goal.step_each-returns-in_err-passed-clause-found
+step_each-returns-in_err-passed-clause-found g t c =
     let e : c.from_residual-in_err-passed.result ≡ Err c.in_err-passed.field-0.0 = first_of (search rules, grind (arith, common_steps)) in
     rw e (step_fault _ _ (filtered (trees_of c.args.predicates.now)) c.args.axis c.args.test.now c.loop-i.i c.place_at-place.result _ _ _ c.loop-i.invariant.so_far c.loop-i-test.true c.place_at-place.ensures.is c.in_ok-list.ensures.found c.in_err-passed.ensures.found)
 
-pub step_from-loop-i-preserved : goal.step_from-loop-i-preserved
-step_from-loop-i-preserved g t c = record {
+pub step_each-loop-i-preserved : goal.step_each-loop-i-preserved
+step_each-loop-i-preserved g t c = record {
   so_far = step_on _ _ _ _ _ _ c.place_at-place.result _ _ _ _ c.loop-i.invariant.so_far c.loop-i-test.true c.place_at-place.ensures.is c.in_ok-list.ensures.found c.in_ok-passed.ensures.found c.in_ok-append.ensures.appended;
   walker = first_of (search rules, cc);
 }
 
-pub step_from-returns-clause-found : goal.step_from-returns-clause-found
-step_from-returns-clause-found g t c = step_end _ _ (filtered (trees_of c.args.predicates.now)) c.args.axis c.args.test.now c.loop-i.i _ _ c.loop-i.invariant.so_far c.loop-i-test.false c.in_order.ensures.ordered
+pub step_each-returns-clause-found : goal.step_each-returns-clause-found
+step_each-returns-clause-found g t c = step_end _ _ (filtered (trees_of c.args.predicates.now)) c.args.axis c.args.test.now c.loop-i.i _ _ c.loop-i.invariant.so_far c.loop-i-test.false c.in_order.ensures.ordered
 
-pub step_from-in_order-requires : goal.step_from-in_order-requires
-step_from-in_order-requires g t c = found_of _ _ _ c.loop-i.i _ c.requires.nodes.of c.loop-i.invariant.so_far
+pub step_each-in_order-requires : goal.step_each-in_order-requires
+step_each-in_order-requires g t c = found_of _ _ _ c.loop-i.i _ c.requires.nodes.of c.loop-i.invariant.so_far
 
 pub walked-returns-in_ok-found-in-More-clause-found : goal.walked-returns-in_ok-found-in-More-clause-found
 walked-returns-in_ok-found-in-More-clause-found g t c =
