@@ -215,33 +215,37 @@ at_once c axis test ps es xs zs t h one two =
     ap (λ m. with m (in_order c.document)) (gathered_among (λ e. filtered ps c (f e)) (λ e. Ok (filter l.test (f e))) es each ∙ gathered_plain (λ e. filter l.test (f e)) es)
     ∙ ap Ok (ordered_filter c.document es f l.test t (λ e x k. stepped_within axis test c e x k) ∙ ap (filter l.test) (sym is) ∙ sym end)
 
+abbrev asked_for : Context → Axis → StepTest → Entry → Bool
+asked_for c axis test = passes (test_of c.bindings test) (is_attribute_axis axis)
+
+abbrev on_one : Context → Axis → StepTest → Entry → List Entry
+on_one c axis test e = on_axis axis (test_of c.bindings test) e c.document
+
+union_one : (c : Context) (axis : Axis) (test : StepTest) (es : List Entry) → IsTree c.document → (d : Entry) → Among d c.document →
+    is_in (flat_map (on_one c axis test) es) d ≡ true → (on_any axis es d && asked_for c axis test d) ≡ true
+union_one c axis test es t d m h =
+    let z = found (flat_map (on_one c axis test) es) d h in
+    let o = among_flat (on_one c axis test) es z.node z.there in
+    let k = is_found_on axis (test_of c.bindings test) o.from c.document z.node o.inside in
+    let same : z.node ≡ d = t.one z.node d k.there m z.same in
+    both _ _ (any_in (λ e. is_on axis e.path d.path) es o.from (among_contains es o.from o.there) (subst (λ y. is_on axis o.from.path y.path ≡ true) same k.on))
+    (ap (asked_for c axis test) (sym same) ∙ k.passed)
+
+union_two : (c : Context) (axis : Axis) (test : StepTest) (es : List Entry) → IsTree c.document → (d : Entry) → Among d c.document →
+    (on_any axis es d && asked_for c axis test d) ≡ true → is_in (flat_map (on_one c axis test) es) d ≡ true
+union_two c axis test es t d m h =
+    let o = any_out (λ e. is_on axis e.path d.path) es (left_of _ _ h) in
+    is_found (flat_map (on_one c axis test) es) d (flat_among (on_one c axis test) es o.entry d (contains_among es o.entry o.there)
+    (found_on axis (test_of c.bindings test) o.entry c.document d (record { there = m; on = o.passes; passed = right_of (on_any axis es d) _ h })))
+
 -- a step without predicates is a part of the nodes on the axis of some node
 pub union_step : (c : Context) (axis : Axis) (test : StepTest) (es : List Entry) → IsTree c.document →
     step_from (filtered none) (Known axis) test c es ≡ Ok (filter (passes (test_of c.bindings test) (is_attribute_axis axis)) (union_list axis es c.document))
 unfolding stepped in_order union_list
 union_step c axis test es t =
     bare_step (Known axis) test c es
-    ∙ ap Ok (filter_alike (is_in (flat_map f es)) (λ d. on_any axis es d && p d) c.document (λ d m. iff _ _ (one d m) (two d m)) ∙ sym (filter_twice (on_any axis es) p c.document))
-  where
-    abbrev p : Entry → Bool
-    p = passes (test_of c.bindings test) (is_attribute_axis axis)
-
-    abbrev f : Entry → List Entry
-    f e = on_axis axis (test_of c.bindings test) e c.document
-
-    one : (d : Entry) → Among d c.document → is_in (flat_map f es) d ≡ true → (on_any axis es d && p d) ≡ true
-    one d m h =
-        let z = found (flat_map f es) d h in
-        let o = among_flat f es z.node z.there in
-        let k = is_found_on axis (test_of c.bindings test) o.from c.document z.node o.inside in
-        let same : z.node ≡ d = t.one z.node d k.there m z.same in
-        both _ _ (any_in (λ e. is_on axis e.path d.path) es o.from (among_contains es o.from o.there) (subst (λ y. is_on axis o.from.path y.path ≡ true) same k.on)) (ap p (sym same) ∙ k.passed)
-
-    two : (d : Entry) → Among d c.document → (on_any axis es d && p d) ≡ true → is_in (flat_map f es) d ≡ true
-    two d m h =
-        let o = any_out (λ e. is_on axis e.path d.path) es (left_of _ _ h) in
-        is_found (flat_map f es) d (flat_among f es o.entry d (contains_among es o.entry o.there)
-        (found_on axis (test_of c.bindings test) o.entry c.document d (record { there = m; on = o.passes; passed = right_of (on_any axis es d) _ h })))
+    ∙ ap Ok (filter_alike (is_in (flat_map (on_one c axis test) es)) (λ d. on_any axis es d && asked_for c axis test d) c.document
+    (λ d m. iff _ _ (union_one c axis test es t d m) (union_two c axis test es t d m)) ∙ sym (filter_twice (on_any axis es) (asked_for c axis test) c.document))
 
 -- descendant-or-self::node()/child::T[p], where the predicates do not ask for the position, over all that descendant::T finds
 pub scan_at_once : (c : Context) (test : StepTest) (ps : Trees) (es xs zs : List Entry) → IsTree c.document → are_positionless ps ≡ true →

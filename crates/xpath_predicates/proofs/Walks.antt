@@ -1,30 +1,39 @@
 -- Steps without predicates, and what their nodes are asked.
 use Rattle.std.proofs.Common.{◌≡◌, ℕ, Bool, true, false, cond, not, ◌||◌, List, [], ◌∷◌, ◌++◌, map, filter, Ok, Err, refl, sym, ◌∙◌, ap, ap₂, subst, Contains}
 use Rattle.std.specs.Prelude.{is_ok, bytes_eq, Some}
+use Rattle.std.specs.Prelude.{IfSome, Option, None}
 use Rattle.std.specs.List.{flat_map, list_any}
 use Rattle.std.specs.Str.{chars}
+use Rattle.xml_model.specs.Items.{first_place}
 use Rattle.xml_model.specs.Tree.{Entry}
+use Rattle.vtd_words.specs.Lists.{Lists}
+use Rattle.vtd_location.proofs.NavLaws.{nest_of_table}
 use Rattle.xml_model.proofs.Filters.{any_in, any_out, same_test}
 use Rattle.xpath_tokens.specs.declared.Comparison.{Comparison}
 use Rattle.xpath_tokens.specs.Numbers.{number_value}
 use Rattle.xpath_grammar.specs.Tree.{Tree, Walk, stop, go, none, more, path, compare, literal, or, and, call}
 use Rattle.xpath_values.specs.declared.Number.{Number}
-use Rattle.xpath_values.specs.declared.Number.TheVariants as numbers
+use Rattle.xpath_values.specs.declared.Value.{Value}
+use Rattle.xpath_values.specs.declared.Value.TheVariants as held
+use Rattle.xpath_values.specs.declared.ValueFault.TheVariants.{Fraction, Infinite, Range, NoMemory}
 use Rattle.xpath_values.specs.Answers.{Answer, and_then, with, each}
 use Rattle.xpath_values.specs.Numbers.{compare_numbers, number_held, number_of_text}
-use Rattle.xpath_values.specs.Values.{Meant, nodes, truth, number, text, by_equality, by_numbers, is_equality, is_some_list, numbers_of_nodes, some_pair, string_value, truth_of}
+use Rattle.xpath_values.specs.Values.{Meant, nodes, truth, number, text, IsHeld, by_equality, by_numbers, is_equality, is_some_list, numbers_of_nodes, some_pair, string_value, truth_of}
 use Rattle.xpath_values.specs.Values as values
 use Rattle.xpath_meaning.specs.declared.function.Function.TheVariants.{Not}
 use Rattle.xpath_meaning.specs.Context.{Context, in_order, is_in, is_passed, stepped}
 use Rattle.xpath_meaning.specs.Functions.{function_named}
+use Rattle.xpath_meaning.specs.declared.scope.Place.{Place}
+use Rattle.xpath_meaning.specs.Meets.{Meets}
+use Rattle.xpath_meaning.specs.Scope.{ScopeOf, IsContext, IsScope, Means}
 use Rattle.xpath_meaning.specs.Meaning.{answered, both, either, filtered, mean, step_from, walked}
 use Rattle.xpath_laws.specs.Fused.{Among, IsTree, Passes}
 use Rattle.xpath_laws.proofs.AtOnce.{bare_step, in_ordered, stepped_within}
 use Rattle.xpath_laws.proofs.Fused.{among_filter, among_flat, found}
-use Rattle.xpath_laws.proofs.Trees.{among_contains, contains_among}
+use Rattle.xpath_laws.proofs.Trees.{among_contains, contains_among, tree_of_nest}
 use Rattle.xpath_predicates.specs.declared.asked.Asked.{Asked}
 use Rattle.xpath_predicates.specs.declared.asked.Asked.TheVariants as asked
-use Rattle.xpath_predicates.specs.Asks.{any_found, are_bare, is_bad, is_right, Decides, Holds}
+use Rattle.xpath_predicates.specs.Asks.{any_found, are_bare, is_bad, is_right, Decides, ForEachContext, FromHere, Holds, PassesAt, PassesLike}
 use Rattle.xpath_predicates.proofs.Found.{any_append}
 
 -- nodes of a document, put in order
@@ -72,12 +81,6 @@ or_none true = refl
 or_none false = refl
 
 -- a path from the context node
-pub record FromHere (w : Walk) (c : Context) (a : Asked) (b : Bool) : Type 0 where
-  pub found : List Entry
-  pub is : mean (path false w) c ≡ Ok (nodes found)
-  pub sound : list_any (is_bad a) found ≡ false
-  pub right : list_any (is_right a) found ≡ b
-
 pub from_here : (w : Walk) (c : Context) (a : Asked) (b : Bool) → IsTree c.document → are_bare w ≡ true → Decides a (λ q. any_found w c q c.node) b → FromHere w c a b
 from_here w c a b t h d =
     let k = bare w c (c.node ∷ []) t h in
@@ -234,3 +237,35 @@ plainly (text t) n h = refl
 
 pub holds_passes : (m : Answer Meant) (n : ℕ) (b : Bool) → Holds m b → Passes m n b
 holds_passes m n b k = record { value = k.value; is = k.is; passed = plainly k.value n k.plain ∙ k.truth }
+
+-- Of a scope.
+
+tree_of_scope : (s : ScopeOf) (c : Context) → IsScope s c → IsTree c.document
+tree_of_scope s c h = subst IsTree (sym h.document) (tree_of_nest h.nest (first_place s.bytes) h.shown.accepted.document.nests)
+
+pub if_from : (s : ScopeOf) (p : Place) (bytes : List ℕ) (lists : Lists) (bindings : List (List ℕ × List ℕ)) (w : Walk) (a : Asked) (r : Option Bool) → bytes ≡ s.bytes → lists ≡ s.lists →
+    bindings ≡ s.bindings → are_bare w ≡ true → IfSome r (λ b. ForEachContext bytes lists bindings p.node (λ c e. Decides a (λ q. any_found w c q e) b)) →
+    IfSome r (λ b. (c : Context) → IsContext s p c → FromHere w c a b)
+if_from s p bytes lists bindings w a None e1 e2 e3 h f = tt
+if_from s p bytes lists bindings w a (Some b) e1 e2 e3 h f = λ c k.
+    let Q : List ℕ → Lists → List (List ℕ × List ℕ) → Type 0 = λ x y z. ForEachContext x y z p.node (λ d e. Decides a (λ q. any_found w d q e) b) in
+    let g : Q s.bytes s.lists s.bindings = subst (λ x. Q x s.lists s.bindings) e1 (subst (λ y. Q bytes y s.bindings) e2 (subst (λ z. Q bytes lists z) e3 f)) in
+    from_here w c a b (tree_of_scope s c k.scope) h
+    (g k.scope.nest (nest_of_table s.bytes s.lists k.scope.nest k.scope.shown) c k.scope.document k.scope.bindings c.node k.stands)
+
+-- a value passes as it is
+pub as_it_is : (s : ScopeOf) (p : Place) (r : Answer Value) (f : Context → Answer Meant) → Means s p r f → PassesAt s p r f
+as_it_is s p r f m = record { yields = λ c k. this c r (m.yields c k) }
+  where
+    this : (c : Context) (r : Answer Value) → Meets (IsHeld c.document) r (f c) → Meets (PassesLike p.position) r (f c)
+    this c (Ok x) y = record { value = y.value; meant_is = y.meant_is; held = record { shown = y.value; held = y.held.same; alike = refl } }
+    this c (Err Fraction) y = y
+    this c (Err Infinite) y = y
+    this c (Err Range) y = y
+    this c (Err NoMemory) y = tt
+
+-- it is told whether it passes
+pub as_told : (s : ScopeOf) (p : Place) (b : Bool) (f : Context → Answer Meant) → ((c : Context) → IsContext s p c → Passes (f c) p.position b) → PassesAt s p (Ok (held.Truth b)) f
+as_told s p b f h = record {
+  yields = λ c k. let y = h c k in record { value = y.value; meant_is = y.is; held = record { shown = truth b; held = refl; alike = sym y.passed } };
+}

@@ -7,11 +7,16 @@ use Rattle.xml_model.specs.declared.Node.{Node}
 use Rattle.xml_model.specs.Tree.{Entry, Identifies}
 use Rattle.vtd_words.specs.Lists.{Lists}
 use Rattle.vtd_words.specs.Table.{IsNestOf, nodes_of}
-use Rattle.xpath_grammar.specs.Tree.{Walk, none, more, stop, go}
+use Rattle.xpath_grammar.specs.Tree.{Walk, none, more, path, stop, go}
 use Rattle.xpath_values.specs.Answers.{Answer, with}
 use Rattle.xpath_values.specs.Numbers.{compare_numbers, number_of_text}
-use Rattle.xpath_values.specs.Values.{Meant, by_equality, is_number, string_value, truth_of}
-use Rattle.xpath_meaning.specs.Context.{Context, stepped}
+use Rattle.xpath_values.specs.declared.Value.{Value}
+use Rattle.xpath_values.specs.Values.{Meant, nodes, by_equality, held_as, is_number, string_value, truth_of}
+use Rattle.xpath_meaning.specs.declared.scope.Place.{Place}
+use Rattle.xpath_meaning.specs.Context.{Context, is_passed, stepped}
+use Rattle.xpath_meaning.specs.Meaning.{mean}
+use Rattle.xpath_meaning.specs.Meets.{Meets}
+use Rattle.xpath_meaning.specs.Scope.{ScopeOf, IsContext}
 use Rattle.xpath_predicates.specs.declared.asked.Asked.{Asked}
 use Rattle.xpath_predicates.specs.declared.asked.Asked.TheVariants as asked
 
@@ -63,3 +68,20 @@ pub record Holds (meant : Answer Meant) (b : Bool) : Type 0 where
   pub is : meant ≡ Ok value
   pub plain : is_number value ≡ false
   pub truth : truth_of value ≡ b
+
+-- the nodes of a path from the context node, of which none is bad; the answer says whether one is right
+pub record FromHere (w : Walk) (c : Context) (a : Asked) (b : Bool) : Type 0 where
+  pub found : List Entry
+  pub is : mean (path false w) c ≡ Ok (nodes found)
+  pub sound : list_any (is_bad a) found ≡ false
+  pub right : list_any (is_right a) found ≡ b
+
+-- a value that a predicate has passes a position, where another value does
+pub record PassesLike (position : ℕ) (h : Value) (v : Meant) : Type 0 where
+  pub shown : Meant
+  pub held : h ≡ held_as shown
+  pub alike : is_passed shown position ≡ is_passed v position
+
+-- a predicate passes the node of a place as a value does, or has a fault
+pub record PassesAt (s : ScopeOf) (p : Place) (result : Answer Value) (meant : Context → Answer Meant) : Type 0 where
+  pub yields : (c : Context) → IsContext s p c → Meets (PassesLike p.position) result (meant c)

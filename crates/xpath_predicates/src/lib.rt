@@ -6,5 +6,5 @@ mod deciding;
 mod finding;
 
 pub use asked::Asked;
-pub use deciding::holds;
+pub use deciding::{holds, passes};
 pub use finding::any_found;
