@@ -1,2 +1,2 @@
 pub mod Unions
-pub mod Sweeping
+pub mod Filters

@@ -1,6 +1,6 @@
 -- Steps from whole lists of nodes: what is found is of the document.
 use Rattle.std.proofs.Common.{◌≡◌, ℕ, suc, ◌<◌, ◌≤◌, ◌^◌, Bool, true, false, ◌&&◌, nat_le, List, [], ◌∷◌, map, filter, length, Ok, Err, refl, sym, ◌∙◌, ap, subst, arith}
-use Rattle.std.specs.Prelude.{IfErr, IfOk}
+use Rattle.std.specs.Prelude.{IfErr, IfOk, Result}
 use Rattle.std.specs.List.{AllByRecursion, Contains, flat_map, slice_index_or}
 use Rattle.std.proofs.lemmas.List.{length-map}
 use Rattle.xml_model.specs.declared.Axis.{Axis}
@@ -22,6 +22,7 @@ use Rattle.xpath_tokens.specs.declared.StepAxis.{StepAxis}
 use Rattle.xpath_tokens.specs.declared.StepAxis.TheVariants.{Known, Namespace}
 use Rattle.xpath_grammar.specs.declared.expr.StepTest.{StepTest}
 use Rattle.xpath_grammar.specs.Tree.{none}
+use Rattle.xpath_values.specs.declared.ValueFault.{ValueFault}
 use Rattle.xpath_values.specs.declared.ValueFault.TheVariants.{NoMemory}
 use Rattle.xpath_values.specs.Answers.{Answer}
 use Rattle.xpath_meaning.specs.Context.{Context, in_order, is_attribute_axis, is_in, stepped, test_of}
@@ -128,10 +129,13 @@ union_known s bytes lists ns axis t list e1 e2 o f c h es a =
     (g h.nest (nest_of_table s.bytes s.lists h.nest h.shown) es (sym a.same) (contexts_of (nodes_of s.bytes h.nest) ns es b o)) in
     record { same = q ∙ same_nodes axis t es c.document; within = found_within axis t es c.document }
 
-pub if_union : (s : ScopeOf) (bytes : List ℕ) (lists : Lists) (ns : List Node) (axis : Axis) (t : Test) (r : Answer (List Node)) → bytes ≡ s.bytes → lists ≡ s.lists → are_in_order ns ≡ true →
-    IfOk r (λ list. ForEachContexts bytes lists ns (λ nest cs. list ≡ step_nodes axis t cs (nodes_of bytes nest))) → IfOk r (IsUnion s ns axis t)
-if_union s bytes lists ns axis t (Ok list) e1 e2 o f = union_known s bytes lists ns axis t list e1 e2 o f
-if_union s bytes lists ns axis t (Err x) e1 e2 o f = tt
+pub if_union : {E : Type 0} (s : ScopeOf) (bytes : List ℕ) (lists : Lists) (ns : List Node) (axis : Axis) (t : Test) (q : Result (List Node) E) (list : List Node) (r : Answer (List Node)) → q ≡ Ok list → r ≡ Ok list → bytes ≡ s.bytes → lists ≡ s.lists → are_in_order ns ≡ true →
+    IfOk q (λ l. ForEachContexts bytes lists ns (λ nest cs. l ≡ step_nodes axis t cs (nodes_of bytes nest))) → IfOk r (IsUnion s ns axis t)
+if_union {E} s bytes lists ns axis t q list r a b e1 e2 o f = subst (λ x. IfOk x (IsUnion s ns axis t)) (sym b)
+    (union_known s bytes lists ns axis t list e1 e2 o (subst (λ x. IfOk x (λ l. ForEachContexts bytes lists ns (λ nest cs. l ≡ step_nodes axis t cs (nodes_of bytes nest)))) a f))
+
+pub no_list : {X : Type 0} (P : X → Type 0) (r : Answer X) (e : ValueFault) → r ≡ Err e → IfOk r P
+no_list {X} P r e h = subst (λ x. IfOk x P) (sym h) tt
 
 few_known : (s : ScopeOf) (ns : List Node) (axis : Axis) (t : Test) (list : List Node) → IsNav s.bytes s.lists → length s.lists.records < 2 ^ 32 → AreFewOf s ns → IsUnion s ns axis t list → AreFewOf s list
 few_known s ns axis t list n l a f =

@@ -1,9 +1,10 @@
 //! Steps from whole lists of nodes.
 
-ghost use Rattle.std.specs.Prelude.{◌≡◌, true, IfErr, IfOk, List, filter};
+ghost use Rattle.std.specs.Prelude.{◌≡◌, ◌<◌, ◌^◌, true, IfErr, IfOk, List, filter, length};
 ghost use Rattle.xml_model.specs.Contexts.{union_list};
 ghost use Rattle.xml_model.specs.Names.{passes};
 ghost use Rattle.xml_model.specs.Tree.{Entry};
+ghost use Rattle.vtd_location.specs.Nav.{IsNav};
 ghost use Rattle.xpath_axes.specs.Tests.{node_test};
 ghost use Rattle.xpath_grammar.specs.Tree.{none};
 ghost use Rattle.xpath_values.specs.declared.ValueFault.TheVariants.{NoMemory as OutOfMemory};
@@ -19,6 +20,15 @@ use xpath_meaning::{Scope, no_nodes, table_of};
 use xpath_nodes::{Walker, resolved};
 use xpath_steps::step_of_all;
 use xpath_values::ValueFault;
+
+/// How many records a document has.
+fn record_count<W: Words>(scope: &Scope<'_, '_, W>) -> u32
+    ensures count { result ≡ length scope.now.lists.records }
+    ensures few { length scope.now.lists.records < 2 ^ 32 }
+    ensures nav { IsNav scope.now.bytes scope.now.lists }
+{
+    table_of(scope).words().len(Part::Records)
+}
 
 /// The nodes on an axis of some of the nodes that pass a test, in document order, each once.
 fn union_along<W: Words>(
@@ -38,7 +48,7 @@ fn union_along<W: Words>(
     ensures full { IfErr result (λ e. e ≡ OutOfMemory) }
     ensures walker { walker.new ≡ walker.old }
 {
-    let _count = table_of(scope).words().len(Part::Records);
+    let _count = record_count(scope);
     let table = walker.nav.table();
     match step_of_all(
         scope.alloc,
