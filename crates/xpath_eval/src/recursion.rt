@@ -8,6 +8,7 @@ ghost use Rattle.xpath_grammar.specs.Tree.{none, tree_of, trees_of, walk_of};
 ghost use Rattle.xpath_values.specs.Answers.{and_then};
 ghost use Rattle.xpath_meaning.specs.Meaning.{mean, filtered, walked, listed, kept, step_from};
 ghost use Rattle.xpath_meaning.specs.Scope.{AreFewOf, AreValuesOf, Finds, IsOf, IsPlace, ListMeans, Means, source_of};
+ghost use Rattle.xpath_predicates.specs.Asks.{PassesAt};
 ghost use Rattle.xpath_sweeps.specs.Sweeps.{is_sweep};
 
 use vtd_words::Words;
@@ -18,8 +19,9 @@ use xpath_meaning::{
     Place, Scope, Values, append, keep, literal, negated, no_nodes, no_values, nodes_in,
     nodes_value, numeral, operated, place_at, start, truth_value, with_value,
 };
-use xpath_nodes::{Walker, compared, in_order, stepped, united};
-use xpath_sweeps::{is_scan, is_sweep, step_all};
+use xpath_nodes::{Walker, compared, in_order, united};
+use xpath_predicates::passes;
+use xpath_sweeps::{is_scan, is_sweep, step_all, stepped_to, takes_first};
 use xpath_values::{Value, ValueFault, truth_of};
 
 /// The value of an expression at a place.
@@ -263,10 +265,11 @@ fn step_each<W: Words>(
     ensures of { IfOk result (AreFewOf scope.now) }
     ensures walker { walker.new ≡ walker.old }
 {
+    let first = takes_first(predicates);
     let mut found = Vec::new(scope.alloc);
     for i in 0..nodes.len() {
         let place = place_at(scope, nodes, i);
-        let list = stepped(scope, walker, place, axis, test)?;
+        let list = stepped_to(scope, walker, place, axis, test, first)?;
         let passed = filtered(scope, walker, list, predicates)?;
         append(&mut found, passed)?;
     }
@@ -313,8 +316,28 @@ fn kept<W: Words>(
     let mut found = Vec::new(scope.alloc);
     for i in 0..nodes.len() {
         let place = place_at(scope, nodes, i);
-        let value = value_at(scope, walker, place, predicate)?;
+        let value = passed_at(scope, walker, place, predicate)?;
         keep(&mut found, value, place)?;
     }
     Ok(NodeList { held: found })
+}
+
+/// A value that passes the node of a place where that of a predicate does; the very value where it is not told without
+/// lists whether the predicate passes.
+#[cycle(evaluation)]
+fn passed_at<W: Words>(
+    scope: &Scope<'_, '_, W>,
+    walker: &mut Walker<'_, '_, W>,
+    place: Place,
+    predicate: &Expr,
+) -> Result<Value, ValueFault>
+    requires place { IsPlace scope.now place }
+    requires walker { walker.old ≡ source_of scope.now }
+    ensures passes { PassesAt scope.now place result (mean (tree_of predicate.now)) }
+    ensures walker { walker.new ≡ walker.old }
+{
+    match passes(scope, walker, place, predicate) {
+        Some(passed) => Ok(Value::Truth(passed)),
+        None => value_at(scope, walker, place, predicate),
+    }
 }

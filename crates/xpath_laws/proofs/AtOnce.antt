@@ -140,12 +140,12 @@ maybe_back true xs x m = turned_back xs x m
 maybe_back false xs x m = m
 
 -- a node is on an axis and passes a test
-record IsOn (axis : Axis) (t : Test) (e : Entry) (es : List Entry) (x : Entry) : Type 0 where
-  there : Among x es
-  on : is_on axis e.path x.path ≡ true
-  passed : passes t (is_attribute_axis axis) x ≡ true
+pub record IsOn (axis : Axis) (t : Test) (e : Entry) (es : List Entry) (x : Entry) : Type 0 where
+  pub there : Among x es
+  pub on : is_on axis e.path x.path ≡ true
+  pub passed : passes t (is_attribute_axis axis) x ≡ true
 
-is_found_on : (axis : Axis) (t : Test) (e : Entry) (es : List Entry) (x : Entry) → Among x (on_axis axis t e es) → IsOn axis t e es x
+pub is_found_on : (axis : Axis) (t : Test) (e : Entry) (es : List Entry) (x : Entry) → Among x (on_axis axis t e es) → IsOn axis t e es x
 unfolding axis_list
 is_found_on axis t e es x m =
     let r = among_filter (passes t (is_attribute_axis axis)) (axis_list axis e.path es) x m in

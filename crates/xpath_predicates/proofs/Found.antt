@@ -1,18 +1,25 @@
 -- A loop over the nodes on an axis: those that were asked, and those that are still to come.
 use Rattle.std.proofs.Common.{◌≡◌, ℕ, Bool, true, false, not, ◌||◌, List, [], ◌∷◌, ◌++◌, map, filter, Option, Some, None, refl, sym, ◌∙◌, ap, subst, append_assoc, append-nil}
-use Rattle.std.specs.Prelude.{option_to_list}
+use Rattle.std.specs.Prelude.{option_to_list, IfSome}
 use Rattle.std.specs.List.{AllByRecursion, Contains, list_any}
 use Rattle.xml_model.proofs.Each.{contains_here, contains_next}
 use Rattle.xml_model.specs.declared.Axis.{Axis}
+use Rattle.xml_model.specs.declared.Axis.TheVariants as axes
 use Rattle.xml_model.specs.declared.Node.{Node}
-use Rattle.xml_model.specs.Names.{Test}
+use Rattle.xml_model.specs.Names.{Test, passes}
 use Rattle.xml_model.specs.Nest.{Forest}
-use Rattle.xml_model.specs.Tree.{Entry, Identifies}
+use Rattle.xml_model.specs.Tree.{Entry, Identifies, axis_list, kind_of}
 use Rattle.vtd_words.specs.Lists.{Lists}
 use Rattle.vtd_words.specs.Table.{IsNestOf, node_of, nodes_of}
 use Rattle.xpath_axes.specs.Tests.{nodes_on}
-use Rattle.xpath_grammar.specs.Tree.{Walk, stop, go, none, more}
-use Rattle.xpath_meaning.specs.Context.{Context, on_axis, stepped}
+use Rattle.xpath_axes.specs.Tests as tests
+use Rattle.xpath_tokens.specs.declared.StepAxis.{StepAxis}
+use Rattle.xpath_tokens.specs.declared.StepAxis.TheVariants.{Known}
+use Rattle.xpath_grammar.specs.declared.expr.StepTest.{StepTest}
+use Rattle.xpath_grammar.specs.Tree.{Walk, Trees, stop, go, none, more}
+use Rattle.xpath_meaning.specs.Context.{Context, is_attribute_axis, on_axis, stepped, test_of}
+use Rattle.xpath_laws.proofs.AtOnce.{is_found_on}
+use Rattle.xpath_laws.proofs.Trees.{among_contains, contains_among}
 use Rattle.xpath_predicates.specs.declared.asked.Asked.{Asked}
 use Rattle.xpath_predicates.specs.declared.asked.Asked.TheVariants as asked
 use Rattle.xpath_predicates.specs.Asks.{is_bad, is_right, is_sure, any_found, Decides, ForEachContext}
@@ -113,3 +120,59 @@ asking_found a w c list coming b k e h = record {
   where
     first : {p : Bool} → p ≡ true → (p || list_any (any_found w c (is_right a)) k.todo) ≡ true
     first h = cc
+
+-- Along an axis.
+
+same_axis : (axis : Axis) → tests.is_attribute_axis axis ≡ is_attribute_axis axis
+same_axis axes.Child = refl
+same_axis axes.Descendant = refl
+same_axis axes.Parent = refl
+same_axis axes.Ancestor = refl
+same_axis axes.FollowingSibling = refl
+same_axis axes.PrecedingSibling = refl
+same_axis axes.Following = refl
+same_axis axes.Preceding = refl
+same_axis axes.Attribute = refl
+same_axis axes.Itself = refl
+same_axis axes.DescendantOrSelf = refl
+same_axis axes.AncestorOrSelf = refl
+
+pub begins : (a : Asked) (f : (Entry → Bool) → Entry → Bool) (axis : Axis) (t : Test) (e : Entry) (document es : List Entry) (coming : List Node) → document ≡ es → coming ≡ nodes_on axis t e es →
+    Asking a f (on_axis axis t e document) coming false
+begins a f axis t e document es coming d h = asking_none a f (on_axis axis t e document) coming
+    (h ∙ ap (λ b. map node_of (filter (passes t b) (axis_list axis e.path es))) (same_axis axis) ∙ ap (λ xs. map node_of (on_axis axis t e xs)) (sym d))
+
+same_node : (x : Entry) (n : Node) → node_of x ≡ n → (kind_of x.what ≡ n.kind) × (x.index ≡ n.at)
+same_node x n h = (ap (λ m. m.kind) h, ap (λ m. m.at) h)
+
+pub goes_on : (a : Asked) (f : (Entry → Bool) → Entry → Bool) (axis : Axis) (t : Test) (e : Entry) (document : List Entry) (node : Node) (coming next : List Node) (r : Option Node) (b d g : Bool) →
+    Asking a f (on_axis axis t e document) coming b → coming ≡ option_to_list r ++ next → r ≡ Some node →
+    ((x : Entry) → Identifies node.kind node.at x document → Decides a (λ q. f q x) d) → g ≡ (b || d) → Asking a f (on_axis axis t e document) next g
+goes_on a f axis t e document node coming next r b d g k h i each j =
+    subst (Asking a f (on_axis axis t e document) next) (sym j)
+    (asking_more a f (on_axis axis t e document) node coming next b d k (h ∙ ap (λ o. option_to_list o ++ next) i)
+    (λ x c n. let s = same_node x node n in each x (among_contains document x (is_found_on axis t e document x (contains_among _ x c)).there, s.0, s.1)))
+
+pub ends : (a : Asked) (f : (Entry → Bool) → Entry → Bool) (axis : Axis) (t : Test) (e : Entry) (document : List Entry) (coming next : List Node) (r : Option Node) (b : Bool) →
+    Asking a f (on_axis axis t e document) coming b → coming ≡ option_to_list r ++ next → r ≡ None → next ≡ [] → Decides a (λ q. list_any (f q) (on_axis axis t e document)) b
+ends a f axis t e document coming next r b k h i n =
+    asking_done a f (on_axis axis t e document) coming b k (h ∙ ap (λ o. option_to_list o ++ next) i ∙ n)
+
+step_is : (a : StepAxis) (axis : Axis) (test : StepTest) (b : List (List ℕ × List ℕ)) (t : Test) (c : Context) (e : Entry) → a ≡ Known axis → t ≡ test_of b test → c.bindings ≡ b → stepped a test c e ≡ on_axis axis t e c.document
+unfolding stepped
+step_is a axis test b t c e q k h = ap (λ x. stepped x test c e) q ∙ ap (λ u. on_axis axis u e c.document) (ap (λ x. test_of x test) h ∙ sym k)
+
+-- a step along an axis
+pub along : (bytes : List ℕ) (lists : Lists) (bindings : List (List ℕ × List ℕ)) (node : Node) (asked : Asked) (r : Option Bool) (whole w w' : Walk) (a a' : StepAxis) (axis : Axis) (test test' : StepTest) (ps : Trees) (t : Test) →
+    whole ≡ go a test ps w → a' ≡ a → a' ≡ Known axis → test' ≡ test → t ≡ test_of bindings test' → w' ≡ w →
+    IfSome r (λ b. ForEachContext bytes lists bindings node (λ c e. Decides asked (λ q. list_any (any_found w' c q) (on_axis axis t e c.document)) b)) →
+    IfSome r (λ b. ForEachContext bytes lists bindings node (λ c e. Decides asked (λ q. any_found whole c q e) b))
+along bytes lists bindings node asked None whole w w' a a' axis test test' ps t e1 e2 e3 e4 e5 e6 f = tt
+along bytes lists bindings node asked (Some b) whole w w' a a' axis test test' ps t e1 e2 e3 e4 e5 e6 f = λ nest h c d k e i.
+    let o = f nest h c d k e i in
+    record { sound = same c e k (is_bad asked) ∙ o.sound; right = same c e k (is_right asked) ∙ o.right }
+  where
+    same : (c : Context) (e : Entry) → c.bindings ≡ bindings → (q : Entry → Bool) → any_found whole c q e ≡ list_any (any_found w' c q) (on_axis axis t e c.document)
+    same c e k q = ap (λ x. any_found x c q e) e1
+        ∙ ap (list_any (any_found w c q)) (step_is a axis test bindings t c e (sym e2 ∙ e3) (e5 ∙ ap (test_of bindings) e4) k)
+        ∙ ap (λ x. list_any (any_found x c q) (on_axis axis t e c.document)) (sym e6)

@@ -17,7 +17,7 @@ use Rattle.xpath_values.specs.declared.Value.{Value}
 use Rattle.xpath_values.specs.declared.Value.TheVariants as held
 use Rattle.xpath_values.specs.declared.ValueFault.TheVariants.{Fraction, Infinite, Range, NoMemory}
 use Rattle.xpath_values.specs.Answers.{Answer, and_then, with, each}
-use Rattle.xpath_values.specs.Numbers.{compare_numbers, number_held, number_of_text}
+use Rattle.xpath_values.specs.Numbers.{compare_numbers, is_position, number_held, number_of_text}
 use Rattle.xpath_values.specs.Values.{Meant, nodes, truth, number, text, IsHeld, by_equality, by_numbers, is_equality, is_some_list, numbers_of_nodes, some_pair, string_value, truth_of}
 use Rattle.xpath_values.specs.Values as values
 use Rattle.xpath_meaning.specs.declared.function.Function.TheVariants.{Not}
@@ -107,12 +107,12 @@ record Numbers (how : Comparison) (x : Number) (xs : List Entry) : Type 0 where
 
 all_numbers : (how : Comparison) (x : Number) (xs : List Entry) → list_any (is_bad (asked.Number how x)) xs ≡ false → Numbers how x xs
 all_numbers how x [] h = record { all = []; is = refl; any = refl }
-all_numbers how x (e ∷ es) h = by (number_of_text (string_value e)) refl
+all_numbers how x (e ∷ es) h = by (λ r. all_numbers how x es r) (number_of_text (string_value e)) refl
   where
-    by : (m : Answer Number) → number_of_text (string_value e) ≡ m → Numbers how x (e ∷ es)
-    by (Ok y) q =
+    by : (list_any (is_bad (asked.Number how x)) es ≡ false → Numbers how x es) → (m : Answer Number) → number_of_text (string_value e) ≡ m → Numbers how x (e ∷ es)
+    by rec (Ok y) q =
         let bad : is_bad (asked.Number how x) e ≡ false = ap (λ n. not (is_ok n)) q in
-        let k = all_numbers how x es (rest bad) in
+        let k = rec (rest bad) in
         record {
           all = y ∷ k.all;
           is = ap (λ n. and_then n (λ z. with (numbers_of_nodes es) (λ zs. z ∷ zs))) q ∙ ap (λ n. with n (λ zs. y ∷ zs)) k.is;
@@ -124,7 +124,7 @@ all_numbers how x (e ∷ es) h = by (number_of_text (string_value e)) refl
 
         right : (z : Number) → number_of_text (string_value e) ≡ Ok z → is_right (asked.Number how x) e ≡ compare_numbers how z x
         right z r = rw r refl
-    by (Err d) q = absurd (no (ap (λ n. not (is_ok n)) q))
+    by rec (Err d) q = absurd (no (ap (λ n. not (is_ok n)) q))
       where
         no : is_bad (asked.Number how x) e ≡ true → ⊥
         no b = let r : true ≡ false = sym (ap (λ p. p || list_any (is_bad (asked.Number how x)) es) b) ∙ h in cc
@@ -269,3 +269,39 @@ pub as_told : (s : ScopeOf) (p : Place) (b : Bool) (f : Context → Answer Meant
 as_told s p b f h = record {
   yields = λ c k. let y = h c k in record { value = y.value; meant_is = y.is; held = record { shown = truth b; held = refl; alike = sym y.passed } };
 }
+
+-- a path beside a number that is written
+pub if_number : (s : ScopeOf) (p : Place) (how : Comparison) (w : Walk) (absolute : Bool) (whole : Tree) (t : List ℕ) (x : Number) (r : Option Bool) → whole ≡ Tree.number t → number_held (number_value t) ≡ Ok x →
+    IfSome r (λ b. absolute ≡ false) → IfSome r (λ b. (c : Context) → IsContext s p c → FromHere w c (asked.Number how x) b) →
+    IfSome r (λ b. (c : Context) → IsContext s p c → Holds (mean (compare how (path absolute w) whole) c) b)
+if_number s p how w absolute whole t x None e q h f = tt
+if_number s p how w absolute whole t x (Some b) e q h f = λ c k.
+    subst (λ u. Holds (mean (compare how (path absolute w) u) c) b) (sym e)
+    (subst (λ u. Holds (mean (compare how (path u w) (Tree.number t)) c) b) (sym h) (number_holds how w t x c b q (f c k)))
+
+-- a path beside a text that is written
+pub if_text : (s : ScopeOf) (p : Place) (how : Comparison) (w : Walk) (absolute : Bool) (whole : Tree) (t : List ℕ) (a : Asked) (r : Option Bool) → whole ≡ literal t → is_equality how ≡ true →
+    ((e : Entry) → is_right a e ≡ by_equality how (bytes_eq (string_value e) t)) →
+    IfSome r (λ b. absolute ≡ false) → IfSome r (λ b. (c : Context) → IsContext s p c → FromHere w c a b) →
+    IfSome r (λ b. (c : Context) → IsContext s p c → Holds (mean (compare how (path absolute w) whole) c) b)
+if_text s p how w absolute whole t a None e q same h f = tt
+if_text s p how w absolute whole t a (Some b) e q same h f = λ c k.
+    subst (λ u. Holds (mean (compare how (path absolute w) u) c) b) (sym e)
+    (subst (λ u. Holds (mean (compare how (path u w) (literal t)) c) b) (sym h) (text_holds how w t a c b q same (f c k)))
+
+-- whether a path finds a node
+pub if_path : (s : ScopeOf) (p : Place) (w : Walk) (absolute : Bool) (whole : Tree) (r : Option Bool) → whole ≡ path absolute w →
+    IfSome r (λ b. absolute ≡ false) → IfSome r (λ b. (c : Context) → IsContext s p c → FromHere w c asked.Any b) →
+    IfSome r (λ b. (c : Context) → IsContext s p c → Holds (mean whole c) b)
+if_path s p w absolute whole None e h f = tt
+if_path s p w absolute whole (Some b) e h f = λ c k.
+    subst (λ u. Holds (mean u c) b) (sym e) (subst (λ u. Holds (mean (path u w) c) b) (sym h) (path_holds w c b (f c k)))
+
+-- predicates
+pub if_holds : (s : ScopeOf) (p : Place) (t : Tree) (r : Option Bool) → IfSome r (λ b. (c : Context) → IsContext s p c → Holds (mean t c) b) →
+    IfSome r (λ b. (c : Context) → IsContext s p c → Passes (mean t c) p.position b)
+if_holds s p t None f = tt
+if_holds s p t (Some b) f = λ c k. holds_passes (mean t c) p.position b (f c k)
+
+pub number_passes : (t : Tree) (c : Context) (x : Number) (n : ℕ) (b : Bool) → mean t c ≡ Ok (number x) → b ≡ is_position x n → Passes (mean t c) n b
+number_passes t c x n b h e = record { value = number x; is = h; passed = sym e }

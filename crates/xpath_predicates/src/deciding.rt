@@ -112,8 +112,8 @@ fn beside<W: Words>(
 
 /// The number of a function that is the position or the size, without arguments.
 fn number_called(place: Place, function: Option<Function>, arguments: &Exprs) -> Option<Number>
-    requires { place.position < 2 ^ 32 }
-    requires { place.size < 2 ^ 32 }
+    requires position { place.position < 2 ^ 32 }
+    requires size { place.size < 2 ^ 32 }
     ensures { IfSome result (λ x. (c : Context) (name : List ℕ) → function ≡ function_named name →
         c.position ≡ place.position → c.size ≡ place.size →
         mean (call name (trees_of arguments.now)) c ≡ Ok (number x)) }

@@ -1,7 +1,8 @@
 -- Steps that are taken at once (this project's own).
-use Rattle.std.specs.Prelude.{ℕ, suc, Bool, true, false, ◌&&◌, nat_le, List, [], ◌∷◌}
+use Rattle.std.specs.Prelude.{ℕ, suc, Bool, true, false, ◌&&◌, nat_le, List, [], ◌∷◌, take}
 use Rattle.xml_model.specs.declared.Axis.TheVariants as axes
 use Rattle.xml_model.specs.declared.Node.{Node}
+use Rattle.xml_model.specs.Tree.{Entry}
 use Rattle.xpath_tokens.specs.declared.StepAxis.{StepAxis}
 use Rattle.xpath_tokens.specs.declared.StepAxis.TheVariants.{Known}
 use Rattle.xpath_grammar.specs.declared.expr.Step.{Step}
@@ -44,3 +45,8 @@ abbrev pub is_scan : List Node → Step → Step → Bool
 is_scan ns step after =
     (is_to_selves step.axis && (is_any_node step.test && is_none (trees_of step.predicates)))
     && (is_to_children after.axis && is_sweep ns (trees_of after.predicates))
+
+-- nodes, or the first alone where no other is asked for
+abbrev pub fewer : Bool → List Entry → List Entry
+fewer true es = take 1 es
+fewer false es = es

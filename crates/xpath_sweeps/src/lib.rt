@@ -4,9 +4,11 @@
 #![tactic(auto)]
 
 mod analysis;
+mod firsts;
 mod scans;
 mod sweeping;
 
 pub use analysis::{are_positionless, is_number, reads_position};
+pub use firsts::{stepped_to, takes_first};
 pub use scans::{is_scan, is_sweep};
 pub use sweeping::step_all;
