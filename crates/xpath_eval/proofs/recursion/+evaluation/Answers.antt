@@ -3,6 +3,7 @@ use Rattle.std.proofs.lemmas.Grind.{common_steps}
 use Rattle.xpath_grammar.specs.Tree.{tree_of, trees_of, walk_of}
 use Rattle.xpath_meaning.specs.Meaning.{mean, filtered}
 use Rattle.xpath_eval.proofs.Loops.{begins, kept_fault, kept_on, kept_end, step_fault, step_on, step_end, found_of}
+use Rattle.xpath_predicates.proofs.Walks.{as_told}
 use Rattle.xpath_sweeps.proofs.Filters.{scanned, swept}
 use Rattle.xpath_eval.proofs.Meanings.{go_on, go_fault, filter_on, list_on, call_fault, call_gives}
 use Rattle.xpath_eval.proofs.Scans.{scanned_fault, scanned_on, sweep_positionless}
@@ -89,11 +90,11 @@ walked-returns-then-is_scan-clause-found g t c =
 
 pub scanned-returns-in-Ok-clause-found : goal.scanned-returns-in-Ok-clause-found
 scanned-returns-in-Ok-clause-found g t c =
-    scanned _ c.args.nodes.now _ _ c.args.test.now (trees_of c.args.predicates.now) (sweep_positionless c.args.nodes.now _ c.requires.at_once) c.in_ok-all.ensures.found c.in-Ok.ensures.found
+    scanned _ c.args.nodes.now _ _ c.args.test.now (trees_of c.args.predicates.now) (sweep_positionless c.args.nodes.now (trees_of c.args.predicates.now) c.requires.at_once) c.in_ok-all.ensures.found c.in-Ok.ensures.found
 
 pub swept-returns-in-Ok-clause-found : goal.swept-returns-in-Ok-clause-found
 swept-returns-in-Ok-clause-found g t c =
-    swept _ c.args.nodes.now _ _ c.args.axis c.args.test.now (trees_of c.args.predicates.now) (sweep_positionless c.args.nodes.now _ c.requires.at_once) c.in_ok-all.ensures.found c.in-Ok.ensures.found
+    swept _ c.args.nodes.now _ _ c.args.axis c.args.test.now (trees_of c.args.predicates.now) (sweep_positionless c.args.nodes.now (trees_of c.args.predicates.now) c.requires.at_once) c.in_ok-all.ensures.found c.in-Ok.ensures.found
 
 pub filtered-returns-in_ok-found-in-More-clause-found : goal.filtered-returns-in_ok-found-in-More-clause-found
 filtered-returns-in_ok-found-in-More-clause-found g t c =
@@ -112,3 +113,6 @@ value_at-returns-in_err-values-in-Call-clause-means g t c =
 pub value_at-returns-in_ok-values-in-Call-clause-means : goal.value_at-returns-in_ok-values-in-Call-clause-means
 value_at-returns-in_ok-values-in-Call-clause-means g t c =
     call_gives _ _ _ _ _ c.in-Call.name _ _ c.no_values.ensures.none c.in_ok-values-in-Call.ensures.values (ap tree_of c.in-Call.is) c.answered.ensures.means
+
+pub passed_at-returns-in-Some-clause-passes : goal.passed_at-returns-in-Some-clause-passes
+passed_at-returns-in-Some-clause-passes g t c = as_told _ c.args.place _ (mean (tree_of c.args.predicate.now)) c.in-Some.ensures.passes
