@@ -1,3 +1,4 @@
 pub mod Loops
 pub mod Meanings
 pub mod Root
+pub mod Scans

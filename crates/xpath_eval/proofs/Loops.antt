@@ -1,5 +1,5 @@
 -- Loops over nodes: what was found so far, and what is still to come.
-use Rattle.std.proofs.Common.{◌≡◌, ℕ, suc, ◌<◌, ◌≤◌, List, [], ◌∷◌, ◌++◌, ◌+◌, length, drop, refl, sym, ◌∙◌, ap, subst, arith, Ok, Err, append_assoc}
+use Rattle.std.proofs.Common.{◌≡◌, ℕ, Bool, suc, ◌<◌, ◌≤◌, List, [], ◌∷◌, ◌++◌, ◌+◌, length, drop, refl, sym, ◌∙◌, ap, subst, arith, Ok, Err, append_assoc}
 use Rattle.xml_model.specs.declared.Node.{Node}
 use Rattle.xml_model.specs.Tree.{Entry, Identifies}
 use Rattle.xpath_tokens.specs.declared.StepAxis.{StepAxis}
@@ -9,11 +9,13 @@ use Rattle.xpath_values.specs.declared.ValueFault.{ValueFault}
 use Rattle.xpath_values.specs.declared.ValueFault.TheVariants.{Fraction, Infinite, Range, NoMemory}
 use Rattle.xpath_values.specs.Answers.{Answer, and_then, with}
 use Rattle.xpath_meaning.specs.Meets.{Meets, IsHeldFor, gathered}
-use Rattle.xpath_values.specs.Values.{Meant, held_as, IsHeld}
+use Rattle.xpath_values.specs.Values.{Meant, held_as}
 use Rattle.xpath_meaning.specs.declared.scope.Place.{Place}
 use Rattle.xpath_meaning.specs.Context.{Context, at, is_passed, stepped, in_order}
 use Rattle.xpath_meaning.specs.Meaning.{kept, one_if, step_from}
-use Rattle.xpath_meaning.specs.Scope.{ScopeOf, IsScope, AreNodes, AreOf, Means, Finds, IsAt, node_if}
+use Rattle.xpath_meaning.specs.Scope.{ScopeOf, IsScope, AreNodes, AreOf, Finds, IsAt, node_if}
+use Rattle.xpath_predicates.specs.Asks.{PassesAt, PassesLike}
+use Rattle.xpath_sweeps.specs.Sweeps.{fewer}
 use Rattle.xpath_meaning.proofs.Lists.{none_left, joined}
 use Rattle.xpath_meaning.proofs.PlaceLemmas.{here, inner, stands_here, there, one_node}
 
@@ -74,7 +76,7 @@ ends document found rest whole k e = record {
 
 -- Predicates.
 
-pub kept_fault : (s : ScopeOf) (ns : List Node) (f : Context → Answer Meant) (i : ℕ) (p : Place) (found : List Node) (e : ValueFault) → SoFar s ns (kept_rest f) i found → i < length ns → IsAt ns i p → Means s p (Err e) f → Finds s ns (Err e) (λ c es. kept f c (length es) 1 es)
+pub kept_fault : (s : ScopeOf) (ns : List Node) (f : Context → Answer Meant) (i : ℕ) (p : Place) (found : List Node) (e : ValueFault) → SoFar s ns (kept_rest f) i found → i < length ns → IsAt ns i p → PassesAt s p (Err e) f → Finds s ns (Err e) (λ c es. kept f c (length es) 1 es)
 kept_fault s ns f i p found e sofar h at m = record { yields = λ c hc es a. this c hc es a }
   where
     this : (c : Context) → IsScope s c → (es : List Entry) → AreNodes c.document ns es → Meets (AreNodes c.document) (Err e) (kept f c (length es) 1 es)
@@ -82,10 +84,10 @@ kept_fault s ns f i p found e sofar h at m = record { yields = λ c hc es a. thi
         let k = here c ns es i p a h at in
         let y = m.yields (inner c es i p k) (there s c es i p hc at.position k) in
         let b = sofar.continues c hc es a in
-        same_fault (IsHeld c.document) (AreNodes c.document) e (f (inner c es i p k)) (kept f c (length es) 1 es)
+        same_fault (PassesLike p.position) (AreNodes c.document) e (f (inner c es i p k)) (kept f c (length es) 1 es)
         (λ x q. b.split ∙ ap (λ r. with (kept f c (length es) (suc i) r) (λ zs. b.entries ++ zs)) k.front ∙ ap (λ r. with (and_then r (λ v. with (kept f c (length es) (suc (suc i)) (drop (suc i) es)) (λ zs. one_if (is_passed v (suc i)) k.entry ++ zs))) (λ zs. b.entries ++ zs)) q) y
 
-pub kept_on : (s : ScopeOf) (ns : List Node) (f : Context → Answer Meant) (i : ℕ) (p : Place) (found next : List Node) (v : Value) → SoFar s ns (kept_rest f) i found → i < length ns → IsAt ns i p → Means s p (Ok v) f
+pub kept_on : (s : ScopeOf) (ns : List Node) (f : Context → Answer Meant) (i : ℕ) (p : Place) (found next : List Node) (v : Value) → SoFar s ns (kept_rest f) i found → i < length ns → IsAt ns i p → PassesAt s p (Ok v) f
     → ((w : Meant) → v ≡ held_as w → next ≡ found ++ node_if (is_passed w p.position) p.node) → SoFar s ns (kept_rest f) (i + 1) next
 kept_on s ns f i p found next v sofar h at m kept_is = record { continues = λ c hc es a. this c hc es a }
   where
@@ -94,7 +96,7 @@ kept_on s ns f i p found next v sofar h at m kept_is = record { continues = λ c
         let k = here c ns es i p a h at in
         let y = m.yields (inner c es i p k) (there s c es i p hc at.position k) in
         let n : i + 1 ≡ suc i = omega arith in
-        let q : next ≡ found ++ node_if (is_passed y.value (suc i)) p.node = kept_is y.value y.held.same ∙ ap (λ x. found ++ node_if (is_passed y.value x) p.node) (at.position ∙ n) in
+        let q : next ≡ found ++ node_if (is_passed y.value (suc i)) p.node = kept_is y.held.shown y.held.held ∙ ap (λ b. found ++ node_if b p.node) y.held.alike ∙ ap (λ x. found ++ node_if (is_passed y.value x) p.node) (at.position ∙ n) in
         let rest = kept_rest f c es (suc i) in
         let e = ap (λ r. kept f c (length es) (suc i) r) k.front ∙ ap (λ r. and_then r (λ w. with rest (λ zs. one_if (is_passed w (suc i)) k.entry ++ zs))) y.meant_is in
         subst (λ j. Continues c.document next (kept_rest f c es j) (kept_rest f c es 0)) (sym n) (subst (λ ms. Continues c.document ms rest (kept_rest f c es 0)) (sym q)
@@ -105,31 +107,31 @@ kept_end s ns f i found sofar h = record { yields = λ c hc es a. ends c.documen
 
 -- Steps.
 
-pub step_fault : (s : ScopeOf) (ns : List Node) (g : Context → List Entry → Answer (List Entry)) (axis : StepAxis) (test : StepTest) (i : ℕ) (p : Place) (found list : List Node) (e : ValueFault) → SoFar s ns (step_rest (λ c x. g c (stepped axis test c x))) i found → i < length ns → IsAt ns i p
-    → ((c : Context) → IsScope s c → (x : Entry) → Identifies p.node.kind p.node.at x c.document → AreNodes c.document list (stepped axis test c x)) → Finds s list (Err e) g → Finds s ns (Err e) (step_from g axis test)
-step_fault s ns g axis test i p found list e sofar h at steps m = record { yields = λ c hc es a. this c hc es a }
+pub step_fault : (s : ScopeOf) (ns : List Node) (g : Context → List Entry → Answer (List Entry)) (axis : StepAxis) (test : StepTest) (i : ℕ) (p : Place) (found list : List Node) (e : ValueFault) (b : Bool) → ((c : Context) (es : List Entry) → g c (fewer b es) ≡ g c es) → SoFar s ns (step_rest (λ c x. g c (stepped axis test c x))) i found → i < length ns → IsAt ns i p
+    → ((c : Context) → IsScope s c → (x : Entry) → Identifies p.node.kind p.node.at x c.document → AreNodes c.document list (fewer b (stepped axis test c x))) → Finds s list (Err e) g → Finds s ns (Err e) (step_from g axis test)
+step_fault s ns g axis test i p found list e b same sofar h at steps m = record { yields = λ c hc es a. this c hc es a }
   where
     this : (c : Context) → IsScope s c → (es : List Entry) → AreNodes c.document ns es → Meets (AreNodes c.document) (Err e) (step_from g axis test c es)
     this c hc es a =
         let k = here c ns es i p a h at in
-        let l : AreNodes c.document list (stepped axis test c k.entry) = steps c hc k.entry (stands_here c es i p k) in
         let x = stepped axis test c k.entry in
-        let y = m.yields c hc x l in
-        let b = sofar.continues c hc es a in
+        let l : AreNodes c.document list (fewer b x) = steps c hc k.entry (stands_here c es i p k) in
+        let y = subst (Meets (AreNodes c.document) (Err e)) (same c x) (m.yields c hc (fewer b x) l) in
+        let o = sofar.continues c hc es a in
         let rest = gathered (λ z. g c (stepped axis test c z)) (drop (suc i) es) in
         same_fault (AreNodes c.document) (AreNodes c.document) e (g c x) (step_from g axis test c es)
-        (λ d q. ap (λ r. with r (in_order c.document)) (b.split ∙ ap (λ r. with (gathered (λ z. g c (stepped axis test c z)) r) (λ zs. b.entries ++ zs)) k.front ∙ ap (λ r. with (and_then r (λ ys. with rest (λ zs. ys ++ zs))) (λ zs. b.entries ++ zs)) q)) y
+        (λ d q. ap (λ r. with r (in_order c.document)) (o.split ∙ ap (λ r. with (gathered (λ z. g c (stepped axis test c z)) r) (λ zs. o.entries ++ zs)) k.front ∙ ap (λ r. with (and_then r (λ ys. with rest (λ zs. ys ++ zs))) (λ zs. o.entries ++ zs)) q)) y
 
-pub step_on : (s : ScopeOf) (ns : List Node) (g : Context → List Entry → Answer (List Entry)) (axis : StepAxis) (test : StepTest) (i : ℕ) (p : Place) (found list passed next : List Node) → SoFar s ns (step_rest (λ c x. g c (stepped axis test c x))) i found → i < length ns → IsAt ns i p
-    → ((c : Context) → IsScope s c → (x : Entry) → Identifies p.node.kind p.node.at x c.document → AreNodes c.document list (stepped axis test c x)) → Finds s list (Ok passed) g → next ≡ found ++ passed → SoFar s ns (step_rest (λ c x. g c (stepped axis test c x))) (i + 1) next
-step_on s ns g axis test i p found list passed next sofar h at steps m q = record { continues = λ c hc es a. this c hc es a }
+pub step_on : (s : ScopeOf) (ns : List Node) (g : Context → List Entry → Answer (List Entry)) (axis : StepAxis) (test : StepTest) (i : ℕ) (p : Place) (found list passed next : List Node) (b : Bool) → ((c : Context) (es : List Entry) → g c (fewer b es) ≡ g c es) → SoFar s ns (step_rest (λ c x. g c (stepped axis test c x))) i found → i < length ns → IsAt ns i p
+    → ((c : Context) → IsScope s c → (x : Entry) → Identifies p.node.kind p.node.at x c.document → AreNodes c.document list (fewer b (stepped axis test c x))) → Finds s list (Ok passed) g → next ≡ found ++ passed → SoFar s ns (step_rest (λ c x. g c (stepped axis test c x))) (i + 1) next
+step_on s ns g axis test i p found list passed next b same sofar h at steps m q = record { continues = λ c hc es a. this c hc es a }
   where
     this : (c : Context) → IsScope s c → (es : List Entry) → AreNodes c.document ns es → Continues c.document next (step_rest (λ c x. g c (stepped axis test c x)) c es (i + 1)) (step_rest (λ c x. g c (stepped axis test c x)) c es 0)
     this c hc es a =
         let k = here c ns es i p a h at in
-        let l : AreNodes c.document list (stepped axis test c k.entry) = steps c hc k.entry (stands_here c es i p k) in
         let x = stepped axis test c k.entry in
-        let y : IsHeldFor (AreNodes c.document) passed (g c x) = m.yields c hc x l in
+        let l : AreNodes c.document list (fewer b x) = steps c hc k.entry (stands_here c es i p k) in
+        let y : IsHeldFor (AreNodes c.document) passed (g c x) = subst (IsHeldFor (AreNodes c.document) passed) (same c x) (m.yields c hc (fewer b x) l) in
         let n : i + 1 ≡ suc i = omega arith in
         let whole = step_rest (λ c x. g c (stepped axis test c x)) c es 0 in
         let rest = step_rest (λ c x. g c (stepped axis test c x)) c es (suc i) in

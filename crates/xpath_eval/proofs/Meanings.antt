@@ -74,6 +74,28 @@ go_on s ns slice found axis axis' test test' ps ps' w w' whole r e1 e2 e3 e4 e5 
     (subst (λ x. Finds s slice (Ok found) (step_from (filtered x) axis' test')) e4 one))))
     (subst (λ x. Finds s found r (walked x)) e5 two))
 
+-- a fault stays, whatever it is of
+pub same_fault : {X Y V W : Type 0} (R : X → V → Type 0) (S : Y → W → Type 0) (e : ValueFault) (m : Answer V) (n : Answer W) → ((d : ValueFault) → m ≡ Err d → n ≡ Err d) → Meets R (Err e) m → Meets S (Err e) n
+same_fault R S Fraction m n f y = f Fraction y
+same_fault R S Infinite m n f y = f Infinite y
+same_fault R S Range m n f y = f Range y
+same_fault R S NoMemory m n f y = tt
+
+pub go_fault : (s : ScopeOf) (ns slice : List Node) (axis axis' : StepAxis) (test test' : StepTest) (ps ps' : Trees) (w whole : Walk) (e : ValueFault) → slice ≡ ns → axis' ≡ axis → test' ≡ test → ps' ≡ ps → whole ≡ go axis test ps w
+    → Finds s slice (Err e) (step_from (filtered ps') axis' test') → Finds s ns (Err e) (walked whole)
+go_fault s ns slice axis axis' test test' ps ps' w whole e e1 e2 e3 e4 e6 one =
+    let k : Finds s ns (Err e) (step_from (filtered ps) axis test) =
+    subst (λ x. Finds s x (Err e) (step_from (filtered ps) axis test)) e1
+    (subst (λ x. Finds s slice (Err e) (step_from (filtered ps) axis x)) e3
+    (subst (λ x. Finds s slice (Err e) (step_from (filtered ps) x test')) e2
+    (subst (λ x. Finds s slice (Err e) (step_from (filtered x) axis' test')) e4 one))) in
+    subst (λ x. Finds s ns (Err e) (walked x)) (sym e6)
+    (record {
+      yields = λ c hc es a.
+          same_fault (AreNodes c.document) (AreNodes c.document) e (step_from (filtered ps) axis test c es) (walked (go axis test ps w) c es)
+          (λ d q. ap (λ m. and_then m (walked w c)) q) (k.yields c hc es a);
+    })
+
 pub filter_on : (s : ScopeOf) (ns slice found : List Node) (e e' : Tree) (ps ps' whole : Trees) (r : Answer (List Node)) → slice ≡ ns → e' ≡ e → ps' ≡ ps → whole ≡ more e ps
     → Finds s slice (Ok found) (λ c es. kept (mean e') c (length es) 1 es) → Finds s found r (filtered ps') → Finds s ns r (filtered whole)
 filter_on s ns slice found e e' ps ps' whole r e1 e2 e3 e4 one two =
@@ -88,13 +110,6 @@ pub list_on : (s : ScopeOf) (p : Place) (done behind : List Value) (h : Value) (
 list_on s p done behind h e e' es es' whole r e1 e2 e3 e4 one two =
     subst (λ x. ListMeans s p done r (listed x)) (sym e3)
     (list_more s p done behind h (mean e) (listed es) r (subst (λ x. Means s p (Ok h) (mean x)) e1 one) e4 (subst (λ x. ListMeans s p behind r (listed x)) e2 two))
-
--- a fault stays, whatever it is of
-same_fault : {X Y V W : Type 0} (R : X → V → Type 0) (S : Y → W → Type 0) (e : ValueFault) (m : Answer V) (n : Answer W) → ((d : ValueFault) → m ≡ Err d → n ≡ Err d) → Meets R (Err e) m → Meets S (Err e) n
-same_fault R S Fraction m n f y = f Fraction y
-same_fault R S Infinite m n f y = f Infinite y
-same_fault R S Range m n f y = f Range y
-same_fault R S NoMemory m n f y = tt
 
 pub call_fault : (s : ScopeOf) (p : Place) (before : List Value) (e : ValueFault) (name : List ℕ) (es : Trees) (t : Tree) → before ≡ [] → ListMeans s p before (Err e) (listed es) → t ≡ call name es → Means s p (Err e) (mean t)
 call_fault s p before e name es t none k is = subst (λ x. Means s p (Err e) (mean x)) (sym is) (record {

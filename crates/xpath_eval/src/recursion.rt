@@ -1,19 +1,27 @@
 //! The value of an expression, part by part.
 
-ghost use Rattle.std.specs.Prelude.{◌≡◌, length, IfOk};
-ghost use Rattle.xpath_grammar.specs.Tree.{tree_of, trees_of, walk_of};
+ghost use Rattle.std.specs.Prelude.{◌≡◌, true, length, IfOk};
+ghost use Rattle.xml_model.specs.declared.Axis.TheVariants as axes;
+ghost use Rattle.xpath_tokens.specs.declared.StepAxis.TheVariants.{Known};
+ghost use Rattle.xpath_grammar.specs.declared.expr.StepTest.TheVariants as written;
+ghost use Rattle.xpath_grammar.specs.Tree.{none, tree_of, trees_of, walk_of};
+ghost use Rattle.xpath_values.specs.Answers.{and_then};
 ghost use Rattle.xpath_meaning.specs.Meaning.{mean, filtered, walked, listed, kept, step_from};
 ghost use Rattle.xpath_meaning.specs.Scope.{AreFewOf, AreValuesOf, Finds, IsOf, IsPlace, ListMeans, Means, source_of};
+ghost use Rattle.xpath_predicates.specs.Asks.{PassesAt};
+ghost use Rattle.xpath_sweeps.specs.Sweeps.{is_sweep};
 
 use vtd_words::Words;
-use xml_model::{Node, NodeList};
+use xml_model::{Axis, Node, NodeList};
 use xpath_calls::answered;
 use xpath_grammar::{Expr, Exprs, StepAxis, StepTest, Steps};
 use xpath_meaning::{
     Place, Scope, Values, append, keep, literal, negated, no_nodes, no_values, nodes_in,
     nodes_value, numeral, operated, place_at, start, truth_value, with_value,
 };
-use xpath_nodes::{Walker, compared, in_order, stepped, united};
+use xpath_nodes::{Walker, compared, in_order, united};
+use xpath_predicates::passes;
+use xpath_sweeps::{is_scan, is_sweep, step_all, stepped_to, takes_first};
 use xpath_values::{Value, ValueFault, truth_of};
 
 /// The value of an expression at a place.
@@ -134,6 +142,18 @@ fn walked<W: Words>(
     match steps {
         Steps::End => Ok(nodes),
         Steps::More(step, rest) => {
+            if let Steps::More(after, others) = &**rest {
+                if is_scan(nodes.held.as_slice(), step, after) {
+                    let found = scanned(
+                        scope,
+                        walker,
+                        nodes.held.as_slice(),
+                        &after.test,
+                        &after.predicates,
+                    )?;
+                    return walked(scope, walker, found, others);
+                }
+            }
             let found = step_from(
                 scope,
                 walker,
@@ -143,6 +163,40 @@ fn walked<W: Words>(
                 &step.predicates,
             )?;
             walked(scope, walker, found, rest)
+        }
+    }
+}
+
+/// The nodes that the step to each node below or at some nodes, and then one to children, find: all of them first, and
+/// then the predicates, once. Where one of these has a fault the steps are taken in turn, since another fault may come
+/// first then.
+#[cycle(evaluation)]
+fn scanned<W: Words>(
+    scope: &Scope<'_, '_, W>,
+    walker: &mut Walker<'_, '_, W>,
+    nodes: &[Node],
+    test: &StepTest,
+    predicates: &Exprs,
+) -> Result<NodeList, ValueFault>
+    requires nodes { AreFewOf scope.now nodes.now }
+    requires at_once { is_sweep nodes.now (trees_of predicates.now) ≡ true }
+    requires walker { walker.old ≡ source_of scope.now }
+    ensures found { Finds scope.now nodes.now result (λ c es. and_then
+        (step_from (filtered none) (Known axes.DescendantOrSelf) written.Node c es)
+        (step_from (filtered (trees_of predicates.now)) (Known axes.Child) test.now c)) }
+    ensures of { IfOk result (AreFewOf scope.now) }
+    ensures walker { walker.new ≡ walker.old }
+{
+    let below = StepAxis::Known(Axis::Descendant);
+    let all = step_all(scope, walker, nodes, below, test)?;
+    match filtered(scope, walker, all, predicates) {
+        Ok(found) => Ok(found),
+        Err(ValueFault::NoMemory) => Err(ValueFault::NoMemory),
+        Err(_) => {
+            let selves = StepAxis::Known(Axis::DescendantOrSelf);
+            let held = step_all(scope, walker, nodes, selves, &StepTest::Node)?;
+            let children = StepAxis::Known(Axis::Child);
+            step_each(scope, walker, held.held.as_slice(), children, test, predicates)
         }
     }
 }
@@ -163,10 +217,59 @@ fn step_from<W: Words>(
     ensures of { IfOk result (AreFewOf scope.now) }
     ensures walker { walker.new ≡ walker.old }
 {
+    if is_sweep(nodes, predicates) {
+        return swept(scope, walker, nodes, axis, test, predicates);
+    }
+    step_each(scope, walker, nodes, axis, test, predicates)
+}
+
+/// The nodes that a step finds from some nodes: all of them first, and then the predicates, once. Where one of these has
+/// a fault the step is taken from node to node, since another fault may come first then.
+#[cycle(evaluation)]
+fn swept<W: Words>(
+    scope: &Scope<'_, '_, W>,
+    walker: &mut Walker<'_, '_, W>,
+    nodes: &[Node],
+    axis: StepAxis,
+    test: &StepTest,
+    predicates: &Exprs,
+) -> Result<NodeList, ValueFault>
+    requires nodes { AreFewOf scope.now nodes.now }
+    requires at_once { is_sweep nodes.now (trees_of predicates.now) ≡ true }
+    requires walker { walker.old ≡ source_of scope.now }
+    ensures found { Finds scope.now nodes.now result (step_from (filtered (trees_of predicates.now)) axis test.now) }
+    ensures of { IfOk result (AreFewOf scope.now) }
+    ensures walker { walker.new ≡ walker.old }
+{
+    let all = step_all(scope, walker, nodes, axis, test)?;
+    match filtered(scope, walker, all, predicates) {
+        Ok(found) => Ok(found),
+        Err(ValueFault::NoMemory) => Err(ValueFault::NoMemory),
+        Err(_) => step_each(scope, walker, nodes, axis, test, predicates),
+    }
+}
+
+/// The nodes that a step finds from some nodes, from one after another.
+#[cycle(evaluation)]
+fn step_each<W: Words>(
+    scope: &Scope<'_, '_, W>,
+    walker: &mut Walker<'_, '_, W>,
+    nodes: &[Node],
+    axis: StepAxis,
+    test: &StepTest,
+    predicates: &Exprs,
+) -> Result<NodeList, ValueFault>
+    requires nodes { AreFewOf scope.now nodes.now }
+    requires walker { walker.old ≡ source_of scope.now }
+    ensures found { Finds scope.now nodes.now result (step_from (filtered (trees_of predicates.now)) axis test.now) }
+    ensures of { IfOk result (AreFewOf scope.now) }
+    ensures walker { walker.new ≡ walker.old }
+{
+    let first = takes_first(predicates);
     let mut found = Vec::new(scope.alloc);
     for i in 0..nodes.len() {
         let place = place_at(scope, nodes, i);
-        let list = stepped(scope, walker, place, axis, test)?;
+        let list = stepped_to(scope, walker, place, axis, test, first)?;
         let passed = filtered(scope, walker, list, predicates)?;
         append(&mut found, passed)?;
     }
@@ -213,8 +316,28 @@ fn kept<W: Words>(
     let mut found = Vec::new(scope.alloc);
     for i in 0..nodes.len() {
         let place = place_at(scope, nodes, i);
-        let value = value_at(scope, walker, place, predicate)?;
+        let value = passed_at(scope, walker, place, predicate)?;
         keep(&mut found, value, place)?;
     }
     Ok(NodeList { held: found })
+}
+
+/// A value that passes the node of a place where that of a predicate does; the very value where it is not told without
+/// lists whether the predicate passes.
+#[cycle(evaluation)]
+fn passed_at<W: Words>(
+    scope: &Scope<'_, '_, W>,
+    walker: &mut Walker<'_, '_, W>,
+    place: Place,
+    predicate: &Expr,
+) -> Result<Value, ValueFault>
+    requires place { IsPlace scope.now place }
+    requires walker { walker.old ≡ source_of scope.now }
+    ensures passes { PassesAt scope.now place result (mean (tree_of predicate.now)) }
+    ensures walker { walker.new ≡ walker.old }
+{
+    match passes(scope, walker, place, predicate) {
+        Some(passed) => Ok(Value::Truth(passed)),
+        None => value_at(scope, walker, place, predicate),
+    }
 }

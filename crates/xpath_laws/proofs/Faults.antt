@@ -27,12 +27,12 @@ use Rattle.xpath_laws.specs.Faults.{faultless_steps, IsFine}
 
 -- Answers.
 
-record Before {X Y : Type 0} (m : Answer X) (g : X → Answer Y) (y : Y) : Type 0 where
-  value : X
-  is : m ≡ Ok value
-  gives : g value ≡ Ok y
+pub record Before {X Y : Type 0} (m : Answer X) (g : X → Answer Y) (y : Y) : Type 0 where
+  pub value : X
+  pub is : m ≡ Ok value
+  pub gives : g value ≡ Ok y
 
-then_before : {X Y : Type 0} (m : Answer X) (g : X → Answer Y) (y : Y) → and_then m g ≡ Ok y → Before m g y
+pub then_before : {X Y : Type 0} (m : Answer X) (g : X → Answer Y) (y : Y) → and_then m g ≡ Ok y → Before m g y
 then_before (Ok x) g y h = record { value = x; is = refl; gives = h }
 then_before (Err e) g y h = absurd cc
 

@@ -25,15 +25,15 @@ iff true b f g = sym (f refl)
 iff false true f g = g refl
 iff false false f g = refl
 
-both : (a b : Bool) → a ≡ true → b ≡ true → (a && b) ≡ true
+pub both : (a b : Bool) → a ≡ true → b ≡ true → (a && b) ≡ true
 both true b p q = q
 both false b p q = p
 
-left_of : (a b : Bool) → (a && b) ≡ true → a ≡ true
+pub left_of : (a b : Bool) → (a && b) ≡ true → a ≡ true
 left_of true b h = refl
 left_of false b h = h
 
-right_of : (a b : Bool) → (a && b) ≡ true → b ≡ true
+pub right_of : (a b : Bool) → (a && b) ≡ true → b ≡ true
 right_of true b h = h
 right_of false b h = absurd cc
 
@@ -120,7 +120,7 @@ first_or : (z x : Entry) (xs : List Entry) → Among z (x ∷ xs) → (z ≡ x) 
 first_or _ x xs (here _ _) = inl refl
 first_or z x xs (next _ _ _ k) = inr k
 
-among_filter : (p : Entry → Bool) (xs : List Entry) (z : Entry) → Among z (filter p xs) → Among z xs × (p z ≡ true)
+pub among_filter : (p : Entry → Bool) (xs : List Entry) (z : Entry) → Among z (filter p xs) → Among z xs × (p z ≡ true)
 among_filter p [] z m = elim m [ ]
 among_filter p (x ∷ xs) z m = this (p x) refl (λ k. among_filter p xs z k) m
   where
@@ -132,7 +132,7 @@ among_filter p (x ∷ xs) z m = this (p x) refl (λ k. among_filter p xs z k) m
     ]
     this false e rest k = let r = rest k in (next z x xs r.0, r.1)
 
-filter_among : (p : Entry → Bool) (xs : List Entry) (z : Entry) → Among z xs → p z ≡ true → Among z (filter p xs)
+pub filter_among : (p : Entry → Bool) (xs : List Entry) (z : Entry) → Among z xs → p z ≡ true → Among z (filter p xs)
 filter_among p _ _ (here z xs) e = subst (λ b. Among z (cond b (z ∷ filter p xs) (filter p xs))) (sym e) (here z (filter p xs))
 filter_among p _ z (next _ y xs m) e = this (p y) (filter_among p xs z m e)
   where
@@ -159,40 +159,40 @@ among_either (x ∷ xs) ys z m = this (λ k. among_either xs ys z k) m
     ]
 
 -- a node in one of the lists that f gives
-record InOne (f : Entry → List Entry) (xs : List Entry) (z : Entry) : Type 0 where
-  from : Entry
-  there : Among from xs
-  inside : Among z (f from)
+pub record InOne (f : Entry → List Entry) (xs : List Entry) (z : Entry) : Type 0 where
+  pub from : Entry
+  pub there : Among from xs
+  pub inside : Among z (f from)
 
-among_flat : (f : Entry → List Entry) (xs : List Entry) (z : Entry) → Among z (flat_map f xs) → InOne f xs z
+pub among_flat : (f : Entry → List Entry) (xs : List Entry) (z : Entry) → Among z (flat_map f xs) → InOne f xs z
 among_flat f [] z m = elim m [ ]
 among_flat f (x ∷ xs) z m = elim (among_either (f x) (flat_map f xs) z m) [
   | inl a ↦ record { from = x; there = here x xs; inside = a }
   | inr b ↦ (let r = among_flat f xs z b in record { from = r.from; there = next r.from x xs r.there; inside = r.inside })
 ]
 
-flat_among : (f : Entry → List Entry) (xs : List Entry) (x z : Entry) → Among x xs → Among z (f x) → Among z (flat_map f xs)
+pub flat_among : (f : Entry → List Entry) (xs : List Entry) (x z : Entry) → Among x xs → Among z (f x) → Among z (flat_map f xs)
 flat_among f _ _ z (here x xs) k = among_front (f x) (flat_map f xs) z k
 flat_among f _ x z (next _ y xs m) k = among_back (f y) (flat_map f xs) z (flat_among f xs x z m k)
 
 -- a node of a list with the path of d
-record Found (xs : List Entry) (d : Entry) : Type 0 where
-  node : Entry
-  there : Among node xs
-  same : is_self (steps node.path d.path) ≡ true
+pub record Found (xs : List Entry) (d : Entry) : Type 0 where
+  pub node : Entry
+  pub there : Among node xs
+  pub same : is_self (steps node.path d.path) ≡ true
 
-found : (xs : List Entry) (d : Entry) → is_in xs d ≡ true → Found xs d
+pub found : (xs : List Entry) (d : Entry) → is_in xs d ≡ true → Found xs d
 found [] d h = absurd cc
 found (x ∷ xs) d h = elim (either_of (is_self (steps x.path d.path)) (is_in xs d) h) [
   | inl a ↦ record { node = x; there = here x xs; same = a }
   | inr b ↦ (let r = found xs d b in record { node = r.node; there = next r.node x xs r.there; same = r.same })
 ]
 
-is_found : (xs : List Entry) (x : Entry) → Among x xs → is_in xs x ≡ true
+pub is_found : (xs : List Entry) (x : Entry) → Among x xs → is_in xs x ≡ true
 is_found _ _ (here x xs) = or_first _ _ (self_steps x.path)
 is_found _ x (next _ y xs m) = or_second (is_self (steps y.path x.path)) _ (is_found xs x m)
 
-filter_alike : (p q : Entry → Bool) (xs : List Entry) → ((d : Entry) → Among d xs → p d ≡ q d) → filter p xs ≡ filter q xs
+pub filter_alike : (p q : Entry → Bool) (xs : List Entry) → ((d : Entry) → Among d xs → p d ≡ q d) → filter p xs ≡ filter q xs
 filter_alike p q [] h = refl
 filter_alike p q (x ∷ xs) h =
     ap (λ b. cond b (x ∷ filter p xs) (filter p xs)) (h x (here x xs)) ∙ ap (λ r. cond (q x) (x ∷ r) r) (filter_alike p q xs (λ d m. h d (next d x xs m)))
@@ -277,7 +277,7 @@ one_two document es test t d m h =
     is_found (flat_map (found_on one_down test document) (middle document es))
     d (flat_among (found_on one_down test document) (middle document es) y d mid (step_on one_down test document y d m k.above pd))
 
-gathered_plain : (f : Entry → List Entry) (es : List Entry) → gathered (λ e. Ok (f e)) es ≡ Ok (flat_map f es)
+pub gathered_plain : (f : Entry → List Entry) (es : List Entry) → gathered (λ e. Ok (f e)) es ≡ Ok (flat_map f es)
 gathered_plain f [] = refl
 gathered_plain f (e ∷ es) = ap (λ r. with r (λ zs. f e ++ zs)) (gathered_plain f es)
 
@@ -305,7 +305,7 @@ all_of : (xs document : List Entry) → ((z : Entry) → Among z xs → Among z 
 all_of [] document f = tt
 all_of (x ∷ xs) document f = (f x (here x xs), all_of xs document (λ z m. f z (next z x xs m)))
 
-filter_twice : (p q : Entry → Bool) (xs : List Entry) → filter q (filter p xs) ≡ filter (λ e. p e && q e) xs
+pub filter_twice : (p q : Entry → Bool) (xs : List Entry) → filter q (filter p xs) ≡ filter (λ e. p e && q e) xs
 filter_twice p q [] = refl
 filter_twice p q (x ∷ xs) = this (p x) (filter_twice p q xs)
   where
@@ -314,7 +314,7 @@ filter_twice p q (x ∷ xs) = this (p x) (filter_twice p q xs)
     this true e = ap (λ r. cond (q x) (x ∷ r) r) e
     this false e = e
 
-one_more : (b : Bool) (e : Entry) (zs : List Entry) → one_if b e ++ zs ≡ cond b (e ∷ zs) zs
+pub one_more : (b : Bool) (e : Entry) (zs : List Entry) → one_if b e ++ zs ≡ cond b (e ∷ zs) zs
 one_more true e zs = refl
 one_more false e zs = refl
 

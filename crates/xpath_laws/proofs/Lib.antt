@@ -6,3 +6,5 @@ pub mod Numbered
 pub mod Trees
 pub mod Orderly
 pub mod WithinDocument
+pub mod Positions
+pub mod AtOnce

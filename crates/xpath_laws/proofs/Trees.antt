@@ -21,7 +21,7 @@ use Rattle.xml_model.proofs.Indexes.{all_rise}
 use Rattle.xml_model.proofs.NodeLaws.{places_of_two, parent_there}
 use Rattle.xpath_laws.specs.Fused.{Among, here, next, IsTree}
 
-contains_among : (xs : List Entry) (x : Entry) → Contains xs x → Among x xs
+pub contains_among : (xs : List Entry) (x : Entry) → Contains xs x → Among x xs
 contains_among [] x c = absurd (omega (arith, c.1))
 contains_among (y ∷ xs) x (zero, l, s) = subst (λ z. Among z (y ∷ xs)) s (here y xs)
 contains_among (y ∷ xs) x (suc n, l, s) = next x y xs (contains_among xs x (n, omega (arith, l), s))
@@ -41,7 +41,7 @@ rising_one low high (e ∷ es) r x y (suc n, l, s) (zero, m, t) p =
     let k : suc e.index ≤ x.index = rising_low (suc e.index) high es r.1 x (n, omega (arith, l), s) in absurd (omega (arith, k, ap index t, p))
 rising_one low high (e ∷ es) r x y (suc n, l, s) (suc k, m, t) p = rising_one (suc e.index) high es r.1 x y (n, omega (arith, l), s) (k, omega (arith, m), t) p
 
-among_contains : (xs : List Entry) (x : Entry) → Among x xs → Contains xs x
+pub among_contains : (xs : List Entry) (x : Entry) → Among x xs → Contains xs x
 among_contains _ _ (here x xs) = contains_here x xs
 among_contains _ x (next _ y xs m) = contains_next y xs x (among_contains xs x m)
 

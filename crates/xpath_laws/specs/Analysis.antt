@@ -48,3 +48,31 @@ abbrev mutual
   pub some_reads : Trees → Bool
   some_reads none = false
   some_reads (more e es) = reads_context e || some_reads es
+
+-- whether a function reads the position or the size
+abbrev pub asks_position : Option Function → Bool
+asks_position (Some f.Last) = true
+asks_position (Some f.Position) = true
+asks_position _ = false
+
+-- whether an expression reads the position or the size; predicates, and steps, do not count, since they have contexts
+-- of their own
+abbrev mutual
+  pub reads_position : Tree → Bool
+  reads_position (or a b) = reads_position a || reads_position b
+  reads_position (and a b) = reads_position a || reads_position b
+  reads_position (compare how a b) = reads_position a || reads_position b
+  reads_position (arithmetic how a b) = reads_position a || reads_position b
+  reads_position (negate a) = reads_position a
+  reads_position (union a b) = reads_position a || reads_position b
+  reads_position (path absolute w) = false
+  reads_position (from e w) = reads_position e
+  reads_position (filter e ps) = reads_position e
+  reads_position (literal t) = false
+  reads_position (number t) = false
+  reads_position (variable n) = false
+  reads_position (call name es) = asks_position (function_named name) || some_read_position es
+
+  pub some_read_position : Trees → Bool
+  some_read_position none = false
+  some_read_position (more e es) = reads_position e || some_read_position es

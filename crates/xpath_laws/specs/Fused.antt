@@ -1,11 +1,13 @@
 -- Documents as far as a descendant step asks (this project's own).
-use Rattle.std.specs.Prelude.{◌≡◌, ℕ, Bool, true, List, [], ◌∷◌, ◌⊎◌, filter, Ok}
+use Rattle.std.specs.Prelude.{◌≡◌, ℕ, Bool, true, not, ◌&&◌, List, [], ◌∷◌, ◌⊎◌, filter, Ok}
 use Rattle.xml_model.specs.Tree.{Entry, steps, is_self, is_child, ends_in_child}
-use Rattle.xpath_grammar.specs.Tree.{Trees}
+use Rattle.xpath_grammar.specs.Tree.{Trees, none, more}
 use Rattle.xpath_values.specs.Answers.{Answer}
 use Rattle.xpath_values.specs.Values.{Meant}
 use Rattle.xpath_meaning.specs.Context.{Context, at, is_passed}
 use Rattle.xpath_meaning.specs.Meaning.{filtered}
+use Rattle.xpath_laws.specs.Analysis.{reads_position}
+use Rattle.xpath_laws.specs.Faults.{kind_of, is_number}
 
 -- a node is one of a list
 pub data Among : Entry → List Entry → Type 0 where
@@ -43,3 +45,8 @@ pub record IsPlain (c : Context) (predicate : Context → Answer Meant) (q : Ent
 -- predicates have no fault on the document's nodes, and leave those that q passes
 pub record ArePlain (c : Context) (predicates : Trees) (q : Entry → Bool) : Type 0 where
   pub leave : (xs : List Entry) → AllAmong xs c.document → filtered predicates c xs ≡ Ok (filter q xs)
+
+-- predicates that do not ask for the position: none reads it, and none is a number
+abbrev pub are_positionless : Trees → Bool
+are_positionless none = true
+are_positionless (more p ps) = not (reads_position p) && (not (is_number (kind_of p)) && are_positionless ps)

@@ -1,23 +1,27 @@
 //! Laws of evaluation. Each function does nothing; its contract is the law.
 #![tactic(auto)]
 
-ghost use Rattle.std.specs.Prelude.{◌≡◌, ℕ, Bool, ◌+◌, true, false, Ok, List, length, take, drop};
+ghost use Rattle.std.specs.Prelude.{◌≡◌, ℕ, Bool, ◌+◌, true, false, Ok, List, length, take, drop, filter};
 ghost use Rattle.xml_model.specs.Nest.{Forest, is_nest};
 ghost use Rattle.std.specs.List.{AllByRecursion, Contains};
-ghost use Rattle.xml_model.specs.Contexts.{Rises};
+ghost use Rattle.xml_model.specs.Contexts.{Rises, union_list};
+ghost use Rattle.xml_model.specs.Names.{passes};
 ghost use Rattle.xml_model.specs.Tree.{Entry, all};
+ghost use Rattle.xml_model.specs.declared.Axis.{Axis};
 ghost use Rattle.xml_model.specs.declared.Axis.TheVariants as axes;
+ghost use Rattle.xpath_tokens.specs.declared.StepAxis.{StepAxis};
 ghost use Rattle.xpath_tokens.specs.declared.StepAxis.TheVariants.{Known};
 ghost use Rattle.xpath_grammar.specs.declared.expr.StepTest.{StepTest};
 ghost use Rattle.xpath_grammar.specs.declared.expr.StepTest.TheVariants as written;
 ghost use Rattle.xpath_grammar.specs.Tree.{Tree, Trees, none, more, stop, go};
+ghost use Rattle.xpath_values.specs.Answers.{and_then};
 ghost use Rattle.xpath_values.specs.Numbers.{counted};
 ghost use Rattle.xpath_values.specs.Values.{Meant, nodes, number};
-ghost use Rattle.xpath_meaning.specs.Context.{Context, at, in_order};
-ghost use Rattle.xpath_meaning.specs.Meaning.{mean, kept, walked};
-ghost use Rattle.xpath_laws.specs.Analysis.{reads_context};
+ghost use Rattle.xpath_meaning.specs.Context.{Context, at, in_order, is_attribute_axis, test_of};
+ghost use Rattle.xpath_meaning.specs.Meaning.{filtered, mean, kept, step_from, walked};
+ghost use Rattle.xpath_laws.specs.Analysis.{reads_context, reads_position};
 ghost use Rattle.xpath_laws.specs.Faults.{faultless, kind, kind_of, IsFine};
-ghost use Rattle.xpath_laws.specs.Fused.{IsTree, IsPlain, ArePlain};
+ghost use Rattle.xpath_laws.specs.Fused.{are_positionless, IsTree, IsPlain, ArePlain};
 ghost use Rattle.xpath_laws.specs.Orders.{IsPart, AreApart};
 
 /// The nodes of what an expression means are in document order, each once: their indexes rise.
@@ -99,4 +103,38 @@ pub fn faultless_is_fine()
 #[tactic(auto, using(crate::proofs::Faults::has_kind))]
 pub fn kinds_hold()
     ensures { (e : Tree) (c : Context) (v : Meant) → mean e c ≡ Ok v → kind v ≡ kind_of e }
+{}
+
+/// An expression that does not read the position or the size has one value at a node.
+#[tactic(auto, using(crate::proofs::Positions::one_value))]
+pub fn position_unread()
+    ensures { (e : Tree) (c : Context) (x : Entry) (p n q m : ℕ) → reads_position e ≡ false →
+        mean e (at c x p n) ≡ mean e (at c x q m) }
+{}
+
+/// A step without predicates finds those on the axis of some of its nodes that pass its test.
+#[tactic(auto, using(crate::proofs::AtOnce::union_step))]
+pub fn step_of_union()
+    ensures { (c : Context) (axis : Axis) (test : StepTest) (es : List Entry) → IsTree c.document →
+        step_from (filtered none) (Known axis) test c es ≡
+        Ok (filter (passes (test_of c.bindings test) (is_attribute_axis axis)) (union_list axis es c.document)) }
+{}
+
+/// Where predicates do not ask for the position, and have no fault on all nodes that a step finds from some nodes, they
+/// leave of these what the step with the predicates finds.
+#[tactic(auto, using(crate::proofs::AtOnce::at_once))]
+pub fn predicates_at_once()
+    ensures { (c : Context) (axis : StepAxis) (test : StepTest) (ps : Trees) (es xs zs : List Entry) →
+        IsTree c.document → are_positionless ps ≡ true → step_from (filtered none) axis test c es ≡ Ok xs →
+        filtered ps c xs ≡ Ok zs → step_from (filtered ps) axis test c es ≡ Ok zs }
+{}
+
+/// The same for `descendant-or-self::node()/child::T[p]`, over what `descendant::T` finds.
+#[tactic(auto, using(crate::proofs::AtOnce::scan_at_once))]
+pub fn scan_at_once()
+    ensures { (c : Context) (test : StepTest) (ps : Trees) (es xs zs : List Entry) →
+        IsTree c.document → are_positionless ps ≡ true →
+        step_from (filtered none) (Known axes.Descendant) test c es ≡ Ok xs → filtered ps c xs ≡ Ok zs →
+        and_then (step_from (filtered none) (Known axes.DescendantOrSelf) written.Node c es)
+        (step_from (filtered ps) (Known axes.Child) test c) ≡ Ok zs }
 {}

@@ -1,9 +1,12 @@
-use Rattle.std.proofs.Common.{◌≡◌, ◌∙◌, Err, arith, rules, ap}
+use Rattle.std.proofs.Common.{◌≡◌, ◌∙◌, Err, arith, rules, ap, sym}
 use Rattle.std.proofs.lemmas.Grind.{common_steps}
 use Rattle.xpath_grammar.specs.Tree.{tree_of, trees_of, walk_of}
 use Rattle.xpath_meaning.specs.Meaning.{mean, filtered}
 use Rattle.xpath_eval.proofs.Loops.{begins, kept_fault, kept_on, kept_end, step_fault, step_on, step_end, found_of}
-use Rattle.xpath_eval.proofs.Meanings.{go_on, filter_on, list_on, call_fault, call_gives}
+use Rattle.xpath_predicates.proofs.Walks.{as_told}
+use Rattle.xpath_sweeps.proofs.Filters.{scanned, swept}
+use Rattle.xpath_eval.proofs.Meanings.{go_on, go_fault, filter_on, list_on, call_fault, call_gives}
+use Rattle.xpath_eval.proofs.Scans.{scanned_fault, scanned_on, sweep_positionless}
 use Rattle.xpath_eval.proofs.recursion.+evaluation.Goals as goal
 
 pub kept-loop-i-init : goal.kept-loop-i-init
@@ -16,11 +19,11 @@ kept-loop-i-init g t c = record {
 pub kept-returns-in_err-value-clause-found : goal.kept-returns-in_err-value-clause-found
 kept-returns-in_err-value-clause-found g t c =
     let e : c.from_residual.result ≡ Err c.in_err-value.field-0.0 = first_of (search rules, grind (arith, common_steps)) in
-    rw e (kept_fault _ _ (mean (tree_of c.args.predicate.now)) c.loop-i.i c.place_at-place.result _ _ c.loop-i.invariant.so_far c.loop-i-test.true c.place_at-place.ensures.is c.in_err-value.ensures.means)
+    rw e (kept_fault _ _ (mean (tree_of c.args.predicate.now)) c.loop-i.i c.place_at-place.result _ _ c.loop-i.invariant.so_far c.loop-i-test.true c.place_at-place.ensures.is c.in_err-value.ensures.passes)
 
 pub kept-loop-i-preserved : goal.kept-loop-i-preserved
 kept-loop-i-preserved g t c = record {
-  so_far = kept_on _ _ _ _ c.place_at-place.result _ _ _ c.loop-i.invariant.so_far c.loop-i-test.true c.place_at-place.ensures.is c.in_ok-value.ensures.means c.in_ok-keep.ensures.kept;
+  so_far = kept_on _ _ _ _ c.place_at-place.result _ _ _ c.loop-i.invariant.so_far c.loop-i-test.true c.place_at-place.ensures.is c.in_ok-value.ensures.passes c.in_ok-keep.ensures.kept;
   few = omega (arith, c.in_ok-keep.ensures.few, c.loop-i.invariant.few);
   walker = first_of (search rules, cc);
 }
@@ -34,33 +37,64 @@ kept-returns-clause-of g t c = record {
   few = omega (arith, c.loop-i.invariant.few, c.requires.nodes.few);
 }
 
-pub step_from-loop-i-init : goal.step_from-loop-i-init
-step_from-loop-i-init g t c = record {
+pub step_each-loop-i-init : goal.step_each-loop-i-init
+step_each-loop-i-init g t c = record {
   so_far = rw c.new-found.ensures.items (begins _ _ _);
   walker = first_of (search rules, cc);
 }
 
-pub step_from-returns-in_err-passed-clause-found : goal.step_from-returns-in_err-passed-clause-found
-step_from-returns-in_err-passed-clause-found g t c =
+pub step_each-returns-in_err-passed-clause-found : goal.step_each-returns-in_err-passed-clause-found
+step_each-returns-in_err-passed-clause-found g t c =
     let e : c.from_residual-in_err-passed.result ≡ Err c.in_err-passed.field-0.0 = first_of (search rules, grind (arith, common_steps)) in
-    rw e (step_fault _ _ (filtered (trees_of c.args.predicates.now)) c.args.axis c.args.test.now c.loop-i.i c.place_at-place.result _ _ _ c.loop-i.invariant.so_far c.loop-i-test.true c.place_at-place.ensures.is c.in_ok-list.ensures.found c.in_err-passed.ensures.found)
+    rw e (step_fault _ _ (filtered (trees_of c.args.predicates.now)) c.args.axis c.args.test.now c.loop-i.i c.place_at-place.result _ _ _ c.takes_first-first.result c.takes_first-first.ensures c.loop-i.invariant.so_far c.loop-i-test.true c.place_at-place.ensures.is c.in_ok-list.ensures.found c.in_err-passed.ensures.found)
 
-pub step_from-loop-i-preserved : goal.step_from-loop-i-preserved
-step_from-loop-i-preserved g t c = record {
-  so_far = step_on _ _ _ _ _ _ c.place_at-place.result _ _ _ _ c.loop-i.invariant.so_far c.loop-i-test.true c.place_at-place.ensures.is c.in_ok-list.ensures.found c.in_ok-passed.ensures.found c.in_ok-append.ensures.appended;
+pub step_each-loop-i-preserved : goal.step_each-loop-i-preserved
+step_each-loop-i-preserved g t c = record {
+  so_far = step_on _ _ (filtered (trees_of c.args.predicates.now)) c.args.axis c.args.test.now _ c.place_at-place.result _ _ _ _ c.takes_first-first.result c.takes_first-first.ensures c.loop-i.invariant.so_far c.loop-i-test.true c.place_at-place.ensures.is c.in_ok-list.ensures.found c.in_ok-passed.ensures.found c.in_ok-append.ensures.appended;
   walker = first_of (search rules, cc);
 }
 
-pub step_from-returns-clause-found : goal.step_from-returns-clause-found
-step_from-returns-clause-found g t c = step_end _ _ (filtered (trees_of c.args.predicates.now)) c.args.axis c.args.test.now c.loop-i.i _ _ c.loop-i.invariant.so_far c.loop-i-test.false c.in_order.ensures.ordered
+pub step_each-returns-clause-found : goal.step_each-returns-clause-found
+step_each-returns-clause-found g t c = step_end _ _ (filtered (trees_of c.args.predicates.now)) c.args.axis c.args.test.now c.loop-i.i _ _ c.loop-i.invariant.so_far c.loop-i-test.false c.in_order.ensures.ordered
 
-pub step_from-in_order-requires : goal.step_from-in_order-requires
-step_from-in_order-requires g t c = found_of _ _ _ c.loop-i.i _ c.requires.nodes.of c.loop-i.invariant.so_far
+pub step_each-in_order-requires : goal.step_each-in_order-requires
+step_each-in_order-requires g t c = found_of _ _ _ c.loop-i.i _ c.requires.nodes.of c.loop-i.invariant.so_far
 
-pub walked-returns-in_ok-found-in-More-clause-found : goal.walked-returns-in_ok-found-in-More-clause-found
-walked-returns-in_ok-found-in-More-clause-found g t c =
+pub walked-returns-in_ok-found-in-More-2-clause-found : goal.walked-returns-in_ok-found-in-More-2-clause-found
+walked-returns-in_ok-found-in-More-2-clause-found g t c =
     let same : c.nodes.inside.held.items ≡ c.args.nodes = cc (c.nodes.view_is) in
-    go_on _ _ _ _ _ _ _ _ _ _ _ _ _ _ (c.as_slice.ensures.value ∙ same) (ap (λ x. x.axis) c.deref.ensures) (ap (λ x. x.test) c.deref-in-More.ensures) (ap (λ x. trees_of x.predicates) c.deref-in-More-2.ensures) (ap walk_of c.deref-in-More-3.ensures) (ap walk_of c.in-More.is) c.in_ok-found-in-More.ensures.found c.walked.ensures.found
+    go_on _ _ _ _ _ _ _ _ _ _ _ _ _ _ (c.as_slice-in-More.ensures.value ∙ same) (ap (λ x. x.axis) c.deref-in-More.ensures) (ap (λ x. x.test) c.deref-in-More-2.ensures) (ap (λ x. trees_of x.predicates) c.deref-in-More-3.ensures)
+    (ap walk_of c.deref-in-More-4.ensures) (ap walk_of c.in-More.is) c.in_ok-found-in-More-2.ensures.found c.walked-in-More.ensures.found
+
+pub walked-returns-in_err-found-in-More-2-clause-found : goal.walked-returns-in_err-found-in-More-2-clause-found
+walked-returns-in_err-found-in-More-2-clause-found g t c =
+    let same : c.nodes.inside.held.items ≡ c.args.nodes = cc (c.nodes.view_is) in
+    let e : c.from_residual-in_err-found-in-More-2.result ≡ Err c.in_err-found-in-More-2.field-0.0 = first_of (search rules, grind (arith, common_steps)) in
+    rw e (go_fault _ _ _ _ _ _ _ _ _ _ _ _ (c.as_slice-in-More.ensures.value ∙ same) (ap (λ x. x.axis) c.deref-in-More.ensures) (ap (λ x. x.test) c.deref-in-More-2.ensures) (ap (λ x. trees_of x.predicates) c.deref-in-More-3.ensures)
+    (ap walk_of c.in-More.is) c.in_err-found-in-More-2.ensures.found)
+
+pub walked-returns-in_err-found-in-More-clause-found : goal.walked-returns-in_err-found-in-More-clause-found
+walked-returns-in_err-found-in-More-clause-found g t c =
+    let same : c.nodes.inside.held.items ≡ c.args.nodes = cc (c.nodes.view_is) in
+    let e : c.from_residual.result ≡ Err c.in_err-found-in-More.field-0.0 = first_of (search rules, grind (arith, common_steps)) in
+    rw e (scanned_fault _ _ _ _ c.in-More.step.value _ c.in-More-deref.after.value _ _ _ (walk_of c.in-More-deref.others.value) (walk_of c.in-More.rest.value) _ _ _ (c.as_slice.ensures.value ∙ same) (c.as_slice-then-is_scan.ensures.value ∙ same) c.deref-in-More-deref.ensures c.deref-in-More-deref-2.ensures
+    c.is_scan.ensures c.if-is_scan.true (ap (λ x. x.test) c.deref-then-is_scan.ensures) (ap (λ x. trees_of x.predicates) c.deref-then-is_scan-2.ensures)
+    (ap walk_of c.in-More.is) (sym (ap walk_of c.deref.ensures) ∙ ap walk_of c.in-More-deref.is) c.in_err-found-in-More.ensures.found)
+
+pub walked-returns-then-is_scan-clause-found : goal.walked-returns-then-is_scan-clause-found
+walked-returns-then-is_scan-clause-found g t c =
+    let same : c.nodes.inside.held.items ≡ c.args.nodes = cc (c.nodes.view_is) in
+    scanned_on _ _ _ _ _ c.in-More.step.value _ c.in-More-deref.after.value _ _ _ (walk_of c.in-More-deref.others.value) _ (walk_of c.in-More.rest.value) _ _ _ (c.as_slice.ensures.value ∙ same) (c.as_slice-then-is_scan.ensures.value ∙ same) c.deref-in-More-deref.ensures c.deref-in-More-deref-2.ensures
+    c.is_scan.ensures c.if-is_scan.true (ap (λ x. x.test) c.deref-then-is_scan.ensures) (ap (λ x. trees_of x.predicates) c.deref-then-is_scan-2.ensures)
+    (ap walk_of c.in-More.is) (sym (ap walk_of c.deref.ensures) ∙ ap walk_of c.in-More-deref.is) (ap walk_of c.deref-then-is_scan-3.ensures) c.in_ok-found-in-More.ensures.found c.walked.ensures.found
+
+pub scanned-returns-in-Ok-clause-found : goal.scanned-returns-in-Ok-clause-found
+scanned-returns-in-Ok-clause-found g t c =
+    scanned _ c.args.nodes.now _ _ c.args.test.now (trees_of c.args.predicates.now) (sweep_positionless c.args.nodes.now (trees_of c.args.predicates.now) c.requires.at_once) c.in_ok-all.ensures.found c.in-Ok.ensures.found
+
+pub swept-returns-in-Ok-clause-found : goal.swept-returns-in-Ok-clause-found
+swept-returns-in-Ok-clause-found g t c =
+    swept _ c.args.nodes.now _ _ c.args.axis c.args.test.now (trees_of c.args.predicates.now) (sweep_positionless c.args.nodes.now (trees_of c.args.predicates.now) c.requires.at_once) c.in_ok-all.ensures.found c.in-Ok.ensures.found
 
 pub filtered-returns-in_ok-found-in-More-clause-found : goal.filtered-returns-in_ok-found-in-More-clause-found
 filtered-returns-in_ok-found-in-More-clause-found g t c =
@@ -79,3 +113,6 @@ value_at-returns-in_err-values-in-Call-clause-means g t c =
 pub value_at-returns-in_ok-values-in-Call-clause-means : goal.value_at-returns-in_ok-values-in-Call-clause-means
 value_at-returns-in_ok-values-in-Call-clause-means g t c =
     call_gives _ _ _ _ _ c.in-Call.name _ _ c.no_values.ensures.none c.in_ok-values-in-Call.ensures.values (ap tree_of c.in-Call.is) c.answered.ensures.means
+
+pub passed_at-returns-in-Some-clause-passes : goal.passed_at-returns-in-Some-clause-passes
+passed_at-returns-in-Some-clause-passes g t c = as_told _ c.args.place _ (mean (tree_of c.args.predicate.now)) c.in-Some.ensures.passes

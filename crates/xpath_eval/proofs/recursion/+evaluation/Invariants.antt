@@ -12,8 +12,8 @@ invariant-kept-loop-i g l = record {
   walker : l.walker ≡ l.fn.walker;
 }
 
-abbrev pub invariant-step_from-loop-i : goal.invariant-step_from-loop-i
-invariant-step_from-loop-i g l = record {
+abbrev pub invariant-step_each-loop-i : goal.invariant-step_each-loop-i
+invariant-step_each-loop-i g l = record {
   so_far : SoFar l.scope l.nodes (step_rest (λ c e. filtered (trees_of l.predicates) c (stepped l.axis l.test c e))) l.i l.found.items;
   walker : l.walker ≡ l.fn.walker;
 }

@@ -1,0 +1,10 @@
+use Rattle.std.proofs.Common.{◌≡◌, ◌∙◌, ap, subst, sym}
+use Rattle.xpath_grammar.specs.Tree.{Trees, tree_of, trees_of}
+use Rattle.xpath_meaning.specs.Meaning.{filtered}
+use Rattle.xpath_sweeps.specs.Sweeps.{fewer}
+use Rattle.xpath_sweeps.proofs.Ones.{one_asked}
+use Rattle.xpath_sweeps.proofs.firsts.takes_first.Goals as goal
+
+pub returns-in-More : goal.returns-in-More
+returns-in-More c = λ d es.
+    one_asked (trees_of c.args.predicates.now) _ _ _ c.is_one.result (ap trees_of c.in-More.is) (ap tree_of c.deref.ensures) c.is_one.ensures d es
