@@ -50,7 +50,8 @@ fn written(
     Ok((done, bytes))
 }
 
-/// Writes how a writing went, with how many bytes the file then holds. They are those that it holds where no call fails.
+/// Writes how a writing went, with how many bytes the file then holds. They are the first of those that it holds where
+/// no call fails.
 fn write_written(
     alloc: Global,
     out: &mut String,

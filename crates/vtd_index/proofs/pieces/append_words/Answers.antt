@@ -8,7 +8,8 @@ pub returns-in_err-append_all : goal.returns-in_err-append_all
 returns-in_err-append_all g c =
     let p = err_from_is_err_and c.from_residual.result c.from_residual.ensures.1 in
     let put = rw (sym c.word_len-size.ensures) at c.put_words.ensures in
-    rw (p.1, p.2, sym c.word_len-size.ensures) (sent_prefix (g.F.Files.seen c.args.files.now) (g.F.Files.seen c.loop-at.files) (g.F.Files.seen c.append_all.new.files)
+    rw (p.1, p.2, sym c.word_len-size.ensures)
+    (sent_prefix (g.F.Files.seen c.args.files.now) (g.F.Files.seen c.loop-at.files) (g.F.Files.seen c.append_all.new.files)
     c.word_len-size.result c.loop-at.at c.min-count.result
     (list_of c.args.part (g.W.Words.lists c.args.words.now)) _ c.in_err-append_all.field-0.0
     c.loop-at.invariant put (rw c.in_err-append_all.was at c.append_all.ensures))
