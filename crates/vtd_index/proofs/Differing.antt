@@ -1,5 +1,6 @@
 -- Stored words that are compared with others.
-use Rattle.std.proofs.Common.{◌≡◌, ℕ, zero, suc, ◌+◌, ◌<◌, Bool, true, false, cond, not, ◌&&◌, ◌==◌, nat_lt, List, [], ◌∷◌, length, take, slice_index, Some, None, refl, ap, sym, ◌∙◌, arith}
+use Rattle.std.proofs.Common.{◌≡◌, ℕ, zero, suc, ◌+◌, ◌<◌, Bool, true, false, cond, not, ◌&&◌, ◌==◌, nat_lt, List, [], ◌∷◌, length, take, slice_index}
+use Rattle.std.proofs.Common.{Some, None, refl, ap, sym, ◌∙◌, arith}
 use Rattle.std.proofs.lemmas.Bool.Decides.{nat_tests}
 use Rattle.std.proofs.lemmas.List.{length-take}
 use Rattle.vtd_location.specs.Differences.{differ}
@@ -20,7 +21,8 @@ other_test x y e = grind (arith, nat_tests)
 tail_same : (x y : ℕ) (xs ys : List ℕ) (k : ℕ) → SameAt (x ∷ xs) (y ∷ ys) (suc k) → SameAt xs ys k
 tail_same x y xs ys k s = record { there = let h = s.there in omega arith; same = s.same }
 
-differ_at : (n k m : ℕ) (stored words : List ℕ) → k < length words → ((j : ℕ) → j < k → SameAt stored words j) → (SameAt stored words k → ⊥) → m ≡ n + k → differ n stored words ≡ Some m
+differ_at : (n k m : ℕ) (stored words : List ℕ) → k < length words → ((j : ℕ) → j < k → SameAt stored words j) → (SameAt stored words k → ⊥)
+    → m ≡ n + k → differ n stored words ≡ Some m
 differ_at n k m stored [] within before here e = absurd (omega arith)
 differ_at n zero m [] (y ∷ ys) within before here e = ap Some (let f : n ≡ m = omega arith in f)
 differ_at n (suc k) m [] (y ∷ ys) within before here e = let h = (before 0 (omega arith)).there in absurd (omega arith)
@@ -77,4 +79,5 @@ other stored words j within e s =
 
 pub first_other : (stored words : List ℕ) (k : ℕ) → IsFirstRefused (is_other stored) [] words k → differ 0 stored words ≡ Some k
 first_other stored words k r =
-    differ_at 0 k k stored words r.within (λ j l. not_other stored words j (let w = r.within in omega arith) (r.before j l)) (other stored words k r.within r.refused) (omega arith)
+    differ_at 0 k k stored words r.within (λ j l. not_other stored words j (let w = r.within in omega arith) (r.before j l))
+    (other stored words k r.within r.refused) (omega arith)

@@ -24,7 +24,8 @@ nav_words bytes lists nest n a =
     let same : n.nest ≡ nest = one_document bytes n.nest nest n.shown.accepted.document a.document in
     words_are bytes lists n.nest n.shown.recorded n.shown.leveled ∙ ap (λ (f : Forest). words_of bytes f) same
 
-pub shows : (bytes : List ℕ) (stored : Lists) (nest : Forest) → length bytes < 2 ^ 30 → IsNestTo 6 bytes stored nest → Shows stored.records (records nest (first_place bytes))
+pub shows : (bytes : List ℕ) (stored : Lists) (nest : Forest) → length bytes < 2 ^ 30 → IsNestTo 6 bytes stored nest
+    → Shows stored.records (records nest (first_place bytes))
 shows bytes stored nest few r = nest_shown bytes stored nest few r
 
 pub is_doc : (bytes : List ℕ) (stored : Lists) (nest : Forest) → length bytes < 2 ^ 30 → Accepted 8 bytes nest → IsNestTo 6 bytes stored nest

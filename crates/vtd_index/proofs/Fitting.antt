@@ -1,9 +1,8 @@
 -- A document and its words fit into an index file.
 use Rattle.std.specs.List.{AllByRecursion as Each}
-use Rattle.std.proofs.Common.{◌≡◌, ℕ, zero, suc, ◌+◌, ◌*◌, ◌^◌, ◌<◌, ◌≤◌, Bool, true, false, cond, ◌&&◌, ◌==◌, nat_lt, List, [], ◌∷◌, ◌++◌, map}
-use Rattle.std.proofs.Common.{length, refl, ap, sym, subst, ◌∙◌, arith}
+use Rattle.std.proofs.Common.{◌≡◌, ℕ, suc, ◌+◌, ◌*◌, ◌^◌, ◌<◌, ◌≤◌, Bool, true, false, cond, ◌&&◌, ◌==◌, nat_lt, List, [], ◌∷◌, map}
+use Rattle.std.proofs.Common.{length, refl, ap, arith}
 use Rattle.std.proofs.lemmas.Bool.{and_parts, ltb-true}
-use Rattle.std.proofs.lemmas.Bool.Decides.{nat_tests}
 use Rattle.xml_model.specs.Accepted.{Accepted, is_name_token}
 use Rattle.xml_model.specs.Items.{first_place}
 use Rattle.xml_model.specs.Levels.{child_position, if_tag_of, is_tag, level_word, levels, record_level, tags_from}
@@ -12,7 +11,6 @@ use Rattle.xml_model.specs.Records.{Record, records, word}
 use Rattle.xml_model.proofs.Each.{each_append, each_more}
 use Rattle.xml_model.proofs.TagCounts.{count_within}
 use Rattle.xml_acceptance.proofs.HalfLaws.{document_half}
-use Rattle.vtd_words.specs.Lists.{Lists}
 use Rattle.vtd_words.specs.Packed.{fits, length_fits}
 use Rattle.vtd_words.specs.Table.{parts_of_record}
 use Rattle.vtd_words.proofs.Fitting.{nest_shown}
@@ -20,7 +18,6 @@ use Rattle.vtd_words.proofs.Shown.{map_length}
 use Rattle.vtd_location.proofs.ChildrenOf.{position_small}
 use Rattle.vtd_location.proofs.NavLaws.{fewer_layers}
 use Rattle.vtd_builder.specs.Documents.{words_of}
-use Rattle.vtd_builder.specs.Offered.{record_words}
 use Rattle.vtd_index.specs.Holding.{Fit, CanHold}
 
 -- the length of a record, and that of its prefix, have 20 bits in all
@@ -70,7 +67,8 @@ entry_fits : (t c : ℕ) → t < 2 ^ 32 → c < 2 ^ 32 → level_word (t, c) < 2
 unfolding level_word
 entry_fits t c a b = omega arith
 
-each_entry : (child : ℕ → ℕ) (ts : List ℕ) → ((t : ℕ) → child t < 2 ^ 32) → Each (λ t. t < 2 ^ 32) ts → Each (λ w. w < 256 ^ 8) (map level_word (map (λ t. (t, child t)) ts))
+each_entry : (child : ℕ → ℕ) (ts : List ℕ) → ((t : ℕ) → child t < 2 ^ 32) → Each (λ t. t < 2 ^ 32) ts
+    → Each (λ w. w < 256 ^ 8) (map level_word (map (λ t. (t, child t)) ts))
 each_entry child [] c h = tt
 each_entry child (t ∷ ts) c h = (entry_fits t (child t) h.0 (c t), each_entry child ts c h.1)
 

@@ -1,5 +1,6 @@
 -- What a head that is found says of the file.
-use Rattle.std.proofs.Common.{◌≡◌, ℕ, zero, suc, ◌+◌, ◌-◌, ◌*◌, ◌^◌, ◌<◌, ◌≤◌, Bool, true, false, cond, not, nat_lt, ◌==◌, List, [], ◌∷◌, length, take, drop, get_or, codes, Option, Some, None, Result, Ok, Err, refl, ap, subst, arith}
+use Rattle.std.proofs.Common.{◌≡◌, ℕ, zero, suc, ◌+◌, ◌-◌, ◌*◌, ◌^◌, ◌<◌, ◌≤◌, Bool, true, false, cond, not, nat_lt, ◌==◌, List, [], ◌∷◌, length}
+use Rattle.std.proofs.Common.{take, drop, get_or, codes, Option, Some, None, Result, Ok, Err, refl, ap, subst, arith}
 use Rattle.std.specs.Prelude.{bytes_eq}
 use Rattle.std.specs.List.{position, position_or_len}
 use Rattle.std.proofs.lemmas.Bool.Decides.{nat_tests}
@@ -11,7 +12,8 @@ use Rattle.vtd_index.specs.declared.head.Head.{Head}
 use Rattle.vtd_index.specs.declared.faults.IndexFault.{IndexFault}
 use Rattle.vtd_index.specs.declared.faults.IndexFault.TheVariants.{Short, Magic, Size, Padding}
 use Rattle.vtd_index.specs.Layout.{padded}
-use Rattle.vtd_index.specs.Heads.{slice, head_in, end_of, first_nonzero, with_zeros, with_size, or_padding, head_of, records_at, level1_at, level2_at, level3_at, level4_at, level5_at}
+use Rattle.vtd_index.specs.Heads.{slice, head_in, end_of, first_nonzero, with_zeros, with_size, or_padding, head_of, records_at, level1_at, level2_at}
+use Rattle.vtd_index.specs.Heads.{level3_at, level4_at, level5_at}
 
 pub record IsHead (file : List ℕ) (h : Head) : Type 0 where
   pub long : 40 ≤ length file
@@ -49,7 +51,8 @@ past_zeros None r h e = record { test = refl; rest = e }
 same_ok : (g h : Head) → ◌≡◌ {A = Result Head IndexFault} (Ok g) (Ok h) → g ≡ h
 same_ok g h e = cc
 
-sized : (file : List ℕ) (g h : Head) → with_size file g ≡ Ok h → 40 ≤ length file → bytes_eq (codes "VTDIDX02") (take 8 file) ≡ true → g ≡ head_in file → IsHead file h
+sized : (file : List ℕ) (g h : Head) → with_size file g ≡ Ok h → 40 ≤ length file → bytes_eq (codes "VTDIDX02") (take 8 file) ≡ true
+    → g ≡ head_in file → IsHead file h
 sized file g h e long magic is =
     let a = past (nat_lt 1073741823 g.document) Size (cond (length file == end_of g) (with_zeros file g) (Err Size)) h e in
     let b = met (length file == end_of g) Size (with_zeros file g) h a.rest in
@@ -138,18 +141,22 @@ all_pass n (b ∷ bs) h = by_test (b == 0) refl h (all_pass (n + 1) bs)
 pub none_nonzero : (n : ℕ) (bs : List ℕ) → position (λ b. not (b == 0)) bs ≡ None → first_nonzero n bs ≡ None
 none_nonzero n bs e = by_test (nat_lt (position_or_len (λ (b : ℕ). not (b == 0)) bs) (length bs)) refl e
   where
-    by_test : (t : Bool) → nat_lt (position_or_len (λ b. not (b == 0)) bs) (length bs) ≡ t → cond t (Some (position_or_len (λ b. not (b == 0)) bs)) None ≡ None → first_nonzero n bs ≡ None
+    by_test : (t : Bool) → nat_lt (position_or_len (λ b. not (b == 0)) bs) (length bs) ≡ t
+        → cond t (Some (position_or_len (λ b. not (b == 0)) bs)) None ≡ None → first_nonzero n bs ≡ None
     by_test true t h = absurd (cc)
     by_test false t h = all_pass n bs (grind (arith, nat_tests, t))
 
 -- what the tests of bytes that are to be zero answer
-pub nonzero_spare : (file : List ℕ) (h : Head) (at : ℕ) → first_nonzero 36 (slice 36 4 file) ≡ Some at → ◌≡◌ {A = Result Head IndexFault} (Err (Padding at)) (with_zeros file h)
+pub nonzero_spare : (file : List ℕ) (h : Head) (at : ℕ) → first_nonzero 36 (slice 36 4 file) ≡ Some at
+    → ◌≡◌ {A = Result Head IndexFault} (Err (Padding at)) (with_zeros file h)
 nonzero_spare file h at e = rw e refl
 
 pub nonzero_padding : (file : List ℕ) (h : Head) (at : ℕ) → first_nonzero 36 (slice 36 4 file) ≡ None
-    → first_nonzero (40 + h.document) (slice (40 + h.document) (padded h.document - h.document) file) ≡ Some at → ◌≡◌ {A = Result Head IndexFault} (Err (Padding at)) (with_zeros file h)
+    → first_nonzero (40 + h.document) (slice (40 + h.document) (padded h.document - h.document) file) ≡ Some at
+    → ◌≡◌ {A = Result Head IndexFault} (Err (Padding at)) (with_zeros file h)
 nonzero_padding file h at d e = rw (d, e) refl
 
 pub all_zeros : (file : List ℕ) (h : Head) → first_nonzero 36 (slice 36 4 file) ≡ None
-    → first_nonzero (40 + h.document) (slice (40 + h.document) (padded h.document - h.document) file) ≡ None → ◌≡◌ {A = Result Head IndexFault} (Ok h) (with_zeros file h)
+    → first_nonzero (40 + h.document) (slice (40 + h.document) (padded h.document - h.document) file) ≡ None
+    → ◌≡◌ {A = Result Head IndexFault} (Ok h) (with_zeros file h)
 all_zeros file h d e = rw (d, e) refl

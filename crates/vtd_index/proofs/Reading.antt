@@ -1,5 +1,6 @@
 -- The file of a document and its words is read back: its head has no fault, and the parts are those.
-use Rattle.std.proofs.Common.{◌≡◌, ℕ, zero, suc, ◌+◌, ◌-◌, ◌*◌, ◌^◌, ◌<◌, true, false, cond, nat_lt, ◌==◌, List, [], ◌∷◌, ◌++◌, length, take, drop, codes, replicate, None, Result, Ok, Err, refl, ap, sym, ◌∙◌, arith}
+use Rattle.std.proofs.Common.{◌≡◌, ℕ, zero, suc, ◌+◌, ◌-◌, ◌*◌, ◌^◌, ◌<◌, true, false, cond, nat_lt, ◌==◌, List, [], ◌∷◌, ◌++◌, length, take, drop}
+use Rattle.std.proofs.Common.{codes, replicate, None, Result, Ok, Err, refl, ap, sym, ◌∙◌, arith}
 use Rattle.std.specs.Prelude.{bytes_eq}
 use Rattle.std.proofs.lemmas.Bool.Decides.{nat_tests}
 use Rattle.std.proofs.lemmas.Slice.Eq.{bytes_eq-Decides}
@@ -13,7 +14,8 @@ use Rattle.vtd_index.specs.declared.head.Head.{Head}
 use Rattle.vtd_index.specs.declared.faults.IndexFault.{IndexFault}
 use Rattle.vtd_index.specs.declared.faults.IndexFault.TheVariants.{Short, Size}
 use Rattle.vtd_index.specs.Layout.{padded, file_of}
-use Rattle.vtd_index.specs.Heads.{slice, first_nonzero, head_in, end_of, with_size, head_of, records_at, level1_at, level2_at, level3_at, level4_at, level5_at, document_in}
+use Rattle.vtd_index.specs.Heads.{slice, first_nonzero, head_in, end_of, with_size, head_of, records_at, level1_at, level2_at, level3_at, level4_at}
+use Rattle.vtd_index.specs.Heads.{level5_at, document_in}
 use Rattle.vtd_index.specs.Holding.{Fit, CanHold, head_for, ReadBack}
 use Rattle.vtd_index.proofs.Sending.{length_number}
 use Rattle.vtd_index.proofs.Heads.{all_zeros, is_head}
@@ -50,7 +52,8 @@ record At (file : List ℕ) (p n q : ℕ) (x rest : List ℕ) : Type 0 where
 
 after : (file : List ℕ) (p n q : ℕ) (x rest : List ℕ) → At file p n q x rest → drop q file ≡ rest
 after file p n q x rest a =
-    ap (λ (k : ℕ). drop k file) a.place ∙ sym (drop-drop n p file) ∙ ap (λ (ys : List ℕ). drop n ys) a.here ∙ ap (λ (k : ℕ). drop k (x ++ rest)) (sym a.long) ∙ drop_first x rest
+    ap (λ (k : ℕ). drop k file) a.place ∙ sym (drop-drop n p file) ∙ ap (λ (ys : List ℕ). drop n ys) a.here
+    ∙ ap (λ (k : ℕ). drop k (x ++ rest)) (sym a.long) ∙ drop_first x rest
 
 part_is : (file : List ℕ) (p n q : ℕ) (x rest : List ℕ) → At file p n q x rest → slice p n file ≡ x
 unfolding slice
@@ -136,9 +139,11 @@ parts f bytes w e =
     let a7 = next f 28 4 32 4 36 _ (number_bytes 4 (length w.level5)) _ a6 (length_number 4 _) refl in
     let a8 = next f 32 4 36 4 40 _ (replicate 4 0) _ a7 refl refl in
     let a9 = next f 36 4 40 (length bytes) (40 + length bytes) _ bytes _ a8 refl refl in
-    let b0 = next f 40 (length bytes) (40 + length bytes) (padded (length bytes) - length bytes) (records_at h) _ (replicate (padded (length bytes) - length bytes) 0) _ a9
+    let b0 = next f 40 (length bytes) (40 + length bytes) (padded (length bytes) - length bytes) (records_at h) _
+    (replicate (padded (length bytes) - length bytes) 0) _ a9
     (length_zeros _) (omega arith) in
-    let b1 = next f (40 + length bytes) (padded (length bytes) - length bytes) (records_at h) h.records (level1_at h) _ (bytes_of 8 w.records) _ b0 (length_bytes 8 _) refl in
+    let b1 = next f (40 + length bytes) (padded (length bytes) - length bytes) (records_at h) h.records (level1_at h) _ (bytes_of 8 w.records) _ b0
+    (length_bytes 8 _) refl in
     let b2 = next f (records_at h) h.records (level1_at h) h.level1 (level2_at h) _ (bytes_of 8 w.level1) _ b1 (length_bytes 8 _) refl in
     let b3 = next f (level1_at h) h.level1 (level2_at h) h.level2 (level3_at h) _ (bytes_of 8 w.level2) _ b2 (length_bytes 8 _) refl in
     let b4 = next f (level2_at h) h.level2 (level3_at h) h.level3 (level4_at h) _ (bytes_of 8 w.level3) _ b3 (length_bytes 8 _) refl in
@@ -244,5 +249,7 @@ one_file a b v w c d e =
     same_head : (g h : Head) → ◌≡◌ {A = Result Head IndexFault} (Ok g) (Ok h) → g ≡ h
     same_head g h e = cc
 
-pub prefix_of_file : (bytes : List ℕ) (w : Lists) (n : ℕ) → CanHold bytes w → n < length (file_of bytes w) → head_of (take n (file_of bytes w)) ≡ cond (nat_lt n 40) (Err Short) (Err Size)
-prefix_of_file bytes w n c low = prefix_refused (file_of bytes w) (head_for bytes w) n (is_head (file_of bytes w) (head_for bytes w) (reads_back bytes w c).head) low
+pub prefix_of_file : (bytes : List ℕ) (w : Lists) (n : ℕ) → CanHold bytes w → n < length (file_of bytes w)
+    → head_of (take n (file_of bytes w)) ≡ cond (nat_lt n 40) (Err Short) (Err Size)
+prefix_of_file bytes w n c low = prefix_refused (file_of bytes w) (head_for bytes w) n
+    (is_head (file_of bytes w) (head_for bytes w) (reads_back bytes w c).head) low

@@ -1,10 +1,11 @@
 -- Each file of bytes is the index file of one document, or has one fault.
-use Rattle.std.proofs.Common.{◌≡◌, ◌⊎◌, ◌↔◌, ℕ, ◌+◌, ◌-◌, ◌^◌, ◌<◌, ◌≤◌, Bool, true, false, cond, nat_lt, List, length, take, Option, Some, None, Result, Ok, Err}
+use Rattle.std.proofs.Common.{◌≡◌, ◌↔◌, ℕ, ◌^◌, ◌<◌, ◌≤◌, Bool, true, false, cond, nat_lt, List, length, take, Option, Some, None}
+use Rattle.std.proofs.Common.{Result, Ok, Err}
 use Rattle.std.proofs.Common.{inl, inr, refl, ap, sym, subst, ◌∙◌, arith}
 use Rattle.std.proofs.lemmas.Bool.{cases_lt}
 use Rattle.xml_model.specs.declared.DocFault.{DocFault}
 use Rattle.xml_model.specs.declared.DocFault.TheVariants as refusals
-use Rattle.xml_model.specs.Accepted.{Accepted, IsRefusal, layer}
+use Rattle.xml_model.specs.Accepted.{Accepted, layer}
 use Rattle.xml_model.specs.Items.{first_place}
 use Rattle.xml_model.specs.Levels.{levels}
 use Rattle.xml_model.specs.Nest.{Forest}
@@ -27,13 +28,13 @@ use Rattle.vtd_index.specs.declared.faults.IndexFault.{IndexFault}
 use Rattle.vtd_index.specs.declared.faults.IndexFault.TheVariants as faults
 use Rattle.vtd_index.specs.declared.head.Head.{Head}
 use Rattle.vtd_index.specs.Heads.{document_in, head_of, lists_at}
-use Rattle.vtd_index.specs.Holding.{CanHold, ReadBack, head_for}
+use Rattle.vtd_index.specs.Holding.{head_for}
 use Rattle.vtd_index.specs.Index.{index_of, IsIndexOf, IsIndexFile, RefusesDocument, RefusesRecords, RefusesCaches, RefusesParts, FaultBy, IsFault}
 use Rattle.vtd_index.specs.Laws.{Answer, NotBoth, OneDocument, OneFault, OneIndex, PrefixesRefused, SomeAnswer, SomeIndex}
 use Rattle.vtd_index.specs.Layout.{file_of}
 use Rattle.vtd_index.proofs.Differing.{same_none}
 use Rattle.vtd_index.proofs.Fitting.{can_hold}
-use Rattle.vtd_index.proofs.Heads.{IsHead, is_head, length_slice}
+use Rattle.vtd_index.proofs.Heads.{is_head, length_slice}
 use Rattle.vtd_index.proofs.Reading.{reads_file, one_file, prefix_of_file}
 use Rattle.vtd_index.proofs.Written.{is_file}
 
@@ -92,7 +93,8 @@ no_fault bytes nest faults.Size a r = r
 no_fault bytes nest (faults.Padding at) a r = r
 
 -- by the head, which is found
-fault_at : (file : List ℕ) (h : Head) (fault : IndexFault) → head_of file ≡ Ok h → IsFault file fault → RefusesParts (document_in file h) (lists_at file h) fault
+fault_at : (file : List ℕ) (h : Head) (fault : IndexFault) → head_of file ≡ Ok h → IsFault file fault
+    → RefusesParts (document_in file h) (lists_at file h) fault
 fault_at file h fault e f = subst (λ (r : Result Head IndexFault). FaultBy file fault r) e f
 
 pub not_both : NotBoth
@@ -139,7 +141,7 @@ module _ (bytes : List ℕ) (stored : Lists) where
       let one : CacheDiff = record { level = k; at = i } in
       let two : CacheDiff = record { level = l; at = j } in
       let e : ◌≡◌ {A = Option CacheDiff} (Some one) (Some two) =
-          sym r.first ∙ ap (λ (f : Forest). differ_levels (levels_in stored) (levels (records f (first_place bytes)))) same ∙ s.first in
+      sym r.first ∙ ap (λ (f : Forest). differ_levels (levels_in stored) (levels (records f (first_place bytes)))) same ∙ s.first in
       let d : one ≡ two = cc in
       ap (λ (c : CacheDiff). faults.Caches c.level c.at) d
 
@@ -196,25 +198,32 @@ module _ (file : List ℕ) (a : AreBytes file) (h : Head) (found : head_of file 
       let bytes = document_in file h in
       let words = lists_at file h in
       let same : words ≡ words_of bytes n = words_are bytes words n e (same_levels (levels_in words) (levels (records n (first_place bytes))) d) in
-      inl (bytes, record {
-        few = short_document;
-        nest = n;
-        accepted = accepted;
-        written = is_file file h a (is_head file h found) ∙ ap (λ (w : Lists). file_of bytes w) same;
-      })
+      inl (
+        bytes,
+        record {
+          few = short_document;
+          nest = n;
+          accepted = accepted;
+          written = is_file file h a (is_head file h found) ∙ ap (λ (w : Lists). file_of bytes w) same;
+        },
+      )
 
-  by_names : (n : Forest) → Accepted 6 (document_in file h) n → (lists_at file h).records ≡ record_words (document_in file h) n → acceptance.Answer 8 (document_in file h) → Answer file
-  by_names n accepted e (inr (fault, l, r)) = fault_is (faults.Doc fault) (record { refusal = r; recorded = λ x. (n, record { accepted = accepted; recorded = e }) })
+  by_names : (n : Forest) → Accepted 6 (document_in file h) n → (lists_at file h).records ≡ record_words (document_in file h) n
+      → acceptance.Answer 8 (document_in file h) → Answer file
+  by_names n accepted e (inr (fault, l, r)) = fault_is (faults.Doc fault)
+      (record { refusal = r; recorded = λ x. (n, record { accepted = accepted; recorded = e }) })
   by_names n accepted e (inl (m, b)) =
       let bytes = document_in file h in
       let same : m ≡ n = answers.one_document bytes m n b.document accepted.document in
       let whole = subst (λ (f : Forest). Accepted 8 bytes f) same b in
       by_levels n whole e (differ_levels (levels_in (lists_at file h)) (levels (records n (first_place bytes)))) refl
 
-  by_records : (n : Forest) → Accepted 6 (document_in file h) n → (o : Option ℕ) → differ 0 (lists_at file h).records (record_words (document_in file h) n) ≡ o → Answer file
+  by_records : (n : Forest) → Accepted 6 (document_in file h) n → (o : Option ℕ)
+      → differ 0 (lists_at file h).records (record_words (document_in file h) n) ≡ o → Answer file
   by_records n accepted (Some at) d = fault_is (faults.Records at) (record { nest = n; accepted = accepted; first = d })
   by_records n accepted None d =
-      by_names n accepted (same_list 0 (lists_at file h).records (record_words (document_in file h) n) d) (some.some_answer (document_in file h) 8 (omega arith))
+      by_names n accepted (same_list 0 (lists_at file h).records (record_words (document_in file h) n) d)
+      (some.some_answer (document_in file h) 8 (omega arith))
 
   by_document : acceptance.Answer 6 (document_in file h) → Answer file
   by_document (inr (fault, l, r)) = fault_is (faults.Doc fault) (record { refusal = r; recorded = λ x. absurd (omega (arith, x, l)) })
@@ -240,19 +249,23 @@ prefixes_refused file bytes n i low =
     by_test false e = subst (λ (r : Result Head IndexFault). FaultBy (take n file) faults.Size r) (sym e) refl
 
 -- what an answer says, in both directions
-pub exactly_err : (file : List ℕ) (first : IndexFault) {T : Type 0} → IsFault file first → (fault : IndexFault) → ◌≡◌ {A = Result T IndexFault} (Err first) (Err fault) ↔ IsFault file fault
+pub exactly_err : (file : List ℕ) (first : IndexFault) {T : Type 0} → IsFault file first → (fault : IndexFault)
+    → ◌≡◌ {A = Result T IndexFault} (Err first) (Err fault) ↔ IsFault file fault
 exactly_err file first {T} f fault = (to, from)
   where
     to : ◌≡◌ {A = Result T IndexFault} (Err first) (Err fault) → IsFault file fault
     to e = let same : first ≡ fault = cc in subst (λ (x : IndexFault). IsFault file x) same f
+
     from : IsFault file fault → ◌≡◌ {A = Result T IndexFault} (Err first) (Err fault)
     from g = ap (λ (x : IndexFault). Err x) (one_fault file first fault f g)
 
-pub exactly_ok : (file bytes : List ℕ) {T : Type 0} (x : T) → IsIndexOf file bytes → (fault : IndexFault) → ◌≡◌ {A = Result T IndexFault} (Ok x) (Err fault) ↔ IsFault file fault
+pub exactly_ok : (file bytes : List ℕ) {T : Type 0} (x : T) → IsIndexOf file bytes → (fault : IndexFault)
+    → ◌≡◌ {A = Result T IndexFault} (Ok x) (Err fault) ↔ IsFault file fault
 exactly_ok file bytes {T} x i fault = (to, from)
   where
     to : ◌≡◌ {A = Result T IndexFault} (Ok x) (Err fault) → IsFault file fault
     to e = absurd cc
+
     from : IsFault file fault → ◌≡◌ {A = Result T IndexFault} (Ok x) (Err fault)
     from g = absurd (not_both file fault (bytes, i) g)
 

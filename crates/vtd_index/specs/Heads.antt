@@ -72,7 +72,8 @@ or_padding None otherwise = otherwise
 abbrev pub with_zeros : List ℕ → Head → Result Head IndexFault
 with_zeros file h =
     or_padding (first_nonzero 36 (slice 36 4 file))
-    (or_padding (first_nonzero (40 + h.document) (slice (40 + h.document) (padded h.document - h.document) file)) (Ok h))
+    (or_padding (first_nonzero (40 + h.document) (slice (40 + h.document) (padded h.document - h.document) file))
+    (Ok h))
 
 -- the document has fewer than 2 to the power 30 bytes, and the parts fill the file
 abbrev pub with_size : List ℕ → Head → Result Head IndexFault

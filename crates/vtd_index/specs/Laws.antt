@@ -10,7 +10,8 @@ use Rattle.vtd_index.specs.Index.{index_of, IsFault, IsIndexFile, IsIndexOf}
 -- each document that is accepted, of fewer than 2 to the power 30 bytes, has an index file
 abbrev pub SomeIndex : Type 0
 SomeIndex =
-    (bytes : List ℕ) (nest : Forest) → length bytes < 2 ^ 30 → Accepted 8 bytes nest → IsIndexOf (index_of bytes nest) bytes
+    (bytes : List ℕ) (nest : Forest) → length bytes < 2 ^ 30 → Accepted 8 bytes nest →
+    IsIndexOf (index_of bytes nest) bytes
 
 -- and it has one alone
 abbrev pub OneIndex : Type 0
@@ -36,7 +37,7 @@ Answer file = IsIndexFile file ⊎ ((fault : IndexFault) × IsFault file fault)
 abbrev pub SomeAnswer : Type 0
 SomeAnswer = (file : List ℕ) → AreBytes file → Answer file
 
--- a prefix of an index file that is no index file's whole is too short, or of another size than it tells
+-- a proper prefix of an index file is too short, or has another length than its head tells
 abbrev pub PrefixesRefused : Type 0
 PrefixesRefused =
     (file bytes : List ℕ) (n : ℕ) → IsIndexOf file bytes → n < length file →

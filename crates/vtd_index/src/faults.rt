@@ -2,8 +2,8 @@
 
 use xml_model::DocFault;
 
-/// Why a file is no index file. The faults are tried in this order, but for `Doc`, which is tried in two parts: a refusal
-/// by layers 1 to 6 before `Records`, one by layers 7 and 8 after it.
+/// Why a file is no index file. The faults are tried in this order, but `Doc` is tried in two parts: a refusal by
+/// layers 1 to 6 before `Records`, one by layers 7 and 8 after it.
 #[derive(Clone, Copy, Debug, PartialEq, Eq)]
 pub enum IndexFault {
     /// The file has fewer than 32 bytes, or begins as an index file and has fewer than 40.

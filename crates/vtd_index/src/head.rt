@@ -2,8 +2,8 @@
 
 ghost use Rattle.std.specs.Prelude.{◌≡◌, ◌+◌, ◌-◌, ◌*◌, ◌≤◌, ◌<◌, ◌^◌, ◌==◌, length, drop, not, position, Ok};
 ghost use Rattle.vtd_words.specs.Numbers.{number};
-ghost use Rattle.vtd_index.specs.Heads.{document_in, end_of, first_nonzero, head_in, head_of, lists_at, records_at, slice};
-ghost use Rattle.vtd_index.specs.Heads.{with_size, with_zeros};
+ghost use Rattle.vtd_index.specs.Heads.{document_in, end_of, first_nonzero, head_in, head_of, lists_at, records_at};
+ghost use Rattle.vtd_index.specs.Heads.{slice, with_size, with_zeros};
 
 use crate::faults::IndexFault;
 use crate::pieces::{MAGIC, padded_len};

@@ -1,7 +1,8 @@
 //! Laws of index files. Each function does nothing; its contract is the law, which the check proves. Other crates cite
 //! the lemmas of `proofs/Verdicts.antt`, which say the same.
 
-ghost use Rattle.vtd_index.specs.Laws.{NotBoth, OneDocument, OneFault, OneIndex, PrefixesRefused, SomeAnswer, SomeIndex};
+ghost use Rattle.vtd_index.specs.Laws.{NotBoth, OneDocument, OneFault, OneIndex, PrefixesRefused, SomeAnswer};
+ghost use Rattle.vtd_index.specs.Laws.{SomeIndex};
 
 /// Each document that no check refuses, of fewer than 2 to the power 30 bytes, has an index file.
 pub fn some_index()

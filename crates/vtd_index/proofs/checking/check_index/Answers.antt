@@ -5,7 +5,7 @@ use Rattle.vtd_words.proofs.Numbered.{length_words}
 use Rattle.vtd_index.specs.Heads.{records_at, slice, document_in}
 use Rattle.vtd_index.specs.Layout.{file_of}
 use Rattle.vtd_index.proofs.Heads.{is_head, length_slice}
-use Rattle.vtd_index.specs.Index.{IsFault, IsIndexOf}
+use Rattle.vtd_index.specs.Index.{IsFault}
 use Rattle.vtd_index.proofs.Verdicts.{accepted_err, accepted_ok, exactly_err, exactly_ok, head_fault, parts_fault}
 use Rattle.vtd_index.proofs.Written.{is_file}
 use Rattle.vtd_index.proofs.checking.check_index.Goals as goal

@@ -9,11 +9,13 @@ returns-in-Err-clause-writes g c =
 pub returns-in-Err-append_index-clause-writes : goal.returns-in-Err-append_index-clause-writes
 returns-in-Err-append_index-clause-writes g c =
     write_unfinished (g.F.Files.seen c.args.files.now) (g.F.Files.seen c.begin_write.new.self) (g.F.Files.seen c.append_index.new.files) c.args.name.now
-    (file_of c.args.bytes.now (g.W.Words.lists c.args.words.now)) c.in_default.field-0 c.in-Err-append_index.failed c.in_default.ensures.begins c.in-Err-append_index.ensures
+    (file_of c.args.bytes.now (g.W.Words.lists c.args.words.now)) c.in_default.field-0 c.in-Err-append_index.failed c.in_default.ensures.begins
+    c.in-Err-append_index.ensures
 
 pub returns-clause-writes : goal.returns-clause-writes
 returns-clause-writes g c =
     write_through (g.F.Files.seen c.args.files.now) (g.F.Files.seen c.begin_write.new.self) (g.F.Files.seen c.append_index.new.files)
-    (g.F.Files.seen c.finish.new.self) c.args.name.now (file_of c.args.bytes.now (g.W.Words.lists c.args.words.now)) c.in_default.field-0 c.in_default-append_index.field-0
+    (g.F.Files.seen c.finish.new.self) c.args.name.now (file_of c.args.bytes.now
+    (g.W.Words.lists c.args.words.now)) c.in_default.field-0 c.in_default-append_index.field-0
     c.finish.result c.in_default.ensures.begins
     c.in_default-append_index.ensures c.finish.ensures.files_stay

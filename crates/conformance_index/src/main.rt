@@ -1,0 +1,23 @@
+//! Index files with what is to be said of them, as tables in files: inputs and answers are worked out by hand from the
+//! layout of index files. The program reads each file that its words name, asks every row, and prints the rows that
+//! answer otherwise and how many rows there were.
+#![tactic(auto)]
+
+mod changes;
+mod checks;
+mod doors;
+mod writes;
+
+use std::{env, fs, io};
+use tables::walk;
+
+fn main(rt: HostRuntime) -> io::Result<()> {
+    let mut words = env::args(&rt)?;
+    let _program = words.next();
+    for name in words {
+        let file = fs::read_to_string(&rt, &name)?;
+        let count = walk(&rt, &doors::Doors, file.as_str())?;
+        println!(rt; "{name}: {count} rows")?;
+    }
+    Ok(())
+}
