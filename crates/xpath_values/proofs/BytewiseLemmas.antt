@@ -1,5 +1,5 @@
 -- Translating a text byte by byte.
-use Rattle.std.proofs.Common.{◌≡◌, ◌≢◌, ℕ, suc, ◌+◌, ◌<◌, ◌≤◌, true, cond, ◌⊎◌, inl, inr, List, [], ◌∷◌, ◌++◌, length, drop, get_or, refl, sym, ◌∙◌, ap, subst, arith}
+use Rattle.std.proofs.Common.{◌≡◌, Bool, false, ◌≢◌, ℕ, suc, ◌+◌, ◌<◌, ◌≤◌, true, cond, ◌⊎◌, inl, inr, List, [], ◌∷◌, ◌++◌, length, drop, get_or, refl, sym, ◌∙◌, ap, subst, arith}
 use Rattle.std.proofs.Common.{add-one, append-nil, drop-cons}
 use Rattle.std.specs.Prelude.{◌==◌, map, slice_index}
 use Rattle.std.specs.List.{flat_map}
@@ -12,12 +12,12 @@ use Rattle.std.proofs.lemmas.Grind.{same_number_lists, get_or_default_zero}
 use Rattle.std.proofs.Math.ListN.{get_or-map, length-map, length-set}
 use Rattle.std.proofs.lemmas.List.{get_or_append_left, get_or-append-add, get_or-set_same, get_or-set_other, map-append, length-append, length-drop, nil_from_length}
 use Rattle.std.proofs.lemmas.Str.{encodes-append, encodes-chars, encode_ascii, inside_one, scalars-chars}
-use Rattle.xpath_values.specs.Translating.{IsByteTable, becomes}
+use Rattle.xpath_values.specs.Translating.{IsBytewise, becomes, swap}
 
 -- ---- the table
 
 pub table_at_end : (from to table : List ℕ) (n : ℕ) → length from ≤ n → ((k : ℕ) → k < 256 → slice_index table k ≡ k)
-    → IsByteTable (drop n from) (drop n to) table
+    → IsBytewise (drop n from) (drop n to) (slice_index table)
 table_at_end from to table n e h =
     let none : drop n from ≡ [] = nil_dropped from n e in
     record {
@@ -30,7 +30,7 @@ table_at_end from to table n e h =
     nil_dropped l n e = nil_from_length (drop n l) (omega (arith, length-drop n l))
 
 pub table_more : (from to table : List ℕ) (n : ℕ) → n < length from → n < length to → length table ≡ 256 → get_or from n 0 < 128 → get_or to n 0 < 128
-    → IsByteTable (drop (n + 1) from) (drop (n + 1) to) table → IsByteTable (drop n from) (drop n to) (set table (get_or from n 0) (get_or to n 0))
+    → IsBytewise (drop (n + 1) from) (drop (n + 1) to) (slice_index table) → IsBytewise (drop n from) (drop n to) (slice_index (set table (get_or from n 0) (get_or to n 0)))
 table_more from to table n f g len low ascii h = record {
   changed = λ c lt. both c ∙ this c lt (cases_eq c d);
   ascii = λ c lt. kept c lt (cases_eq c d);
@@ -123,24 +123,44 @@ becomes_beyond (d ∷ from) (e ∷ to) c low wide =
     ap (λ b. cond b (e ∷ []) (becomes from to c)) (ne_eqb d c (λ e. omega (arith, low 0 (omega arith))))
     ∙ becomes_beyond from to c (λ k lt. low (suc k) (omega arith)) wide
 
-module _ (from to table : List ℕ) (h : IsByteTable from to table) (low : IsAscii from) where
-  one_char : (c : ℕ) → ((k : ℕ) → k < length (encode c) → get_or (encode c) k 0 < 256) → map (slice_index table) (encode c) ≡ encodes (becomes from to c)
+-- one byte that becomes another
+pub one_bytewise : (from to : List ℕ) → length from ≡ 1 → 1 ≤ length to → IsAscii from → IsAscii to
+    → IsBytewise from to (swap (slice_index from 0) (slice_index to 0))
+one_bytewise [] to e le a b = absurd (omega arith)
+one_bytewise (x ∷ []) [] e le a b = absurd (omega arith)
+one_bytewise (x ∷ []) (y ∷ ts) e le a b = record {
+  changed = λ c lt. this c (x == c);
+  ascii = λ c lt. below c lt (x == c);
+  others = λ c wide lt. ap (λ t. cond t y c) (ne_eqb x c (λ q. omega (arith, a 0)));
+}
+  where
+    this : (c : ℕ) (t : Bool) → cond t (y ∷ []) (c ∷ []) ≡ cond t y c ∷ []
+    this c true = refl
+    this c false = refl
+
+    below : (c : ℕ) → c < 128 → (t : Bool) → cond t y c < 128
+    below c lt true = b 0
+    below c lt false = lt
+one_bytewise (x ∷ z ∷ from) to e le a b = absurd (omega arith)
+
+module _ (from to : List ℕ) (f : ℕ → ℕ) (h : IsBytewise from to f) (low : IsAscii from) where
+  one_char : (c : ℕ) → ((k : ℕ) → k < length (encode c) → get_or (encode c) k 0 < 256) → map f (encode c) ≡ encodes (becomes from to c)
   one_char c fits = this (cases_lt c 128)
     where
-      this : (c < 128) ⊎ (128 ≤ c) → map (slice_index table) (encode c) ≡ encodes (becomes from to c)
+      this : (c < 128) ⊎ (128 ≤ c) → map f (encode c) ≡ encodes (becomes from to c)
       this (inl lt) =
-          ap (map (slice_index table)) (encode_ascii c lt) ∙ sym (ap encodes (h.changed c lt) ∙ append-nil (encode (slice_index table c)) ∙ encode_ascii (slice_index table c) (h.ascii c lt))
+          ap (map f) (encode_ascii c lt) ∙ sym (ap encodes (h.changed c lt) ∙ append-nil (encode (f c)) ∙ encode_ascii (f c) (h.ascii c lt))
       this (inr wide) =
-          map_same (slice_index table) (encode c) (λ k lt. h.others (get_or (encode c) k 0) (byte_beyond c wide k lt) (fits k lt))
+          map_same f (encode c) (λ k lt. h.others (get_or (encode c) k 0) (byte_beyond c wide k lt) (fits k lt))
           ∙ sym (ap encodes (becomes_beyond from to c (λ k lt. low k) wide) ∙ append-nil (encode c))
 
   all_chars : (cs : List ℕ) → ((k : ℕ) → k < length (encodes cs) → get_or (encodes cs) k 0 < 256)
-      → map (slice_index table) (encodes cs) ≡ encodes (flat_map (becomes from to) cs)
+      → map f (encodes cs) ≡ encodes (flat_map (becomes from to) cs)
   all_chars [] fits = refl
   all_chars (c ∷ cs) fits =
       let n : length (encode c ++ encodes cs) ≡ length (encode c) + length (encodes cs) = length-append (encode c) (encodes cs) in
-      map-append (slice_index table) (encode c) (encodes cs)
-      ∙ ap (λ (l : List ℕ). l ++ map (slice_index table) (encodes cs)) (one_char c (λ k lt.
+      map-append f (encode c) (encodes cs)
+      ∙ ap (λ (l : List ℕ). l ++ map f (encodes cs)) (one_char c (λ k lt.
       omega (arith, get_or_append_left (encode c) (encodes cs) 0 k lt, fits k (omega (arith, n)))))
       ∙ ap (λ (l : List ℕ). encodes (becomes from to c) ++ l) (all_chars cs (λ k lt.
       omega (arith, get_or-append-add (encode c) (encodes cs) k 0, fits (length (encode c) + k) (omega (arith, n)))))
@@ -155,7 +175,7 @@ module _ (from to table : List ℕ) (h : IsByteTable from to table) (low : IsAsc
   one_scalar c s = this (cases_lt c 128)
     where
       this : (c < 128) ⊎ (128 ≤ c) → scalars (becomes from to c) ≡ true
-      this (inl lt) = ap scalars (h.changed c lt) ∙ and_from _ true (low_scalar (slice_index table c) (omega (arith, h.ascii c lt))) refl
+      this (inl lt) = ap scalars (h.changed c lt) ∙ and_from _ true (low_scalar (f c) (omega (arith, h.ascii c lt))) refl
       this (inr wide) = ap scalars (becomes_beyond from to c (λ k lt. low k) wide) ∙ and_from _ true s refl
 
   all_scalars : (cs : List ℕ) → scalars cs ≡ true → scalars (flat_map (becomes from to) cs) ≡ true
@@ -166,10 +186,10 @@ module _ (from to table : List ℕ) (h : IsByteTable from to table) (low : IsAsc
 
   -- the changed bytes of a text
   pub bytes_changed : (bs : List ℕ) → IsUtf8 bs → ((k : ℕ) → k < length bs → get_or bs k 0 < 256)
-      → map (slice_index table) bs ≡ encodes (flat_map (becomes from to) (chars bs))
+      → map f bs ≡ encodes (flat_map (becomes from to) (chars bs))
   bytes_changed bs u fits =
       let e : encodes (chars bs) ≡ bs = encodes-chars bs u in
-      ap (map (slice_index table)) (sym e) ∙ all_chars (chars bs) (subst (λ (l : List ℕ). (k : ℕ) → k < length l → get_or l k 0 < 256) (sym e) fits)
+      ap (map f) (sym e) ∙ all_chars (chars bs) (subst (λ (l : List ℕ). (k : ℕ) → k < length l → get_or l k 0 < 256) (sym e) fits)
 
-  pub utf8_changed : (bs : List ℕ) → IsUtf8 bs → ((k : ℕ) → k < length bs → get_or bs k 0 < 256) → IsUtf8 (map (slice_index table) bs)
+  pub utf8_changed : (bs : List ℕ) → IsUtf8 bs → ((k : ℕ) → k < length bs → get_or bs k 0 < 256) → IsUtf8 (map f bs)
   utf8_changed bs u fits = (flat_map (becomes from to) (chars bs), (all_scalars (chars bs) (scalars-chars bs u), sym (bytes_changed bs u fits)))

@@ -1,16 +1,16 @@
 -- Normalizing the bytes of a text in place of its characters, many at once.
-use Rattle.std.proofs.Common.{◌≡◌, ℕ, suc, ◌+◌, ◌<◌, ◌≤◌, Bool, true, false, ◌⊎◌, inl, inr, List, [], ◌∷◌, ◌++◌, length, take, drop, get_or, refl, sym, ◌∙◌, ap, subst, arith}
+use Rattle.std.proofs.Common.{◌≡◌, ◌≢◌, ℕ, zero, suc, ◌+◌, ◌-◌, ◌<◌, ◌≤◌, Bool, true, false, ◌⊎◌, inl, inr, List, [], ◌∷◌, ◌++◌, length, take, drop, get_or, refl, sym, ◌∙◌, ap, subst, arith}
 use Rattle.std.proofs.Common.{add-one, append_assoc, drop-cons}
 use Rattle.std.specs.Str.{IsCharBoundary, IsUtf8, chars}
 use lib.Utf8.{encode, encodes}
 use Rattle.std.proofs.lemmas.Bool.{cases_Bool, cases_lt, false_from_ne_true, false≢true}
-use Rattle.std.proofs.lemmas.List.{get_or_append_left}
+use Rattle.std.proofs.lemmas.List.{get_or_append_left, get_or-drop, get_or-take, length-drop, length-take}
 use Rattle.std.proofs.lemmas.Str.{encodes-append, encodes-chars, encode_ascii, inside_one, IsCharBoundary-before_ascii, IsCharBoundary-end}
 use Rattle.std.proofs.Math.Seq.{take-suc}
 use Rattle.xml_chars.proofs.Points.{encode_pos}
 use Rattle.xml_chars.proofs.Ranges.{space_low}
 use Rattle.xml_model.specs.Chars.{is_space, in_ranges}
-use Rattle.xpath_values.specs.Normal.{left, due}
+use Rattle.xpath_values.specs.Normal.{AreSingle, IsSingle, Stays, left, due}
 use Rattle.xpath_values.proofs.NormalLemmas.{space_left, char_left, due_bytes, nothing_left}
 
 -- bytes of which none is white space, in a word and where one begins
@@ -47,13 +47,6 @@ left_bytes some gap (c ∷ cs) = elim (cases_Bool (is_space c)) [
       ∙ ap (λ (l : List ℕ). due some gap ++ (encode c ++ l)) (left_bytes true false cs)
       ∙ sym (begin_stay some gap (encode c) (encodes cs) (encode_pos c) (byte_inside c f))
 ]
-
--- the bytes up to a place stay, at which a space may stand
-pub record Stays (bs : List ℕ) (e i : ℕ) : Type 0 where
-  pub low : e ≤ i
-  pub near : i ≤ e + 1
-  pub space : e < i → get_or bs e 0 ≡ 32
-  pub same : left true false bs ≡ take e bs ++ left true false (drop e bs)
 
 space_is : is_space 32 ≡ true
 unfolding is_space in_ranges
@@ -109,6 +102,68 @@ stays_more bs e i lt h s = record { low = omega arith; near = omega arith; space
 pub stays_spaced : (bs : List ℕ) (e i : ℕ) → i ≡ e → get_or bs i 0 ≡ 32 → Stays bs e i → Stays bs e (i + 1)
 stays_spaced bs e i same h s =
     record { low = omega (arith, s.low); near = omega arith; space = λ l. subst (λ k. get_or bs k 0 ≡ 32) same h; same = s.same }
+
+-- before a space that is single a word ends
+at_word : (bs : List ℕ) (e i : ℕ) → AreSingle bs (i + 1) → get_or bs i 0 ≡ 32 → Stays bs e i → i ≡ e
+at_word bs e i h space s = this (cases_lt e i)
+  where
+    this : (e < i) ⊎ (i ≤ e) → i ≡ e
+    this (inr le) = omega (arith, s.low)
+    this (inl lt) = inner (h e (omega arith))
+      where
+        next : e + 1 ≡ i
+        next = omega (arith, s.near)
+
+        inner : IsSingle (get_or bs e 0) (get_or bs (e + 1) 0) → i ≡ e
+        inner (inl f) = absurd (false≢true (sym f ∙ ap is_space (s.space lt) ∙ space_is))
+        inner (inr q) = absurd (q.1 (ap (λ k. get_or bs k 0) next ∙ space))
+
+-- bytes that are single stay
+single_stays : (bs : List ℕ) (i : ℕ) → i ≤ length bs → AreSingle bs i → (e : ℕ) × Stays bs e i
+single_stays bs zero within h = (0, stays_at_first bs)
+single_stays bs (suc i) within h =
+    let p = single_stays bs i (omega arith) (λ k lt. h k (omega arith)) in
+    let g : AreSingle bs (i + 1) = λ k lt. h k (omega arith) in
+    subst (λ k. (e : ℕ) × Stays bs e k) (add-one i) (this p.0 p.1 g (g i (omega arith)))
+  where
+    this : (e : ℕ) → Stays bs e i → AreSingle bs (i + 1) → IsSingle (get_or bs i 0) (get_or bs (i + 1) 0) → (d : ℕ) × Stays bs d (i + 1)
+    this e s g (inl f) = (i + 1, stays_more bs e i (omega arith) f s)
+    this e s g (inr q) = (e, stays_spaced bs e i (at_word bs e i g q.0 s) q.0 s)
+
+pub word_spaced : (bs : List ℕ) (i : ℕ) → i < length bs → AreSingle bs (i + 1) → get_or bs i 0 ≡ 32 → Stays bs i (i + 1)
+word_spaced bs i lt h space =
+    let p = single_stays bs i (omega arith) (λ k l. h k (omega arith)) in
+    let same : i ≡ p.0 = at_word bs p.0 i h space p.1 in
+    subst (λ k. Stays bs k (i + 1)) (sym same) (stays_spaced bs p.0 i same space p.1)
+
+pub word_inside : (bs : List ℕ) (i : ℕ) → i < length bs → AreSingle bs (i + 1) → get_or bs i 0 ≢ 32 → Stays bs (i + 1) (i + 1)
+word_inside bs i lt h other = this (h i (omega arith))
+  where
+    this : IsSingle (get_or bs i 0) (get_or bs (i + 1) 0) → Stays bs (i + 1) (i + 1)
+    this (inl f) = let p = single_stays bs i (omega arith) (λ k l. h k (omega arith)) in stays_more bs p.0 i lt f p.1
+    this (inr q) = absurd (other q.0)
+
+-- one more stretch
+pub more_single : (bs : List ℕ) (start n m : ℕ) → m ≡ n + 1 → start + n < length bs → AreSingle bs start
+    → ((k : ℕ) → k + 1 < length (take m (drop start bs)) → IsSingle (get_or (take m (drop start bs)) k 0) (get_or (take m (drop start bs)) (k + 1) 0))
+    → AreSingle bs (start + n)
+more_single bs start n m same within h g k lt = this (cases_lt k start)
+  where
+    window : List ℕ
+    window = take m (drop start bs)
+
+    size : length window ≡ m
+    size = omega (arith, length-take m (drop start bs), length-drop start bs)
+
+    there : (i j : ℕ) → start + j ≡ i → j < m → get_or window j 0 ≡ get_or bs i 0
+    there i j e l = get_or-take m (drop start bs) j 0 l ∙ get_or-drop start bs j 0 ∙ ap (λ q. get_or bs q 0) e
+
+    this : (k < start) ⊎ (start ≤ k) → IsSingle (get_or bs k 0) (get_or bs (k + 1) 0)
+    this (inl l) = h k l
+    this (inr l) =
+        let j : ℕ = k - start in
+        subst (λ b. IsSingle b (get_or bs (k + 1) 0)) (there k j (omega arith) (omega arith))
+        (subst (IsSingle (get_or window j 0)) (there (k + 1) (j + 1) (omega arith) (omega arith)) (g j (omega (arith, size))))
 
 -- a character begins at the place
 pub stays_place : (bs : List ℕ) (e i : ℕ) → i ≤ length bs → (i < length bs → is_space (get_or bs i 0) ≡ true) → Stays bs e i → IsCharBoundary bs e

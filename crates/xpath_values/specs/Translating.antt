@@ -1,6 +1,6 @@
 -- How a text is translated, and a language compared, from the first character on.
 use Rattle.std.specs.Prelude.{◌≡◌, ◌≤◌, ◌<◌, ℕ, Bool, true, false, cond, ◌&&◌, ◌==◌, List, [], ◌∷◌, Option, Some, None}
-use Rattle.std.specs.Prelude.{option_to_list, slice_index}
+use Rattle.std.specs.Prelude.{option_to_list}
 use Rattle.std.specs.Char.{eq_ignore_ascii_case}
 
 -- what becomes of a character, by the two texts read side by side
@@ -9,11 +9,15 @@ becomes [] to c = c ∷ []
 becomes (d ∷ from) [] c = cond (d == c) [] (becomes from [] c)
 becomes (d ∷ from) (e ∷ to) c = cond (d == c) (e ∷ []) (becomes from to c)
 
--- a table of bytes has what becomes of each character of ASCII, and every other byte stays
-pub record IsByteTable (from to table : List ℕ) : Type 0 where
-  pub changed : (c : ℕ) → c < 128 → becomes from to c ≡ slice_index table c ∷ []
-  pub ascii : (c : ℕ) → c < 128 → slice_index table c < 128
-  pub others : (c : ℕ) → 128 ≤ c → c < 256 → slice_index table c ≡ c
+-- a change of bytes is what becomes of each character of ASCII, and every other byte stays
+pub record IsBytewise (from to : List ℕ) (change : ℕ → ℕ) : Type 0 where
+  pub changed : (c : ℕ) → c < 128 → becomes from to c ≡ change c ∷ []
+  pub ascii : (c : ℕ) → c < 128 → change c < 128
+  pub others : (c : ℕ) → 128 ≤ c → c < 256 → change c ≡ c
+
+-- one byte becomes another
+abbrev pub swap : ℕ → ℕ → ℕ → ℕ
+swap from to b = cond (from == b) to b
 
 -- what is noted of a character: another one or none, and where nothing is noted, this
 abbrev pub noted : Option (Option ℕ) → List ℕ → List ℕ

@@ -3,7 +3,7 @@
 ghost use Rattle.std.specs.Prelude.{◌≡◌, ◌≤◌, ◌<◌, IfOk, length, map, slice_index, string_bytes, ℕ};
 ghost use Rattle.std.specs.Str.{IsAscii, IsUtf8, chars};
 ghost use Rattle.xpath_values.specs.Texts.{translate};
-ghost use Rattle.xpath_values.specs.Translating.{IsByteTable};
+ghost use Rattle.xpath_values.specs.Translating.{IsBytewise, swap};
 
 use std::alloc::{AllocError, Global};
 use xml_model::Text;
@@ -25,7 +25,7 @@ fn byte_table(from: &[u8], to: &[u8]) -> [u8; 256]
     requires from { IsAscii from.now }
     requires to { IsAscii to.now }
     requires room { length from.now ≤ length to.now }
-    ensures { IsByteTable from.now to.now result }
+    ensures { IsBytewise from.now to.now (slice_index result) }
 {
     let mut table = unchanged();
     let mut left = from.len();
@@ -55,6 +55,46 @@ fn changed(alloc: Global, text: &str, table: &[u8; 256]) -> Result<String, Alloc
     Ok(unsafe { String::from_utf8_unchecked(bytes) })
 }
 
+/// One byte or another.
+#[inline(always)]
+fn swapped(b: u8, from: u8, to: u8) -> u8
+    ensures { result ≡ swap from to b }
+{
+    if from == b { to } else { b }
+}
+
+/// Changes one byte to another, wherever it is.
+fn swap(bytes: &mut [u8], from: u8, to: u8)
+    ensures { bytes.new ≡ map (swap from to) bytes.old }
+{
+    for i in 0..bytes.len() {
+        bytes[i] = swapped(bytes[i], from, to);
+    }
+}
+
+/// A text of which one byte is changed to another.
+fn with_swap(alloc: Global, text: &str, from: u8, to: u8) -> Result<String, AllocError>
+    requires { IsUtf8 (map (swap from to) text.now) }
+    ensures { IfOk result (λ s. string_bytes s ≡ map (swap from to) text.now) }
+{
+    let mut bytes = Vec::from_slice(alloc, text.as_bytes())?;
+    swap(&mut bytes, from, to);
+    Ok(unsafe { String::from_utf8_unchecked(bytes) })
+}
+
+/// A text translated of which one character becomes another.
+fn translated_one(alloc: Global, text: &str, from: &str, to: &str) -> Result<Text, AllocError>
+    requires from { IsAscii from.now }
+    requires to { IsAscii to.now }
+    requires one { length from.now ≡ 1 }
+    requires room { 1 ≤ length to.now }
+    ensures { IfOk result (λ t. t ≡ translate (chars text.now) (chars from.now) (chars to.now)) }
+{
+    Ok(Text {
+        held: with_swap(alloc, text, from.as_bytes()[0], to.as_bytes()[0])?,
+    })
+}
+
 /// A text translated byte by byte.
 pub fn translated(alloc: Global, text: &str, from: &str, to: &str) -> Result<Text, AllocError>
     requires from { IsAscii from.now }
@@ -62,6 +102,9 @@ pub fn translated(alloc: Global, text: &str, from: &str, to: &str) -> Result<Tex
     requires room { length from.now ≤ length to.now }
     ensures { IfOk result (λ t. t ≡ translate (chars text.now) (chars from.now) (chars to.now)) }
 {
+    if from.len() == 1 {
+        return translated_one(alloc, text, from, to);
+    }
     let table = byte_table(from.as_bytes(), to.as_bytes());
     Ok(Text {
         held: changed(alloc, text, &table)?,

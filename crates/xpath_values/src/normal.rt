@@ -1,10 +1,10 @@
 //! `normalize-space`: XPath 1.0, section 4.2.
 
 ghost use Rattle.std.specs.Prelude.{◌≡◌, ◌≤◌, ◌++◌, ◌∷◌, IfOk, List, ℕ, drop, encode_utf8_all, length, string_bytes};
-ghost use Rattle.std.specs.Prelude.{take, true, false};
+ghost use Rattle.std.specs.Prelude.{◌+◌, ◌<◌, IsTrue, false, slice_index, take, true};
 ghost use Rattle.std.specs.Str.{IsCharBoundary, chars};
 ghost use Rattle.xml_model.specs.Chars.{is_space};
-ghost use Rattle.xpath_values.specs.Normal.{due, left};
+ghost use Rattle.xpath_values.specs.Normal.{AreSingle, IsSingle, Stays, due, left};
 ghost use Rattle.xpath_values.specs.Texts.{normalize_space};
 
 use crate::reading::is_space;
@@ -57,17 +57,81 @@ fn is_space_byte(b: u8) -> bool
     matches!(b, b' ' | b'\t' | b'\n' | b'\r')
 }
 
+/// How many bytes are tested at once.
+const STRETCH: usize = 64;
+
+/// Whether a byte is white space, without a branch: many are tested at once.
+#[inline(always)]
+#[tactic(auto, unfolding(xml_model::specs::Chars::is_space, xml_model::specs::Chars::in_ranges))]
+fn is_blank(b: u8) -> bool
+    ensures { result ≡ is_space b }
+{
+    (b == b' ') | (b == b'\t') | (b == b'\n') | (b == b'\r')
+}
+
+/// Whether a byte before another is no white space, or a space before none.
+#[inline(always)]
+fn is_single(b: u8, after: u8) -> bool
+    ensures { IsTrue result → IsSingle b after }
+{
+    !is_blank(b) | ((b == b' ') & (after != b' '))
+}
+
+/// Whether all bytes but the last are.
+fn are_single(bytes: &[u8]) -> bool
+    ensures { IsTrue result → (k : ℕ) → k + 1 < length bytes.now →
+        IsSingle (slice_index bytes.now k) (slice_index bytes.now (k + 1)) }
+{
+    let mut all = true;
+    for k in 1..bytes.len() {
+        all = all & is_single(bytes[k - 1], bytes[k]);
+    }
+    all
+}
+
+/// The length of the stretches before the first in which a byte is not.
+fn single_len(bytes: &[u8]) -> usize
+    ensures within { result ≤ length bytes.now }
+    ensures single { AreSingle bytes.now result }
+{
+    let mut start = 0;
+    while bytes.len() - start > STRETCH {
+        if !are_single(&bytes[start..start + STRETCH + 1]) {
+            return start;
+        }
+        start += STRETCH;
+    }
+    start
+}
+
+/// Where the last word ends before a place.
+fn word_end(bytes: &[u8], place: usize) -> usize
+    requires within { place ≤ length bytes.now }
+    requires single { AreSingle bytes.now place }
+    ensures { Stays bytes.now result place }
+{
+    if place == 0 {
+        return 0;
+    }
+    if bytes[place - 1] == b' ' {
+        return place - 1;
+    }
+    place
+}
+
 /// The length of the longest prefix that stays as it is after a character of a word: words with single spaces between
 /// them, up to the end of one. A place between characters, where the bytes are UTF-8.
 fn stays_len(bytes: &[u8]) -> usize
     ensures same { left true false bytes.now ≡ take result bytes.now ++ left true false (drop result bytes.now) }
     ensures place { IsCharBoundary bytes.now result }
 {
-    let mut end = 0;
-    for (i, b) in bytes.iter().enumerate() {
-        if !is_space_byte(*b) {
+    let start = single_len(bytes);
+    let mut end = word_end(bytes, start);
+    for i in start..bytes.len() {
+        let b = bytes[i];
+        if !is_space_byte(b) {
             end = i + 1;
-        } else if *b != b' ' || i != end {
+        } else if b != b' ' || i != end {
             return end;
         }
     }

@@ -1,7 +1,7 @@
 use Rattle.std.proofs.Common.{◌≡◌, ℕ, ◌+◌, ◌-◌, arith, drop, subst, ◌∙◌}
 use Rattle.std.proofs.Math.ListN.{length-set}
-use Rattle.std.specs.List.{slice_index_or}
-use Rattle.xpath_values.specs.Translating.{IsByteTable}
+use Rattle.std.specs.List.{slice_index, slice_index_or}
+use Rattle.xpath_values.specs.Translating.{IsBytewise}
 use Rattle.xpath_values.proofs.BytewiseLemmas.{table_more}
 use Rattle.xpath_values.proofs.bytewise.byte_table.Goals as goal
 
@@ -15,5 +15,5 @@ loop-left-preserved c =
       table =
           table_more c.args.from.now c.args.to.now c.loop-left.table n (omega (arith, c.loop-left.invariant.within))
           (omega (arith, c.loop-left.invariant.within, c.requires.room)) c.loop-left.invariant.size (c.requires.from n) (c.requires.to n)
-          (subst (λ k. IsByteTable (drop k c.args.from.now) (drop k c.args.to.now) c.loop-left.table) back c.loop-left.invariant.table);
+          (subst (λ k. IsBytewise (drop k c.args.from.now) (drop k c.args.to.now) (slice_index c.loop-left.table)) back c.loop-left.invariant.table);
     }

@@ -1,4 +1,4 @@
-use Rattle.xpath_values.proofs.KeptLemmas.{Stays}
+use Rattle.xpath_values.specs.Normal.{Stays}
 use Rattle.xpath_values.proofs.normal.stays_len.Given as goal
 
 abbrev pub invariant-loop-i : goal.invariant-loop-i
