@@ -1,6 +1,6 @@
 //! Which module answers a table.
 
-use crate::{axes, steps};
+use crate::{axes, reads, steps};
 use std::alloc::{AllocError, Global};
 use tables::Answers;
 
@@ -27,6 +27,7 @@ impl Answers for Doors {
         match table {
             "axes" => axes::answer(alloc, &mut out, given, text)?,
             "order" => steps::answer_order(alloc, &mut out, given, text)?,
+            "reads" => reads::answer(alloc, &mut out, given, text)?,
             "steps" => steps::answer(alloc, &mut out, given, text)?,
             _ => out.push_str("no such table")?,
         }

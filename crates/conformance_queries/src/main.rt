@@ -5,6 +5,7 @@
 
 mod axes;
 mod doors;
+mod reads;
 mod steps;
 
 use std::{env, fs, io};

@@ -52,7 +52,7 @@ fn nodes_at<W: Words>(
 }
 
 /// The indexes of nodes, or `none`.
-fn write_nodes(out: &mut String, nodes: &[Node]) -> Result<(), AllocError> {
+pub fn write_nodes(out: &mut String, nodes: &[Node]) -> Result<(), AllocError> {
     for node in nodes {
         if !out.is_empty() {
             out.push_str(" ")?;

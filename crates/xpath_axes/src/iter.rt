@@ -28,6 +28,7 @@ use vtd_words::{Part, Table, Words};
 use xml_model::{Axis, Node, NodeTest};
 
 /// The nodes of an axis that are still to come. It holds the document, a copy of the test and where it is, and no list.
+/// A child step by a name that goes by the levels is seen as the walk over the records after the last child element.
 #[derive(Drop)]
 pub struct AxisIter<'n, 'a, W: Words> {
     nav: &'n Nav<'a, W>,
@@ -61,7 +62,9 @@ impl<'n, 'a, W: Words> Model for AxisIter<'n, 'a, W> {
 
 impl<'n, 'a, W: Words> AxisIter<'n, 'a, W> {
     /// The next node in axis order; `None` exactly at the end. It reads the records from one node to the next; along
-    /// the ancestor axes those back to the first record of the node that it answers. A name test with a URI, the empty
+    /// the ancestor axes those back to the first record of the node that it answers; and in a child step by a name
+    /// from an element that at most four others hold one word of a level for each child element, and no record of
+    /// what else the element holds. A name test with a URI, the empty
     /// one too, reads back to the tags above each node of that local name, and where nothing is declared over all
     /// records before it; where many are met `next_by` reads less.
     pub fn next(&mut self) -> Option<Node>
@@ -189,7 +192,9 @@ fn walk_of<W: Words>(table: &Table<'_, W>, node: Node, axis: Axis) -> Rest
 /// The nodes on an axis of a node that pass a test, one after another in axis order, each once (XPath 1.0, sections 2.2
 /// to 2.4). The node is one of the document. It reads what is in the node on `following` and `following-sibling`, back
 /// to the tag of the parent on `parent`, and a constant number of records on the other axes; on `self`, `parent` and
-/// the axes `..-or-self` a name test looks back as in `AxisIter::next`.
+/// the axes `..-or-self` a name test looks back as in `AxisIter::next`. A child step by a name from an element that at
+/// most four others hold goes by the levels: it reads at most d + 6 words, where these together have fewer than 2 to
+/// the power d entries.
 pub fn axis_iter<'n, 'a, W: Words>(
     nav: &'n Nav<'a, W>,
     node: Node,
