@@ -1,5 +1,5 @@
 -- Two steps that are taken at once.
-use Rattle.std.proofs.Common.{◌≡◌, ℕ, Bool, true, false, ◌&&◌, List, Ok, Err, refl, sym, ◌∙◌, ap, subst}
+use Rattle.std.proofs.Common.{◌≡◌, Bool, true, false, ◌&&◌, List, Ok, Err, refl, sym, ◌∙◌, ap, subst}
 use Rattle.xml_model.specs.declared.Axis.TheVariants as axes
 use Rattle.xml_model.specs.declared.Node.{Node}
 use Rattle.xml_model.specs.Tree.{Entry}
@@ -10,12 +10,12 @@ use Rattle.xpath_grammar.specs.declared.expr.StepTest.{StepTest}
 use Rattle.xpath_grammar.specs.declared.expr.StepTest.TheVariants as written
 use Rattle.xpath_grammar.specs.Tree.{Trees, Walk, none, more, go, trees_of}
 use Rattle.xpath_values.specs.declared.ValueFault.{ValueFault}
-use Rattle.xpath_values.specs.declared.ValueFault.TheVariants.{Fraction, Infinite, Range, NoMemory}
+use Rattle.xpath_values.specs.declared.ValueFault.TheVariants.{NoMemory}
 use Rattle.xpath_values.specs.Answers.{Answer, and_then}
 use Rattle.xpath_meaning.specs.Context.{Context}
 use Rattle.xpath_meaning.specs.Meaning.{filtered, step_from, walked}
 use Rattle.xpath_meaning.specs.Meets.{Meets}
-use Rattle.xpath_meaning.specs.Scope.{ScopeOf, AreNodes, Finds, IsScope}
+use Rattle.xpath_meaning.specs.Scope.{ScopeOf, AreNodes, Finds}
 use Rattle.xpath_laws.specs.Fused.{are_positionless}
 use Rattle.xpath_sweeps.specs.Sweeps.{are_in_order, is_any_node, is_none, is_scan, is_sweep, is_to_children, is_to_selves}
 use Rattle.xpath_eval.proofs.Meanings.{finds_then, same_fault}
@@ -54,7 +54,8 @@ none_is (more p ps) h = absurd cc
 abbrev pub two_steps : StepTest → Trees → Context → List Entry → Answer (List Entry)
 two_steps test ps c es = and_then (step_from (filtered none) (Known axes.DescendantOrSelf) written.Node c es) (step_from (filtered ps) (Known axes.Child) test c)
 
-same_walk : (a b : StepAxis) (t u : StepTest) (ps qs : Trees) (w : Walk) (c : Context) (es : List Entry) → a ≡ Known axes.DescendantOrSelf → t ≡ written.Node → ps ≡ none → b ≡ Known axes.Child →
+same_walk : (a b : StepAxis) (t u : StepTest) (ps qs : Trees) (w : Walk) (c : Context) (es : List Entry) → a ≡ Known axes.DescendantOrSelf →
+    t ≡ written.Node → ps ≡ none → b ≡ Known axes.Child →
     and_then (two_steps u qs c es) (walked w c) ≡ walked (go a t ps (go b u qs w)) c es
 same_walk a b t u ps qs w c es e1 e2 e3 e4 =
     then_assoc (step_from (filtered none) (Known axes.DescendantOrSelf) written.Node c es) (step_from (filtered qs) (Known axes.Child) u c) (walked w c)
@@ -99,25 +100,29 @@ scan_fault s ns step after w e h one = record {
 
 -- the two steps, one after the other
 pub in_turn : (s : ScopeOf) (ns held : List Node) (test : StepTest) (ps : Trees) (r : Answer (List Node)) →
-    Finds s ns (Ok held) (step_from (filtered none) (Known axes.DescendantOrSelf) written.Node) → Finds s held r (step_from (filtered ps) (Known axes.Child) test) →
+    Finds s ns (Ok held) (step_from (filtered none) (Known axes.DescendantOrSelf) written.Node) →
+    Finds s held r (step_from (filtered ps) (Known axes.Child) test) →
     Finds s ns r (two_steps test ps)
 in_turn s ns held test ps r one two = finds_then (step_from (filtered ps) (Known axes.Child) test) r one two
 
 pub no_memory : (s : ScopeOf) (ns : List Node) (f : Context → List Entry → Answer (List Entry)) → Finds s ns (Err NoMemory) f
 no_memory s ns f = record { yields = λ c hc es a. tt }
 
-scan_is : (ns slice : List Node) (step step' after after' : Step) (b : Bool) → slice ≡ ns → step' ≡ step → after' ≡ after → b ≡ is_scan slice step' after' → b ≡ true → is_scan ns step after ≡ true
+scan_is : (ns slice : List Node) (step step' after after' : Step) (b : Bool) → slice ≡ ns → step' ≡ step → after' ≡ after →
+    b ≡ is_scan slice step' after' → b ≡ true → is_scan ns step after ≡ true
 scan_is ns slice step step' after after' b e1 e3 e4 e5 e6 =
     sym (ap (λ x. is_scan x step' after') e1 ∙ ap (λ x. is_scan ns x after') e3 ∙ ap (λ x. is_scan ns step x) e4) ∙ sym e5 ∙ e6
 
-scan_of : (s : ScopeOf) (ns slice : List Node) (r : Answer (List Node)) (after : Step) (test : StepTest) (ps : Trees) → slice ≡ ns → test ≡ after.test → ps ≡ trees_of after.predicates →
+scan_of : (s : ScopeOf) (ns slice : List Node) (r : Answer (List Node)) (after : Step) (test : StepTest) (ps : Trees) → slice ≡ ns → test ≡ after.test →
+    ps ≡ trees_of after.predicates →
     Finds s slice r (two_steps test ps) → Finds s ns r (two_steps after.test (trees_of after.predicates))
 scan_of s ns slice r after test ps e1 e2 e3 one =
     subst (λ x. Finds s x r (two_steps after.test (trees_of after.predicates))) e1
     (subst (λ x. Finds s slice r (two_steps x (trees_of after.predicates))) e2 (subst (λ x. Finds s slice r (two_steps test x)) e3 one))
 
 pub scanned_fault : (s : ScopeOf) (ns slice slice' : List Node) (step step' after after' : Step) (test : StepTest) (ps : Trees) (w rest whole : Walk) (b : Bool) (e : ValueFault) → slice ≡ ns → slice' ≡ ns → step' ≡ step → after' ≡ after →
-    b ≡ is_scan slice step' after' → b ≡ true → test ≡ after.test → ps ≡ trees_of after.predicates → whole ≡ go step.axis step.test (trees_of step.predicates) rest → rest ≡ go after.axis after.test (trees_of after.predicates) w →
+    b ≡ is_scan slice step' after' → b ≡ true → test ≡ after.test → ps ≡ trees_of after.predicates →
+    whole ≡ go step.axis step.test (trees_of step.predicates) rest → rest ≡ go after.axis after.test (trees_of after.predicates) w →
     Finds s slice' (Err e) (two_steps test ps) → Finds s ns (Err e) (walked whole)
 scanned_fault s ns slice slice' step step' after after' test ps w rest whole b e e1 e2 e3 e4 e5 e6 e7 e8 e9 e10 one =
     let h : is_scan ns step after ≡ true = scan_is ns slice step step' after after' b e1 e3 e4 e5 e6 in
@@ -125,7 +130,8 @@ scanned_fault s ns slice slice' step step' after after' test ps w rest whole b e
     (scan_fault s ns step after w e h (scan_of s ns slice' (Err e) after test ps e2 e7 e8 one))
 
 pub scanned_on : (s : ScopeOf) (ns slice slice' found : List Node) (step step' after after' : Step) (test : StepTest) (ps : Trees) (w w' rest whole : Walk) (b : Bool) (r : Answer (List Node)) → slice ≡ ns → slice' ≡ ns → step' ≡ step → after' ≡ after →
-    b ≡ is_scan slice step' after' → b ≡ true → test ≡ after.test → ps ≡ trees_of after.predicates → whole ≡ go step.axis step.test (trees_of step.predicates) rest → rest ≡ go after.axis after.test (trees_of after.predicates) w → w' ≡ w →
+    b ≡ is_scan slice step' after' → b ≡ true → test ≡ after.test → ps ≡ trees_of after.predicates →
+    whole ≡ go step.axis step.test (trees_of step.predicates) rest → rest ≡ go after.axis after.test (trees_of after.predicates) w → w' ≡ w →
     Finds s slice' (Ok found) (two_steps test ps) → Finds s found r (walked w') → Finds s ns r (walked whole)
 scanned_on s ns slice slice' found step step' after after' test ps w w' rest whole b r e1 e2 e3 e4 e5 e6 e7 e8 e9 e10 e11 one two =
     let h : is_scan ns step after ≡ true = scan_is ns slice step step' after after' b e1 e3 e4 e5 e6 in

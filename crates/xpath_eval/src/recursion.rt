@@ -196,7 +196,14 @@ fn scanned<W: Words>(
             let selves = StepAxis::Known(Axis::DescendantOrSelf);
             let held = step_all(scope, walker, nodes, selves, &StepTest::Node)?;
             let children = StepAxis::Known(Axis::Child);
-            step_each(scope, walker, held.held.as_slice(), children, test, predicates)
+            step_each(
+                scope,
+                walker,
+                held.held.as_slice(),
+                children,
+                test,
+                predicates,
+            )
         }
     }
 }

@@ -1,22 +1,22 @@
 -- A loop over the nodes on an axis: those that were asked, and those that are still to come.
-use Rattle.std.proofs.Common.{◌≡◌, ℕ, Bool, true, false, not, ◌||◌, List, [], ◌∷◌, ◌++◌, map, filter, Option, Some, None, refl, sym, ◌∙◌, ap, subst, append_assoc, append-nil}
+use Rattle.std.proofs.Common.{◌≡◌, ℕ, Bool, true, false, ◌||◌, List, [], ◌∷◌, ◌++◌, map, filter, Option, Some, None, refl, sym, ◌∙◌, ap, subst}
+use Rattle.std.proofs.Common.{append_assoc, append-nil}
 use Rattle.std.specs.Prelude.{option_to_list, IfSome}
-use Rattle.std.specs.List.{AllByRecursion, Contains, list_any}
+use Rattle.std.specs.List.{Contains, list_any}
 use Rattle.xml_model.proofs.Each.{contains_here, contains_next}
 use Rattle.xml_model.specs.declared.Axis.{Axis}
 use Rattle.xml_model.specs.declared.Axis.TheVariants as axes
 use Rattle.xml_model.specs.declared.Node.{Node}
 use Rattle.xml_model.specs.Names.{Test, passes}
-use Rattle.xml_model.specs.Nest.{Forest}
 use Rattle.xml_model.specs.Tree.{Entry, Identifies, axis_list, kind_of}
 use Rattle.vtd_words.specs.Lists.{Lists}
-use Rattle.vtd_words.specs.Table.{IsNestOf, node_of, nodes_of}
+use Rattle.vtd_words.specs.Table.{node_of}
 use Rattle.xpath_axes.specs.Tests.{nodes_on}
 use Rattle.xpath_axes.specs.Tests as tests
 use Rattle.xpath_tokens.specs.declared.StepAxis.{StepAxis}
 use Rattle.xpath_tokens.specs.declared.StepAxis.TheVariants.{Known}
 use Rattle.xpath_grammar.specs.declared.expr.StepTest.{StepTest}
-use Rattle.xpath_grammar.specs.Tree.{Walk, Trees, stop, go, none, more}
+use Rattle.xpath_grammar.specs.Tree.{Walk, Trees, stop, go}
 use Rattle.xpath_meaning.specs.Context.{Context, is_attribute_axis, on_axis, stepped, test_of}
 use Rattle.xpath_laws.proofs.AtOnce.{is_found_on}
 use Rattle.xpath_laws.proofs.Trees.{among_contains, contains_among}
@@ -41,7 +41,8 @@ pub record Asking (a : Asked) (f : (Entry → Bool) → Entry → Bool) (list : 
   pub sound : list_any (f (is_bad a)) done ≡ false
   pub right : list_any (f (is_right a)) done ≡ b
 
-pub asking_none : (a : Asked) (f : (Entry → Bool) → Entry → Bool) (list : List Entry) (coming : List Node) → coming ≡ map node_of list → Asking a f list coming false
+pub asking_none : (a : Asked) (f : (Entry → Bool) → Entry → Bool) (list : List Entry) (coming : List Node) → coming ≡ map node_of list →
+    Asking a f list coming false
 asking_none a f list coming e = record { done = []; todo = list; whole = refl; shown = sym e; sound = refl; right = refl }
 
 -- the first that is still to come
@@ -65,7 +66,8 @@ or_false a b p q = cc
 
 -- one more was asked
 pub asking_more : (a : Asked) (f : (Entry → Bool) → Entry → Bool) (list : List Entry) (node : Node) (coming next : List Node) (b d : Bool) →
-    Asking a f list coming b → coming ≡ node ∷ next → ((e : Entry) → Contains list e → node_of e ≡ node → Decides a (λ q. f q e) d) → Asking a f list next (b || d)
+    Asking a f list coming b → coming ≡ node ∷ next → ((e : Entry) → Contains list e → node_of e ≡ node → Decides a (λ q. f q e) d) →
+    Asking a f list next (b || d)
 asking_more a f list node coming next b d k e each =
     let n = next_of k.todo node next (k.shown ∙ e) in
     let whole : list ≡ k.done ++ n.entry ∷ n.rest = k.whole ∙ ap (λ ys. k.done ++ ys) n.is in
@@ -87,7 +89,8 @@ asking_more a f list node coming next b d k e each =
     both h g = cc
 
 -- all were asked
-pub asking_done : (a : Asked) (f : (Entry → Bool) → Entry → Bool) (list : List Entry) (coming : List Node) (b : Bool) → Asking a f list coming b → coming ≡ [] → Decides a (λ q. list_any (f q) list) b
+pub asking_done : (a : Asked) (f : (Entry → Bool) → Entry → Bool) (list : List Entry) (coming : List Node) (b : Bool) → Asking a f list coming b →
+    coming ≡ [] → Decides a (λ q. list_any (f q) list) b
 asking_done a f list coming b k e =
     let n : k.todo ≡ [] = nothing k.todo (k.shown ∙ e) in
     let w : list ≡ k.done = k.whole ∙ ap (λ ys. k.done ++ ys) n ∙ append-nil k.done in
@@ -111,7 +114,8 @@ never_found stop c q e h = h e
 never_found (go axis test ps w) c q e h = never (any_found w c q) (stepped axis test c e) (λ x. never_found w c q x h)
 
 -- one was right, and none can be bad
-pub asking_found : (a : Asked) (w : Walk) (c : Context) (list : List Entry) (coming : List Node) (b : Bool) → Asking a (any_found w c) list coming b → b ≡ true → is_sure a ≡ true →
+pub asking_found : (a : Asked) (w : Walk) (c : Context) (list : List Entry) (coming : List Node) (b : Bool) → Asking a (any_found w c) list coming b →
+    b ≡ true → is_sure a ≡ true →
     Decides a (λ q. list_any (any_found w c q) list) true
 asking_found a w c list coming b k e h = record {
   sound = never (any_found w c (is_bad a)) list (λ x. never_found w c (is_bad a) x (λ y. never_bad a y h));
@@ -137,7 +141,8 @@ same_axis axes.Itself = refl
 same_axis axes.DescendantOrSelf = refl
 same_axis axes.AncestorOrSelf = refl
 
-pub begins : (a : Asked) (f : (Entry → Bool) → Entry → Bool) (axis : Axis) (t : Test) (e : Entry) (document es : List Entry) (coming : List Node) → document ≡ es → coming ≡ nodes_on axis t e es →
+pub begins : (a : Asked) (f : (Entry → Bool) → Entry → Bool) (axis : Axis) (t : Test) (e : Entry) (document es : List Entry) (coming : List Node) →
+    document ≡ es → coming ≡ nodes_on axis t e es →
     Asking a f (on_axis axis t e document) coming false
 begins a f axis t e document es coming d h = asking_none a f (on_axis axis t e document) coming
     (h ∙ ap (λ b. map node_of (filter (passes t b) (axis_list axis e.path es))) (same_axis axis) ∙ ap (λ xs. map node_of (on_axis axis t e xs)) (sym d))
@@ -154,11 +159,13 @@ goes_on a f axis t e document node coming next r b d g k h i each j =
     (λ x c n. let s = same_node x node n in each x (among_contains document x (is_found_on axis t e document x (contains_among _ x c)).there, s.0, s.1)))
 
 pub ends : (a : Asked) (f : (Entry → Bool) → Entry → Bool) (axis : Axis) (t : Test) (e : Entry) (document : List Entry) (coming next : List Node) (r : Option Node) (b : Bool) →
-    Asking a f (on_axis axis t e document) coming b → coming ≡ option_to_list r ++ next → r ≡ None → next ≡ [] → Decides a (λ q. list_any (f q) (on_axis axis t e document)) b
+    Asking a f (on_axis axis t e document) coming b → coming ≡ option_to_list r ++ next → r ≡ None → next ≡ [] →
+    Decides a (λ q. list_any (f q) (on_axis axis t e document)) b
 ends a f axis t e document coming next r b k h i n =
     asking_done a f (on_axis axis t e document) coming b k (h ∙ ap (λ o. option_to_list o ++ next) i ∙ n)
 
-step_is : (a : StepAxis) (axis : Axis) (test : StepTest) (b : List (List ℕ × List ℕ)) (t : Test) (c : Context) (e : Entry) → a ≡ Known axis → t ≡ test_of b test → c.bindings ≡ b → stepped a test c e ≡ on_axis axis t e c.document
+step_is : (a : StepAxis) (axis : Axis) (test : StepTest) (b : List (List ℕ × List ℕ)) (t : Test) (c : Context) (e : Entry) → a ≡ Known axis →
+    t ≡ test_of b test → c.bindings ≡ b → stepped a test c e ≡ on_axis axis t e c.document
 unfolding stepped
 step_is a axis test b t c e q k h = ap (λ x. stepped x test c e) q ∙ ap (λ u. on_axis axis u e c.document) (ap (λ x. test_of x test) h ∙ sym k)
 
@@ -172,7 +179,8 @@ along bytes lists bindings node asked (Some b) whole w w' a a' axis test test' p
     let o = f nest h c d k e i in
     record { sound = same c e k (is_bad asked) ∙ o.sound; right = same c e k (is_right asked) ∙ o.right }
   where
-    same : (c : Context) (e : Entry) → c.bindings ≡ bindings → (q : Entry → Bool) → any_found whole c q e ≡ list_any (any_found w' c q) (on_axis axis t e c.document)
+    same : (c : Context) (e : Entry) → c.bindings ≡ bindings → (q : Entry → Bool) →
+        any_found whole c q e ≡ list_any (any_found w' c q) (on_axis axis t e c.document)
     same c e k q = ap (λ x. any_found x c q e) e1
         ∙ ap (list_any (any_found w c q)) (step_is a axis test bindings t c e (sym e2 ∙ e3) (e5 ∙ ap (test_of bindings) e4) k)
         ∙ ap (λ x. list_any (any_found x c q) (on_axis axis t e c.document)) (sym e6)

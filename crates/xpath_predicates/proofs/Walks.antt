@@ -1,9 +1,8 @@
 -- Steps without predicates, and what their nodes are asked.
-use Rattle.std.proofs.Common.{◌≡◌, ℕ, Bool, true, false, cond, not, ◌||◌, List, [], ◌∷◌, ◌++◌, map, filter, Ok, Err, refl, sym, ◌∙◌, ap, ap₂, subst, Contains}
+use Rattle.std.proofs.Common.{◌≡◌, ℕ, Bool, true, false, cond, not, ◌||◌, List, [], ◌∷◌, map, filter, Ok, Err, refl, sym, ◌∙◌, ap, ap₂, subst}
 use Rattle.std.specs.Prelude.{is_ok, bytes_eq, Some}
 use Rattle.std.specs.Prelude.{IfSome, Option, None}
 use Rattle.std.specs.List.{flat_map, list_any}
-use Rattle.std.specs.Str.{chars}
 use Rattle.xml_model.specs.Items.{first_place}
 use Rattle.xml_model.specs.Tree.{Entry}
 use Rattle.vtd_words.specs.Lists.{Lists}
@@ -16,9 +15,10 @@ use Rattle.xpath_values.specs.declared.Number.{Number}
 use Rattle.xpath_values.specs.declared.Value.{Value}
 use Rattle.xpath_values.specs.declared.Value.TheVariants as held
 use Rattle.xpath_values.specs.declared.ValueFault.TheVariants.{Fraction, Infinite, Range, NoMemory}
-use Rattle.xpath_values.specs.Answers.{Answer, and_then, with, each}
+use Rattle.xpath_values.specs.Answers.{Answer, and_then, with}
 use Rattle.xpath_values.specs.Numbers.{compare_numbers, is_position, number_held, number_of_text}
-use Rattle.xpath_values.specs.Values.{Meant, nodes, truth, number, text, IsHeld, by_equality, by_numbers, is_equality, is_some_list, numbers_of_nodes, some_pair, string_value, truth_of}
+use Rattle.xpath_values.specs.Values.{Meant, nodes, truth, number, text, IsHeld, by_equality, by_numbers, is_equality, is_some_list, numbers_of_nodes}
+use Rattle.xpath_values.specs.Values.{some_pair, string_value, truth_of}
 use Rattle.xpath_values.specs.Values as values
 use Rattle.xpath_meaning.specs.declared.function.Function.TheVariants.{Not}
 use Rattle.xpath_meaning.specs.Context.{Context, in_order, is_in, is_passed, stepped}
@@ -26,7 +26,7 @@ use Rattle.xpath_meaning.specs.Functions.{function_named}
 use Rattle.xpath_meaning.specs.declared.scope.Place.{Place}
 use Rattle.xpath_meaning.specs.Meets.{Meets}
 use Rattle.xpath_meaning.specs.Scope.{ScopeOf, IsContext, IsScope, Means}
-use Rattle.xpath_meaning.specs.Meaning.{answered, both, either, filtered, mean, step_from, walked}
+use Rattle.xpath_meaning.specs.Meaning.{answered, both, either, mean, walked}
 use Rattle.xpath_laws.specs.Fused.{Among, IsTree, Passes}
 use Rattle.xpath_laws.proofs.AtOnce.{bare_step, in_ordered, stepped_within}
 use Rattle.xpath_laws.proofs.Fused.{among_filter, among_flat, found}
@@ -42,15 +42,15 @@ ordered_any : (document xs : List Entry) (q : Entry → Bool) → IsTree documen
 unfolding in_order
 ordered_any document xs q t w = same_test _ _
     (λ h.
-        let o = any_out q (filter (is_in xs) document) h in
-        let r = among_filter (is_in xs) document o.entry (contains_among _ o.entry o.there) in
-        let z = found xs o.entry r.1 in
-        let same = t.one z.node o.entry (w z.node z.there) r.0 z.same in
-        any_in q xs o.entry (among_contains xs o.entry (subst (λ y. Among y xs) same z.there)) o.passes)
+    let o = any_out q (filter (is_in xs) document) h in
+    let r = among_filter (is_in xs) document o.entry (contains_among _ o.entry o.there) in
+    let z = found xs o.entry r.1 in
+    let same = t.one z.node o.entry (w z.node z.there) r.0 z.same in
+    any_in q xs o.entry (among_contains xs o.entry (subst (λ y. Among y xs) same z.there)) o.passes)
     (λ h.
-        let o = any_out q xs h in
-        let m = contains_among xs o.entry o.there in
-        any_in q (filter (is_in xs) document) o.entry (among_contains _ o.entry (in_ordered document xs o.entry (w o.entry m) m)) o.passes)
+    let o = any_out q xs h in
+    let m = contains_among xs o.entry o.there in
+    any_in q (filter (is_in xs) document) o.entry (among_contains _ o.entry (in_ordered document xs o.entry (w o.entry m) m)) o.passes)
 
 flat_any : (q : Entry → Bool) (f : Entry → List Entry) (es : List Entry) → list_any q (flat_map f es) ≡ list_any (λ e. list_any q (f e)) es
 flat_any q f [] = refl
@@ -81,7 +81,8 @@ or_none true = refl
 or_none false = refl
 
 -- a path from the context node
-pub from_here : (w : Walk) (c : Context) (a : Asked) (b : Bool) → IsTree c.document → are_bare w ≡ true → Decides a (λ q. any_found w c q c.node) b → FromHere w c a b
+pub from_here : (w : Walk) (c : Context) (a : Asked) (b : Bool) → IsTree c.document → are_bare w ≡ true → Decides a (λ q. any_found w c q c.node) b →
+    FromHere w c a b
 from_here w c a b t h d =
     let k = bare w c (c.node ∷ []) t h in
     record {
@@ -109,7 +110,8 @@ all_numbers : (how : Comparison) (x : Number) (xs : List Entry) → list_any (is
 all_numbers how x [] h = record { all = []; is = refl; any = refl }
 all_numbers how x (e ∷ es) h = by (λ r. all_numbers how x es r) (number_of_text (string_value e)) refl
   where
-    by : (list_any (is_bad (asked.Number how x)) es ≡ false → Numbers how x es) → (m : Answer Number) → number_of_text (string_value e) ≡ m → Numbers how x (e ∷ es)
+    by : (list_any (is_bad (asked.Number how x)) es ≡ false → Numbers how x es) → (m : Answer Number) → number_of_text (string_value e) ≡ m →
+        Numbers how x (e ∷ es)
     by rec (Ok y) q =
         let bad : is_bad (asked.Number how x) e ≡ false = ap (λ n. not (is_ok n)) q in
         let k = rec (rest bad) in
@@ -133,14 +135,16 @@ cond_same : {X : Type 0} (b : Bool) (x : X) → cond b x x ≡ x
 cond_same true x = refl
 cond_same false x = refl
 
-beside_number : (how : Comparison) (x : Number) (xs : List Entry) (b : Bool) → list_any (is_bad (asked.Number how x)) xs ≡ false → list_any (is_right (asked.Number how x)) xs ≡ b →
+beside_number : (how : Comparison) (x : Number) (xs : List Entry) (b : Bool) → list_any (is_bad (asked.Number how x)) xs ≡ false →
+    list_any (is_right (asked.Number how x)) xs ≡ b →
     values.compare how (nodes xs) (number x) ≡ Ok b
 beside_number how x xs b h r =
     let k = all_numbers how x xs h in
     cond_same (is_equality how) (by_numbers how (nodes xs) (number x))
     ∙ ap (λ n. and_then n (λ ys. Ok (some_pair (compare_numbers how) ys (x ∷ [])))) k.is ∙ ap Ok (k.any ∙ r)
 
-pub number_holds : (how : Comparison) (w : Walk) (t : List ℕ) (x : Number) (c : Context) (b : Bool) → number_held (number_value t) ≡ Ok x → FromHere w c (asked.Number how x) b →
+pub number_holds : (how : Comparison) (w : Walk) (t : List ℕ) (x : Number) (c : Context) (b : Bool) → number_held (number_value t) ≡ Ok x →
+    FromHere w c (asked.Number how x) b →
     Holds (mean (compare how (path false w) (Tree.number t)) c) b
 number_holds how w t x c b q k = record {
   value = truth b;
@@ -207,7 +211,8 @@ and_ends e d c k = record {
   truth = refl;
 }
 
-pub not_holds : (name : List ℕ) (e : Tree) (c : Context) (b : Bool) → function_named name ≡ Some Not → Holds (mean e c) b → Holds (mean (call name (more e none)) c) (not b)
+pub not_holds : (name : List ℕ) (e : Tree) (c : Context) (b : Bool) → function_named name ≡ Some Not → Holds (mean e c) b →
+    Holds (mean (call name (more e none)) c) (not b)
 not_holds name e c b f k = record {
   value = truth (not (truth_of k.value));
   is = ap (λ m. and_then (and_then m (λ v. Ok (v ∷ []))) (answered (function_named name) c)) k.is ∙ ap (λ g. answered g c (k.value ∷ [])) f;
@@ -243,7 +248,8 @@ holds_passes m n b k = record { value = k.value; is = k.is; passed = plainly k.v
 tree_of_scope : (s : ScopeOf) (c : Context) → IsScope s c → IsTree c.document
 tree_of_scope s c h = subst IsTree (sym h.document) (tree_of_nest h.nest (first_place s.bytes) h.shown.accepted.document.nests)
 
-pub if_from : (s : ScopeOf) (p : Place) (bytes : List ℕ) (lists : Lists) (bindings : List (List ℕ × List ℕ)) (w : Walk) (a : Asked) (r : Option Bool) → bytes ≡ s.bytes → lists ≡ s.lists →
+pub if_from : (s : ScopeOf) (p : Place) (bytes : List ℕ) (lists : Lists) (bindings : List (List ℕ × List ℕ)) (w : Walk) (a : Asked) (r : Option Bool) →
+    bytes ≡ s.bytes → lists ≡ s.lists →
     bindings ≡ s.bindings → are_bare w ≡ true → IfSome r (λ b. ForEachContext bytes lists bindings p.node (λ c e. Decides a (λ q. any_found w c q e) b)) →
     IfSome r (λ b. (c : Context) → IsContext s p c → FromHere w c a b)
 if_from s p bytes lists bindings w a None e1 e2 e3 h f = tt
@@ -265,13 +271,15 @@ as_it_is s p r f m = record { yields = λ c k. this c r (m.yields c k) }
     this c (Err NoMemory) y = tt
 
 -- it is told whether it passes
-pub as_told : (s : ScopeOf) (p : Place) (b : Bool) (f : Context → Answer Meant) → ((c : Context) → IsContext s p c → Passes (f c) p.position b) → PassesAt s p (Ok (held.Truth b)) f
+pub as_told : (s : ScopeOf) (p : Place) (b : Bool) (f : Context → Answer Meant) → ((c : Context) → IsContext s p c → Passes (f c) p.position b) →
+    PassesAt s p (Ok (held.Truth b)) f
 as_told s p b f h = record {
   yields = λ c k. let y = h c k in record { value = y.value; meant_is = y.is; held = record { shown = truth b; held = refl; alike = sym y.passed } };
 }
 
 -- a path beside a number that is written
-pub if_number : (s : ScopeOf) (p : Place) (how : Comparison) (w : Walk) (absolute : Bool) (whole : Tree) (t : List ℕ) (x : Number) (r : Option Bool) → whole ≡ Tree.number t → number_held (number_value t) ≡ Ok x →
+pub if_number : (s : ScopeOf) (p : Place) (how : Comparison) (w : Walk) (absolute : Bool) (whole : Tree) (t : List ℕ) (x : Number) (r : Option Bool) →
+    whole ≡ Tree.number t → number_held (number_value t) ≡ Ok x →
     IfSome r (λ b. absolute ≡ false) → IfSome r (λ b. (c : Context) → IsContext s p c → FromHere w c (asked.Number how x) b) →
     IfSome r (λ b. (c : Context) → IsContext s p c → Holds (mean (compare how (path absolute w) whole) c) b)
 if_number s p how w absolute whole t x None e q h f = tt
@@ -280,7 +288,8 @@ if_number s p how w absolute whole t x (Some b) e q h f = λ c k.
     (subst (λ u. Holds (mean (compare how (path u w) (Tree.number t)) c) b) (sym h) (number_holds how w t x c b q (f c k)))
 
 -- a path beside a text that is written
-pub if_text : (s : ScopeOf) (p : Place) (how : Comparison) (w : Walk) (absolute : Bool) (whole : Tree) (t : List ℕ) (a : Asked) (r : Option Bool) → whole ≡ literal t → is_equality how ≡ true →
+pub if_text : (s : ScopeOf) (p : Place) (how : Comparison) (w : Walk) (absolute : Bool) (whole : Tree) (t : List ℕ) (a : Asked) (r : Option Bool) →
+    whole ≡ literal t → is_equality how ≡ true →
     ((e : Entry) → is_right a e ≡ by_equality how (bytes_eq (string_value e) t)) →
     IfSome r (λ b. absolute ≡ false) → IfSome r (λ b. (c : Context) → IsContext s p c → FromHere w c a b) →
     IfSome r (λ b. (c : Context) → IsContext s p c → Holds (mean (compare how (path absolute w) whole) c) b)

@@ -276,11 +276,7 @@ pub fn passes<W: Words>(
     ensures walker { walker.new ≡ walker.old }
 {
     match number_here(scope, place, expr) {
-        Some(number) => Some(compare_numbers(
-            Comparison::Equal,
-            number,
-            counted(place.position),
-        )),
+        Some(number) => Some(compare_numbers(Comparison::Equal, number, counted(place.position))),
         None => holds(scope, walker, place, expr),
     }
 }

@@ -1,15 +1,13 @@
 -- Predicates over all that a step finds.
-use Rattle.std.proofs.Common.{◌≡◌, ℕ, Bool, true, false, ◌&&◌, List, Ok, refl, sym, ◌∙◌, ap, subst}
+use Rattle.std.proofs.Common.{◌≡◌, true, List, Ok}
 use Rattle.xml_model.specs.declared.Axis.TheVariants.{Child, Descendant, DescendantOrSelf}
 use Rattle.xml_model.specs.declared.Node.{Node}
-use Rattle.xml_model.specs.Tree.{Entry}
 use Rattle.xpath_tokens.specs.declared.StepAxis.{StepAxis}
-use Rattle.xpath_tokens.specs.declared.StepAxis.TheVariants.{Known, Namespace}
+use Rattle.xpath_tokens.specs.declared.StepAxis.TheVariants.{Known}
 use Rattle.xpath_grammar.specs.declared.expr.StepTest.{StepTest}
 use Rattle.xpath_grammar.specs.declared.expr.StepTest.TheVariants as written
-use Rattle.xpath_grammar.specs.Tree.{Trees, none, more}
+use Rattle.xpath_grammar.specs.Tree.{Trees, none}
 use Rattle.xpath_values.specs.Answers.{and_then}
-use Rattle.xpath_meaning.specs.Context.{Context}
 use Rattle.xpath_meaning.specs.Meaning.{filtered, step_from}
 use Rattle.xpath_meaning.specs.Scope.{ScopeOf, Finds}
 use Rattle.xpath_laws.specs.Fused.{are_positionless}

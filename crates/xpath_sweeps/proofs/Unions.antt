@@ -1,7 +1,8 @@
 -- Steps from whole lists of nodes: what is found is of the document.
-use Rattle.std.proofs.Common.{◌≡◌, ℕ, suc, ◌<◌, ◌≤◌, ◌^◌, Bool, true, false, ◌&&◌, nat_le, List, [], ◌∷◌, map, filter, length, Ok, Err, refl, sym, ◌∙◌, ap, subst, arith}
+use Rattle.std.proofs.Common.{◌≡◌, ℕ, suc, ◌<◌, ◌≤◌, ◌^◌, Bool, true, false, ◌&&◌, nat_le, List, [], ◌∷◌, map, filter, length, Ok, Err, refl, sym, ◌∙◌, ap}
+use Rattle.std.proofs.Common.{subst, arith}
 use Rattle.std.specs.Prelude.{IfErr, IfOk, Result}
-use Rattle.std.specs.List.{AllByRecursion, Contains, flat_map, slice_index_or}
+use Rattle.std.specs.List.{AllByRecursion, Contains, flat_map}
 use Rattle.std.proofs.lemmas.List.{length-map}
 use Rattle.xml_model.specs.declared.Axis.{Axis}
 use Rattle.xml_model.specs.declared.Axis.TheVariants as axes
@@ -13,7 +14,7 @@ use Rattle.xml_model.specs.Records.{records, word}
 use Rattle.xml_model.specs.Tree.{Entry}
 use Rattle.xml_model.proofs.Each.{each_at}
 use Rattle.vtd_words.specs.Lists.{Lists}
-use Rattle.vtd_words.specs.Table.{IsNodeOf, node_of, nodes_of}
+use Rattle.vtd_words.specs.Table.{node_of, nodes_of}
 use Rattle.vtd_location.specs.Nav.{IsNav}
 use Rattle.vtd_location.proofs.NavLaws.{nest_of_table}
 use Rattle.xpath_axes.specs.Tests as tests
@@ -25,10 +26,10 @@ use Rattle.xpath_grammar.specs.Tree.{none}
 use Rattle.xpath_values.specs.declared.ValueFault.{ValueFault}
 use Rattle.xpath_values.specs.declared.ValueFault.TheVariants.{NoMemory}
 use Rattle.xpath_values.specs.Answers.{Answer}
-use Rattle.xpath_meaning.specs.Context.{Context, in_order, is_attribute_axis, is_in, stepped, test_of}
+use Rattle.xpath_meaning.specs.Context.{Context, in_order, is_attribute_axis, stepped, test_of}
 use Rattle.xpath_meaning.specs.Meaning.{filtered, step_from}
 use Rattle.xpath_meaning.specs.Scope.{ScopeOf, IsScope, AreFewOf, AreNodes, Finds, HaveEntries, root_context}
-use Rattle.xpath_meaning.proofs.Lists.{NodeAt, node_at, same_length}
+use Rattle.xpath_meaning.proofs.Lists.{node_at, same_length}
 use Rattle.xpath_meaning.proofs.Nodes.{some_scope}
 use Rattle.xpath_nodes.proofs.OrderingLemmas.{few_nodes, filter_length, all_from, kept_of}
 use Rattle.xpath_laws.specs.Fused.{IsTree}
@@ -75,7 +76,8 @@ contexts_of document ns es a h = record {
 }
 
 -- each node of a list is of the document
-pub nodes_known : (s : ScopeOf) (bytes : List ℕ) (lists : Lists) (ns : List Node) → bytes ≡ s.bytes → lists ≡ s.lists → IsNav s.bytes s.lists → AreFewOf s ns → AreNodesOf bytes lists ns
+pub nodes_known : (s : ScopeOf) (bytes : List ℕ) (lists : Lists) (ns : List Node) → bytes ≡ s.bytes → lists ≡ s.lists → IsNav s.bytes s.lists →
+    AreFewOf s ns → AreNodesOf bytes lists ns
 nodes_known s bytes lists ns e1 e2 n a = rw (e1, e2) this
   where
     this : AreNodesOf s.bytes s.lists ns
@@ -118,7 +120,8 @@ found_length axis t es document =
 abbrev pub IsUnion : ScopeOf → List Node → Axis → Test → List Node → Type 0
 IsUnion s ns axis t list = (c : Context) → IsScope s c → (es : List Entry) → AreNodes c.document ns es → AreNodes c.document list (found_in axis t es c.document)
 
-union_known : (s : ScopeOf) (bytes : List ℕ) (lists : Lists) (ns : List Node) (axis : Axis) (t : Test) (list : List Node) → bytes ≡ s.bytes → lists ≡ s.lists → are_in_order ns ≡ true →
+union_known : (s : ScopeOf) (bytes : List ℕ) (lists : Lists) (ns : List Node) (axis : Axis) (t : Test) (list : List Node) → bytes ≡ s.bytes →
+    lists ≡ s.lists → are_in_order ns ≡ true →
     ForEachContexts bytes lists ns (λ nest cs. list ≡ step_nodes axis t cs (nodes_of bytes nest)) → IsUnion s ns axis t list
 union_known s bytes lists ns axis t list e1 e2 o f c h es a =
     let Q : List ℕ → Lists → Type 0 = λ b m. ForEachContexts b m ns (λ nest cs. list ≡ step_nodes axis t cs (nodes_of b nest)) in
@@ -137,7 +140,8 @@ if_union {E} s bytes lists ns axis t q list r a b e1 e2 o f = subst (λ x. IfOk 
 pub no_list : {X : Type 0} (P : X → Type 0) (r : Answer X) (e : ValueFault) → r ≡ Err e → IfOk r P
 no_list {X} P r e h = subst (λ x. IfOk x P) (sym h) tt
 
-few_known : (s : ScopeOf) (ns : List Node) (axis : Axis) (t : Test) (list : List Node) → IsNav s.bytes s.lists → length s.lists.records < 2 ^ 32 → AreFewOf s ns → IsUnion s ns axis t list → AreFewOf s list
+few_known : (s : ScopeOf) (ns : List Node) (axis : Axis) (t : Test) (list : List Node) → IsNav s.bytes s.lists → length s.lists.records < 2 ^ 32 →
+    AreFewOf s ns → IsUnion s ns axis t list → AreFewOf s list
 few_known s ns axis t list n l a f =
     let c : Context = root_context s.bytes n.nest s.bindings in
     let x : HaveEntries (nodes_of s.bytes n.nest) ns = a.of.each c (some_scope s n) in
@@ -151,7 +155,8 @@ few_known s ns axis t list n l a f =
       few = omega (arith, u, v, r, w, l);
     }
 
-pub if_few : (s : ScopeOf) (ns : List Node) (axis : Axis) (t : Test) (r : Answer (List Node)) → IsNav s.bytes s.lists → length s.lists.records < 2 ^ 32 → AreFewOf s ns → IfOk r (IsUnion s ns axis t) → IfOk r (AreFewOf s)
+pub if_few : (s : ScopeOf) (ns : List Node) (axis : Axis) (t : Test) (r : Answer (List Node)) → IsNav s.bytes s.lists → length s.lists.records < 2 ^ 32 →
+    AreFewOf s ns → IfOk r (IsUnion s ns axis t) → IfOk r (AreFewOf s)
 if_few s ns axis t (Ok list) n l a f = few_known s ns axis t list n l a f
 if_few s ns axis t (Err x) n l a f = tt
 
@@ -184,7 +189,8 @@ order_none [] = refl
 order_none (e ∷ es) = order_none es
 
 -- a step along the axis that has no nodes here
-pub finds_none : (s : ScopeOf) (ns : List Node) (a : StepAxis) (test : StepTest) (list : List Node) → a ≡ Namespace → list ≡ [] → Finds s ns (Ok list) (step_from (filtered none) a test)
+pub finds_none : (s : ScopeOf) (ns : List Node) (a : StepAxis) (test : StepTest) (list : List Node) → a ≡ Namespace → list ≡ [] →
+    Finds s ns (Ok list) (step_from (filtered none) a test)
 finds_none s ns a test list q k = record {
   yields = λ c hc es n. record {
     value = [];

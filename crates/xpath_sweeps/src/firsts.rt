@@ -88,13 +88,7 @@ fn first_on<W: Words>(
     ensures walker { walker.new ≡ walker.old }
 {
     let _table = table_of(scope);
-    let mut left = axis_iter_by(
-        walker.nav,
-        &mut walker.resolver,
-        place.node,
-        axis,
-        test,
-    );
+    let mut left = axis_iter_by(walker.nav, &mut walker.resolver, place.node, axis, test);
     list_of(scope.alloc, left.next_by(&mut walker.resolver))
 }
 

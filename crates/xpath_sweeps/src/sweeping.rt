@@ -50,14 +50,7 @@ fn union_along<W: Words>(
 {
     let _count = record_count(scope);
     let table = walker.nav.table();
-    match step_of_all(
-        scope.alloc,
-        table,
-        &mut walker.resolver,
-        axis,
-        nodes,
-        test,
-    ) {
+    match step_of_all(scope.alloc, table, &mut walker.resolver, axis, nodes, test) {
         Ok(list) => Ok(list),
         Err(_) => Err(ValueFault::NoMemory),
     }

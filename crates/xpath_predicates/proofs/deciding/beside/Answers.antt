@@ -1,4 +1,4 @@
-use Rattle.std.proofs.Common.{◌∙◌, ap, refl, sym}
+use Rattle.std.proofs.Common.{◌∙◌, ap, sym}
 use Rattle.std.specs.Prelude.{bytes_eq}
 use Rattle.xpath_grammar.specs.Tree.{tree_of, walk_of}
 use Rattle.xpath_values.specs.Values.{by_equality, string_value}

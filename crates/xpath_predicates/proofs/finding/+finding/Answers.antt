@@ -1,7 +1,7 @@
-use Rattle.std.proofs.Common.{◌≡◌, ◌∙◌, ap, sym, rules}
+use Rattle.std.proofs.Common.{◌∙◌, ap, sym}
 use Rattle.xpath_axes.specs.Iters.{to_come}
 use Rattle.xpath_axes.specs.Tests.{node_test}
-use Rattle.xpath_grammar.specs.Tree.{trees_of, walk_of}
+use Rattle.xpath_grammar.specs.Tree.{walk_of}
 use Rattle.xpath_meaning.specs.Context.{on_axis}
 use Rattle.xpath_predicates.specs.Asks.{any_found}
 use Rattle.xpath_predicates.proofs.Found.{along, asking_found, begins, ends, goes_on}

@@ -1,5 +1,5 @@
 use Rattle.std.proofs.Common.{ap}
-use Rattle.xpath_sweeps.proofs.Ones.{all_stepped, first_known, first_none}
+use Rattle.xpath_sweeps.proofs.Ones.{first_known, first_none}
 use Rattle.xpath_sweeps.proofs.firsts.stepped_to.Goals as goal
 
 pub returns-in-Known-clause-found : goal.returns-in-Known-clause-found

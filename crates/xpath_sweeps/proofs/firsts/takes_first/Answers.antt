@@ -1,7 +1,5 @@
-use Rattle.std.proofs.Common.{◌≡◌, ◌∙◌, ap, subst, sym}
-use Rattle.xpath_grammar.specs.Tree.{Trees, tree_of, trees_of}
-use Rattle.xpath_meaning.specs.Meaning.{filtered}
-use Rattle.xpath_sweeps.specs.Sweeps.{fewer}
+use Rattle.std.proofs.Common.{ap}
+use Rattle.xpath_grammar.specs.Tree.{tree_of, trees_of}
 use Rattle.xpath_sweeps.proofs.Ones.{one_asked}
 use Rattle.xpath_sweeps.proofs.firsts.takes_first.Goals as goal
 

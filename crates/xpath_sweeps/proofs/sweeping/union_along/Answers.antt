@@ -1,4 +1,4 @@
-use Rattle.std.proofs.Common.{◌≡◌, ◌∙◌, ap}
+use Rattle.std.proofs.Common.{◌∙◌, ap}
 use Rattle.xpath_axes.specs.Tests.{node_test}
 use Rattle.xpath_sweeps.proofs.Unions.{IsUnion, nodes_known, if_union, if_few, no_list}
 use Rattle.xpath_sweeps.proofs.sweeping.union_along.Goals as goal
