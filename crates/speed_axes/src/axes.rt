@@ -25,11 +25,12 @@ fn count_tags<W: Words>(words: &W) -> u64 {
     found
 }
 
-/// The descendants of a node that pass a test.
+/// The nodes on an axis of a node that pass a test.
 fn count_nodes<W: Words, N: Names<W>>(
     nav: &Nav<'_, W>,
     names: &mut N,
     node: Node,
+    along: Axis,
     test: &NodeTest<'_>,
 ) -> u64
     requires node { IsNodeOf nav.now.bytes (W.lists nav.now.words) node }
@@ -37,11 +38,43 @@ fn count_nodes<W: Words, N: Names<W>>(
     ensures { N.knows names.new nav.now }
 {
     let mut found = 0u64;
-    let mut nodes = axis_iter(nav, node, Axis::Descendant, test);
+    let mut nodes = axis_iter(nav, node, along, test);
     while let Some(_node) = nodes.next_by(names) {
         found = found.wrapping_add(1);
     }
     found
+}
+
+/// The children that pass a test, of each node in turn.
+fn count_children<W: Words, N: Names<W>>(
+    nav: &Nav<'_, W>,
+    names: &mut N,
+    test: &NodeTest<'_>,
+) -> u64
+    requires { N.knows names.old nav.now }
+{
+    let mut found = 0u64;
+    for at in 0..nav.table().words().len(Part::Records) {
+        if let Some(node) = nav.table().node_at(at) {
+            found = found.wrapping_add(count_nodes(nav, names, node, Axis::Child, test));
+        }
+    }
+    found
+}
+
+/// Times one test of the children of each node in turn.
+fn time_children<R: Clock + Print + Eprint, W: Words>(
+    rt: &R,
+    nav: &Nav<'_, W>,
+    what: &str,
+    test: &NodeTest<'_>,
+) -> io::Result<()> {
+    let start = Instant::now(rt)?;
+    let mut names = Resolver::new(nav.table());
+    let found = count_children(nav, &mut names, test);
+    let took = start.elapsed(rt)?;
+    println!(rt; "children {what}: {found}")?;
+    eprintln!(rt; "children {what} of each node in turn: {took:?}")
 }
 
 /// Times one test, with names asked of a resolver, or by looking back.
@@ -58,7 +91,7 @@ fn time_test<R: Clock + Print + Eprint, W: Words>(
     let mut names = Resolver::new(nav.table());
     let resolver = start.elapsed(rt)?;
     let start = Instant::now(rt)?;
-    let found = count_nodes(nav, &mut names, root, test);
+    let found = count_nodes(nav, &mut names, root, Axis::Descendant, test);
     let asked = start.elapsed(rt)?;
     println!(rt; "{what}: {found}")?;
     eprintln!(rt; "{what}: {asked:?}, and {resolver:?} for the resolver")
@@ -89,7 +122,9 @@ fn time_all<R: Clock + Print + Eprint, W: Words>(
         uri: "",
         local: "none",
     };
-    time_test(rt, nav, root, "none", &NodeTest::Name(none))
+    time_test(rt, nav, root, "none", &NodeTest::Name(none))?;
+    time_children(rt, nav, "comment()", &NodeTest::Comment)?;
+    time_children(rt, nav, "none", &NodeTest::Name(none))
 }
 
 /// Times a document.

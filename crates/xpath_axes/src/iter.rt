@@ -193,8 +193,8 @@ fn walk_of<W: Words>(table: &Table<'_, W>, node: Node, axis: Axis) -> Rest
 /// to 2.4). The node is one of the document. It reads what is in the node on `following` and `following-sibling`, back
 /// to the tag of the parent on `parent`, and a constant number of records on the other axes; on `self`, `parent` and
 /// the axes `..-or-self` a name test looks back as in `AxisIter::next`. A child step by a name from an element that at
-/// most four others hold goes by the levels: it reads at most d + 6 words, where these together have fewer than 2 to
-/// the power d entries.
+/// most four others hold goes by the levels, unless the element ends within eight records: it reads at most d + 14
+/// words, where these together have fewer than 2 to the power d entries.
 pub fn axis_iter<'n, 'a, W: Words>(
     nav: &'n Nav<'a, W>,
     node: Node,

@@ -14,14 +14,31 @@ use crate::node_tests::passes;
 use crate::rest::{Next, Rest, next_of};
 use crate::walk::Walk;
 use vtd_location::{Children, Nav, child_elements};
-use vtd_words::{Part, Words};
+use vtd_words::{Part, Words, level_of, parts_at};
 use xml_model::{Axis, Kind, Node, NodeTest};
 
 /// The greatest depth of an element whose child elements the levels tell.
 const DEEPEST: u32 = 4;
 
+/// How many records of an element are read to see whether it ends before them. So many cost less than a search of a
+/// level.
+const FEW: u32 = 8;
+
+/// Whether an element of a level ends within a few records from one on. It reads no more of them.
+fn ends_soon<W: Words>(words: &W, level: u32, from: u32) -> bool {
+    let records = words.len(Part::Records);
+    let stop = records.min(from.saturating_add(FEW));
+    for at in from..stop {
+        if level_of(parts_at(words, at)) <= level {
+            return true;
+        }
+    }
+    false
+}
+
 /// What tells the child elements of a node: the levels, where a name is asked of the children of an element that at
-/// most four others hold. Its reads are those of `child_elements`, and one.
+/// most four others hold, and that does not end within a few records: these are passed sooner than the levels are
+/// searched. It reads at most `FEW` words more than `child_elements`, and one.
 pub fn told_of<W: Words>(
     nav: &Nav<'_, W>,
     node: Node,
@@ -39,7 +56,12 @@ pub fn told_of<W: Words>(
     if axis != Axis::Child || node.kind != Kind::Element {
         return None;
     }
-    if nav.table().level_at(node) > DEEPEST {
+    let table = nav.table();
+    let level = table.level_at(node);
+    if level > DEEPEST {
+        return None;
+    }
+    if ends_soon(table.words(), level, table.after_first(node)) {
         return None;
     }
     Some(child_elements(&mut nav.meter(), node.at))
