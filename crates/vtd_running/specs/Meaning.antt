@@ -8,7 +8,7 @@ use Rattle.xml_model.specs.declared.DocFault.{DocFault}
 use Rattle.xml_model.specs.Nest.{Forest}
 use Rattle.xml_model.specs.Accepted.{Accepted, IsRefusal}
 use Rattle.vtd_script.specs.Lines.{lines}
-use Rattle.vtd_script.specs.Listing.{line_feed}
+use Rattle.vtd_listing.specs.Listing.{line_feed}
 use Rattle.vtd_script.specs.Faults.{fault_line}
 use Rattle.vtd_script.specs.States.{State, state_of}
 use Rattle.vtd_script.specs.Steps.{document_limit}

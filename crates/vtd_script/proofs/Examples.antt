@@ -4,7 +4,7 @@ use Rattle.std.specs.Str.{chars, is_utf8}
 use Rattle.vtd_script.specs.Lines.{lines}
 use Rattle.vtd_script.specs.Fields.{fields, unescaped}
 use Rattle.vtd_script.specs.Commands.{read}
-use Rattle.vtd_script.specs.declared.commands.Command.TheVariants.{Elements, Ns, Discard, Apply, Save, Open}
+use Rattle.vtd_script.specs.declared.commands.Command.TheVariants.{Elements, Ns, Select, Remove, Set, Discard, Apply, Save, Open}
 use Rattle.vtd_script.specs.declared.refusals.Refusal.TheVariants as no
 
 no_lines : lines [] ≡ []
@@ -42,6 +42,22 @@ elements = refl
 binds : read (codes "ns\ta\\tb\tc\\\\n") ≡ Some (Ok (Ns (codes "a\tb") (codes "c\\n")))
 unfolding read is_utf8 chars lib.Utf8.encode
 binds = refl
+
+selects : read (codes "select\t//a") ≡ Some (Ok (Select (codes "//a")))
+unfolding read is_utf8 chars lib.Utf8.encode
+selects = refl
+
+sets : read (codes "set\t//a\tb\\tc") ≡ Some (Ok (Set (codes "//a") (codes "b\tc")))
+unfolding read is_utf8 chars lib.Utf8.encode
+sets = refl
+
+removes : read (codes "remove\ta") ≡ Some (Ok (Remove (codes "a")))
+unfolding read is_utf8 chars lib.Utf8.encode
+removes = refl
+
+removes_no_text : read (codes "remove\ta\tb") ≡ Some (Err no.Command)
+unfolding read is_utf8 chars lib.Utf8.encode
+removes_no_text = refl
 
 empty_fields : read (codes "ns\t\t") ≡ Some (Ok (Ns [] []))
 unfolding read is_utf8 chars lib.Utf8.encode

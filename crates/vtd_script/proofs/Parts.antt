@@ -19,16 +19,20 @@ use Rattle.vtd_outside.specs.Written.{Writes}
 use Rattle.vtd_edits.specs.Splices.{spliced}
 use Rattle.vtd_edits.specs.declared.splice.Splice.{Splice}
 use Rattle.vtd_script.specs.States.{Work, State, state_of, Answer, skipped, printed, refused, missing, refused_line, new_bytes}
-use Rattle.vtd_script.specs.Steps.{Binds, Answers, Does, Step, ok_line, with_binding, with_document, with_file, has_file, asks_file, name_of}
+use Rattle.vtd_script.specs.Steps.{Binds, Tells, shown, Answers, Does, Step, ok_line, with_binding, with_document, with_file, has_file, asks_file, name_of}
 use Rattle.vtd_script.specs.Steps.{Takes, too_long, unfit, accepted, Opens, document_limit, document_line, refusal_of, saved_line}
-use Rattle.vtd_script.specs.Listing.{listed}
+use Rattle.vtd_listing.specs.Listing.{listed}
+use Rattle.vtd_script.specs.Queries.{Selects, Values, query_refusal}
+use Rattle.vtd_queries.specs.Meets.{IsRefused}
+use Rattle.vtd_queries.specs.declared.faults.QueryFault.{QueryFault}
+use Rattle.vtd_queries.specs.declared.faults.QueryFault.TheVariants as queries
 use Rattle.vtd_script.specs.Commands.{read}
 use Rattle.vtd_script.specs.Runs.{IsPrefix, StepsKnown}
-use Rattle.vtd_script.specs.Changes.{Asks, Changes, ChangesKnown, MakesDocument, OpensDocument, Prepares, ReadsDocument, CompletesKnown}
+use Rattle.vtd_script.specs.Changes.{Asks, Changes, ChangesKnown, MakesDocument, OpensDocument, Prepares, ReadsDocument, CompletesKnown, Told, query_stop, PreparesStaging}
 use Rattle.vtd_script.specs.Changes.{RefusesKnown, stops_at_file}
 use Rattle.vtd_script.specs.Changes.{StaysUnlessDone, StaysUnlessReady, FileCounts, fails_at_file, writes}
 use Rattle.vtd_script.specs.declared.commands.Command.{Command}
-use Rattle.vtd_script.specs.declared.commands.Command.TheVariants.{Apply, Discard, Elements, Ns, Open, Save}
+use Rattle.vtd_script.specs.declared.commands.Command.TheVariants.{Apply, Discard, Elements, Ns, Open, Save, Select, Value}
 use Rattle.xpath_grammar.specs.declared.bindings.BindFault.{BindFault}
 use Rattle.xpath_grammar.specs.declared.bindings.BindFault.TheVariants.{Name}
 use Rattle.vtd_script.specs.declared.refusals.Refusal.{Refusal}
@@ -543,3 +547,61 @@ reads_made bytes built lines held b l h =
 
 pub counts_read : (result : Result Made Stop) (mb ma pb pa : ℕ) → stops_at_file result ≡ false → ma ≡ mb → pa ≡ pb → FileCounts (stops_at_file result) mb ma pb pa
 counts_read result mb ma pb pa n m p = let P : Bool → Type 0 = λ b. FileCounts b mb ma pb pa in subst P (sym n) (m, p)
+
+-- what is told of an expression, or why nothing is
+pub told_fault : {Y : Type 0} (P : Result (List ℕ) Refusal → Type 0) (Answers : Result Y QueryFault → Type 0) (fault : QueryFault)
+    → ((x : QueryFault) → Answers (Err x) → P (Err (query_refusal x))) → IsRefused Answers fault → Told P (Err (query_stop fault))
+told_fault P Answers queries.Long to h = to queries.Long h
+told_fault P Answers queries.Deep to h = to queries.Deep h
+told_fault P Answers queries.Syntax to h = to queries.Syntax h
+told_fault P Answers queries.Axis to h = to queries.Axis h
+told_fault P Answers queries.Variable to h = to queries.Variable h
+told_fault P Answers queries.Function to h = to queries.Function h
+told_fault P Answers queries.Arguments to h = to queries.Arguments h
+told_fault P Answers queries.Prefix to h = to queries.Prefix h
+told_fault P Answers queries.LiteralFraction to h = to queries.LiteralFraction h
+told_fault P Answers queries.LiteralRange to h = to queries.LiteralRange h
+told_fault P Answers queries.NeedsNodes to h = to queries.NeedsNodes h
+told_fault P Answers queries.NotNodes to h = to queries.NotNodes h
+told_fault P Answers queries.Fraction to h = to queries.Fraction h
+told_fault P Answers queries.Infinite to h = to queries.Infinite h
+told_fault P Answers queries.Range to h = to queries.Range h
+told_fault P Answers queries.NoMemory to h = tt
+
+-- a command that tells something
+pub prepares_told : (P : Result (List ℕ) Refusal → Type 0) (command : Command) (s : State) (ready : Ready) (lines : List ℕ)
+    → ((a : Answer) → Tells P s a → Does command s a) → ready.change ≡ change.Nothing → ready.lines ≡ lines → Told P (Ok lines)
+    → Prepares ⊥ command s s (Ok ready)
+prepares_told P command s ready lines to n l h = prepares_nothing ⊥ command s s ready lines n l (to _ (Ok lines, h, refl))
+
+pub stops_told : (P : Result (List ℕ) Refusal → Type 0) (command : Command) (s : State) (x : Stop) → ((a : Answer) → Tells P s a → Does command s a)
+    → Told P (Err x) → Prepares ⊥ command s s (Err x)
+stops_told P command s (stop.Refused refusal) to h = (refl, to _ (Err refusal, h, refl))
+stops_told P command s stop.File to h = absurd h
+stops_told P command s stop.NoMemory to h = refl
+
+pub tells_no_file : (P : Result (List ℕ) Refusal → Type 0) (x : Stop) → Told P (Err x) → stops_at_file {T = Ready} (Err x) ≡ false
+tells_no_file P (stop.Refused refusal) h = refl
+tells_no_file P stop.File h = absurd h
+tells_no_file P stop.NoMemory h = refl
+
+-- a command that stages, whatever its files do
+pub prepares_staging : (rose : Type 0) (command : Command) (answers : State → Answer → Type 0) (s now : State) (result : Result Ready Stop)
+    → ((a : Answer) → answers s a → Does command s a) → PreparesStaging answers s now result → Prepares rose command s now result
+prepares_staging rose command answers s now (Ok ready) to h = prepares_nothing rose command s now ready ready.lines h.0 refl (to _ h.1)
+prepares_staging rose command answers s now (Err (stop.Refused refusal)) to h = (h.0, to _ h.1)
+prepares_staging rose command answers s now (Err stop.File) to h = absurd h
+prepares_staging rose command answers s now (Err stop.NoMemory) to h = h
+
+-- the same command, by its case
+pub staging_as : (rose : Type 0) (command given : Command) (answers : State → Answer → Type 0) (s now : State) (result : Result Ready Stop) → command ≡ given
+    → ((a : Answer) → answers s a → Does given s a) → PreparesStaging answers s now result → Prepares rose command s now result
+staging_as rose command given answers s now result e to h =
+    let P : Command → Type 0 = λ c. Prepares rose c s now result in subst P (sym e) (prepares_staging rose given answers s now result to h)
+
+pub stays_staging : (answers : State → Answer → Type 0) (work now : Work) (result : Result Ready Stop)
+    → ((files : NameMap) → PreparesStaging answers (state_of work files) (state_of now files) result) → StaysUnlessReady result work now
+stays_staging answers work now (Ok ready) h = λ w. absurd (writes_nothing ready.change (h (λ name. None)).0 w)
+stays_staging answers work now (Err (stop.Refused refusal)) h = ap (λ (s : State). s.work) (h (λ name. None)).0
+stays_staging answers work now (Err stop.File) h = absurd (h (λ name. None))
+stays_staging answers work now (Err stop.NoMemory) h = ap (λ (s : State). s.work) (h (λ name. None))

@@ -1,6 +1,7 @@
 -- A line has one answer in a state, and some where the state has a document, and leaves such a state.
-use Rattle.std.proofs.Common.{◌≡◌, ◌≤◌, ◌<◌, ℕ, Bool, true, false, List, [], ◌∷◌, length, Option, Some, None, Result, Ok, Err, refl, sym, ap, subst}
+use Rattle.std.proofs.Common.{◌≡◌, ◌++◌, ◌≤◌, ◌<◌, ℕ, Bool, true, false, List, [], ◌∷◌, length, Option, Some, None, Result, Ok, Err, refl, sym, ap, subst}
 use Rattle.std.proofs.Common.{◌∙◌, inl, inr, arith}
+use Rattle.std.specs.Prelude.{encode_utf8_all}
 use Rattle.std.proofs.lemmas.Bool.{cases_lt}
 use Rattle.xml_model.specs.Items.{first_place}
 use Rattle.xml_model.specs.Nest.{Forest}
@@ -13,13 +14,23 @@ use Rattle.xml_acceptance.proofs.OneAnswer as answers
 use Rattle.xml_acceptance.proofs.SomeAnswer.{some_answer}
 use Rattle.vtd_edits.specs.declared.splice.Splice.{Splice}
 use Rattle.xpath_grammar.specs.Bindings.{can_bind}
-use Rattle.vtd_script.specs.Listing.{listed}
+use Rattle.vtd_listing.specs.Listing.{listed}
+use Rattle.vtd_queries.specs.Questions.{Asks, AsksNodes}
+use Rattle.vtd_queries.specs.Operations.{Operates}
+use Rattle.vtd_queries.specs.declared.faults.OperationFault.{OperationFault}
+use Rattle.vtd_queries.specs.declared.operating.Operated.{Operated}
+use Rattle.vtd_modifier.specs.declared.operation.Operation.{Operation}
+use Rattle.vtd_modifier.specs.declared.operation.Operation.TheVariants as operations
+use Rattle.vtd_queries.proofs.Answers.{one_list, one_operation, one_value, some_list, some_operation, some_value}
+use Rattle.vtd_script.specs.Staging.{borrowed, operation_refusal}
+use Rattle.vtd_script.proofs.StageLemmas.{one_puts, some_puts}
+use Rattle.vtd_script.specs.Queries.{Selects, Values, selected, valued}
 use Rattle.vtd_script.specs.Commands.{read}
 use Rattle.vtd_script.specs.States.{State, Answer, skipped, printed, refused, missing, state_after, new_bytes}
-use Rattle.vtd_script.specs.Steps.{HasDocument, Lists, Binds, Does, Answers, Step, ok_line, with_binding, name_of}
+use Rattle.vtd_script.specs.Steps.{HasDocument, Lists, Tells, shown, Puts, overlaps, text_long, put, StagesMade, Stages, Binds, Does, Answers, Step, ok_line, with_binding, name_of}
 use Rattle.vtd_script.specs.Steps.{Takes, too_long, unfit, accepted, Opens, Saves, document_limit, document_line, refusal_of, with_document}
 use Rattle.vtd_script.specs.declared.commands.Command.{Command}
-use Rattle.vtd_script.specs.declared.commands.Command.TheVariants.{Elements, Ns, Discard, Apply, Save, Open}
+use Rattle.vtd_script.specs.declared.commands.Command.TheVariants.{Elements, Ns, Select, Value, Remove, Replace, Before, After, First, Last, Attr, Set, Rename, Discard, Apply, Save, Open}
 use Rattle.vtd_script.specs.declared.refusals.Refusal.{Refusal}
 use Rattle.vtd_script.specs.declared.refusals.Refusal.TheVariants as no
 
@@ -27,6 +38,36 @@ one_lists : (s : State) (a b : Answer) → Lists s a → Lists s b → a ≡ b
 one_lists s a b h k =
     let same : h.0 ≡ k.0 = one_document s.work.bytes h.0 k.0 h.1.document k.1.document in
     h.2 ∙ ap (λ (n : Forest). printed (listed n (first_place s.work.bytes)) s) same ∙ sym k.2
+
+one_tells : (P : Result (List ℕ) Refusal → Type 0) (s : State) (a b : Answer) → ((x y : Result (List ℕ) Refusal) → P x → P y → x ≡ y)
+    → Tells P s a → Tells P s b → a ≡ b
+one_tells P s a b one h k = h.2 ∙ ap (λ (x : Result (List ℕ) Refusal). shown s x) (one h.0 k.0 h.1 k.1) ∙ sym k.2
+
+one_selects : (bytes : List ℕ) (bound : List (List ℕ × List ℕ)) (text : List ℕ) (x y : Result (List ℕ) Refusal) → Selects bytes bound text x
+    → Selects bytes bound text y → x ≡ y
+one_selects bytes bound text x y h k =
+    let same : h.nest ≡ k.nest = one_document bytes h.nest k.nest h.accepted.document k.accepted.document in
+    let P : Forest → Type 0 = λ n. AsksNodes bytes n bound text h.found in
+    h.is ∙ ap selected (one_list bytes k.nest bound text h.found k.found (subst P same h.asked) k.asked) ∙ sym k.is
+
+one_told : (bytes : List ℕ) (bound : List (List ℕ × List ℕ)) (text : List ℕ) (x y : Result (List ℕ) Refusal) → Values bytes bound text x
+    → Values bytes bound text y → x ≡ y
+one_told bytes bound text x y h k =
+    let same : h.nest ≡ k.nest = one_document bytes h.nest k.nest h.accepted.document k.accepted.document in
+    let P : Forest → Type 0 = λ n. Asks bytes n bound text h.found in
+    h.is ∙ ap valued (one_value bytes k.nest bound text h.found k.found (subst P same h.asked) k.asked) ∙ sym k.is
+
+one_made : (found : Result Operated OperationFault) (s : State) (a b : Answer) → StagesMade found s a → StagesMade found s b → a ≡ b
+one_made (Ok made) s a b h k = one_puts (s.work.staged ++ made.splices) made.count s a b h k
+one_made (Err fault) s a b h k = h ∙ sym k
+
+one_stages : (text : List ℕ) (operation : Operation) (s : State) (a b : Answer) → Stages text operation s a → Stages text operation s b → a ≡ b
+one_stages text operation s a b h k =
+    let nests : h.nest ≡ k.nest = one_document s.work.bytes h.nest k.nest h.accepted.document k.accepted.document in
+    let P : Forest → Type 0 = λ n. Operates s.work.bytes n s.work.bound text operation h.found in
+    let same : h.found ≡ k.found = one_operation s.work.bytes k.nest s.work.bound text operation h.found k.found (subst P nests h.operates) k.operates in
+    let Q : Result Operated OperationFault → Type 0 = λ x. StagesMade x s a in
+    one_made k.found s a b (subst Q same h.stages) k.stages
 
 one_binds : (can : Bool) (prefix uri : List ℕ) (s : State) (a b : Answer) → Binds can prefix uri s a → Binds can prefix uri s b → a ≡ b
 one_binds true prefix uri s a b h k = h ∙ sym k
@@ -68,6 +109,17 @@ one_opens (splice ∷ staged) file s a b h k = h ∙ sym k
 one_does : (command : Command) (s : State) (a b : Answer) → Does command s a → Does command s b → a ≡ b
 one_does Elements s a b h k = one_lists s a b h k
 one_does (Ns prefix uri) s a b h k = one_binds (can_bind prefix uri) prefix uri s a b h k
+one_does (Select expr) s a b h k = one_tells _ s a b (one_selects s.work.bytes s.work.bound (encode_utf8_all expr)) h k
+one_does (Value expr) s a b h k = one_tells _ s a b (one_told s.work.bytes s.work.bound (encode_utf8_all expr)) h k
+one_does (Remove expr) s a b h k = one_stages _ _ s a b h k
+one_does (Replace expr text) s a b h k = one_stages _ _ s a b h k
+one_does (Before expr text) s a b h k = one_stages _ _ s a b h k
+one_does (After expr text) s a b h k = one_stages _ _ s a b h k
+one_does (First expr text) s a b h k = one_stages _ _ s a b h k
+one_does (Last expr text) s a b h k = one_stages _ _ s a b h k
+one_does (Attr expr text) s a b h k = one_stages _ _ s a b h k
+one_does (Set expr text) s a b h k = one_stages _ _ s a b h k
+one_does (Rename expr name) s a b h k = one_stages _ _ s a b h k
 one_does Discard s a b h k = h ∙ sym k
 one_does Apply s a b h k = one_takes (new_bytes s.work) s a b h k
 one_does (Save file) s a b h k = h ∙ sym k
@@ -87,6 +139,29 @@ some_binds : (can : Bool) (prefix uri : List ℕ) (s : State) → (a : Answer) �
 some_binds true prefix uri s = (printed ok_line (with_binding prefix uri s), refl)
 some_binds false prefix uri s = (refused no.Name, refl)
 
+some_selects : (bytes : List ℕ) (bound : List (List ℕ × List ℕ)) (text : List ℕ) (nest : Forest) → Accepted 8 bytes nest
+    → (x : Result (List ℕ) Refusal) × Selects bytes bound text x
+some_selects bytes bound text nest w =
+    let h = some_list bytes nest bound text in (selected h.0, record { nest = nest; accepted = w; found = h.0; asked = h.1; is = refl })
+
+some_told : (bytes : List ℕ) (bound : List (List ℕ × List ℕ)) (text : List ℕ) (nest : Forest) → Accepted 8 bytes nest
+    → (x : Result (List ℕ) Refusal) × Values bytes bound text x
+some_told bytes bound text nest w =
+    let h = some_value bytes nest bound text in (valued h.0, record { nest = nest; accepted = w; found = h.0; asked = h.1; is = refl })
+
+some_tells : (P : Result (List ℕ) Refusal → Type 0) (s : State) → ((x : Result (List ℕ) Refusal) × P x) → (a : Answer) × Tells P s a
+some_tells P s h = (shown s h.0, (h.0, h.1, refl))
+
+some_made : (found : Result Operated OperationFault) (s : State) → (a : Answer) × StagesMade found s a
+some_made (Ok made) s = some_puts (s.work.staged ++ made.splices) made.count s
+some_made (Err fault) s = (refused (operation_refusal fault), refl)
+
+some_stages : (text : List ℕ) (operation : Operation) (s : State) → HasDocument s → (a : Answer) × Stages text operation s a
+some_stages text operation s w =
+    let h = some_operation s.work.bytes w.0 s.work.bound text operation in
+    let m = some_made h.0 s in
+    (m.0, record { nest = w.0; accepted = w.1; found = h.0; operates = h.1; stages = m.1 })
+
 some_takes : (bytes : List ℕ) (s : State) → (a : Answer) × Takes bytes s a
 some_takes bytes s = elim (cases_lt document_limit (length bytes)) [
   | inl l ↦ (refused no.FileLong, too_long l)
@@ -104,6 +179,17 @@ some_opens (splice ∷ staged) file s = (refused no.Staged, refl)
 some_does : (command : Command) (s : State) → HasDocument s → (a : Answer) × Does command s a
 some_does Elements s w = (printed (listed w.0 (first_place s.work.bytes)) s, (w.0, w.1, refl))
 some_does (Ns prefix uri) s w = some_binds (can_bind prefix uri) prefix uri s
+some_does (Select expr) s w = some_tells _ s (some_selects s.work.bytes s.work.bound (encode_utf8_all expr) w.0 w.1)
+some_does (Value expr) s w = some_tells _ s (some_told s.work.bytes s.work.bound (encode_utf8_all expr) w.0 w.1)
+some_does (Remove expr) s w = some_stages (encode_utf8_all expr) operations.Remove s w
+some_does (Replace expr text) s w = some_stages (encode_utf8_all expr) (operations.Replace (borrowed (encode_utf8_all text))) s w
+some_does (Before expr text) s w = some_stages (encode_utf8_all expr) (operations.Before (borrowed (encode_utf8_all text))) s w
+some_does (After expr text) s w = some_stages (encode_utf8_all expr) (operations.After (borrowed (encode_utf8_all text))) s w
+some_does (First expr text) s w = some_stages (encode_utf8_all expr) (operations.First (borrowed (encode_utf8_all text))) s w
+some_does (Last expr text) s w = some_stages (encode_utf8_all expr) (operations.Last (borrowed (encode_utf8_all text))) s w
+some_does (Attr expr text) s w = some_stages (encode_utf8_all expr) (operations.Attr (borrowed (encode_utf8_all text))) s w
+some_does (Set expr text) s w = some_stages (encode_utf8_all expr) (operations.Set (borrowed (encode_utf8_all text))) s w
+some_does (Rename expr name) s w = some_stages (encode_utf8_all expr) (operations.Rename (borrowed (encode_utf8_all name))) s w
 some_does Discard s w = (_, refl)
 some_does Apply s w = some_takes (new_bytes s.work) s
 some_does (Save file) s w = (_, refl)
@@ -126,6 +212,22 @@ kept_binds : (can : Bool) (prefix uri : List ℕ) (s : State) (a : Answer) → B
 kept_binds true prefix uri s a h w = kept_by s a _ h w
 kept_binds false prefix uri s a h w = kept_by s a _ h w
 
+kept_shown : (s : State) (told : Result (List ℕ) Refusal) → HasDocument s → HasDocument (state_after s (shown s told))
+kept_shown s (Ok lines) w = w
+kept_shown s (Err refusal) w = w
+
+kept_tells : (P : Result (List ℕ) Refusal → Type 0) (s : State) (a : Answer) → Tells P s a → HasDocument s → HasDocument (state_after s a)
+kept_tells P s a h w = kept_by s a _ h.2 (kept_shown s h.0 w)
+
+kept_puts : (splices : List Splice) (count : ℕ) (s : State) (a : Answer) → Puts splices count s a → HasDocument s → HasDocument (state_after s a)
+kept_puts splices count s a (overlaps earlier later h) w = w
+kept_puts splices count s a (text_long p l) w = w
+kept_puts splices count s a (put p l) w = w
+
+kept_made : (found : Result Operated OperationFault) (s : State) (a : Answer) → StagesMade found s a → HasDocument s → HasDocument (state_after s a)
+kept_made (Ok made) s a h w = kept_puts (s.work.staged ++ made.splices) made.count s a h w
+kept_made (Err fault) s a h w = kept_by s a _ h w
+
 kept_takes : (bytes : List ℕ) (s : State) (a : Answer) → Takes bytes s a → HasDocument s → HasDocument (state_after s a)
 kept_takes bytes s a (too_long l) w = w
 kept_takes bytes s a (unfit l fault r) w = w
@@ -139,6 +241,17 @@ kept_opens (splice ∷ staged) file s a h w = kept_by s a _ h w
 kept_does : (command : Command) (s : State) (a : Answer) → Does command s a → HasDocument s → HasDocument (state_after s a)
 kept_does Elements s a h w = kept_by s a _ h.2 w
 kept_does (Ns prefix uri) s a h w = kept_binds (can_bind prefix uri) prefix uri s a h w
+kept_does (Select expr) s a h w = kept_tells _ s a h w
+kept_does (Value expr) s a h w = kept_tells _ s a h w
+kept_does (Remove expr) s a h w = kept_made h.found s a h.stages w
+kept_does (Replace expr text) s a h w = kept_made h.found s a h.stages w
+kept_does (Before expr text) s a h w = kept_made h.found s a h.stages w
+kept_does (After expr text) s a h w = kept_made h.found s a h.stages w
+kept_does (First expr text) s a h w = kept_made h.found s a h.stages w
+kept_does (Last expr text) s a h w = kept_made h.found s a h.stages w
+kept_does (Attr expr text) s a h w = kept_made h.found s a h.stages w
+kept_does (Set expr text) s a h w = kept_made h.found s a h.stages w
+kept_does (Rename expr name) s a h w = kept_made h.found s a h.stages w
 kept_does Discard s a h w = kept_by s a _ h w
 kept_does Apply s a h w = kept_takes (new_bytes s.work) s a h w
 kept_does (Save file) s a h w = kept_by s a _ h w

@@ -11,12 +11,20 @@ use Rattle.xml_model.specs.declared.DocFault.{DocFault}
 use Rattle.vtd_outside.specs.Causes.{Rose, RoseAlone}
 use Rattle.vtd_outside.specs.Known.{NameMap, put_into}
 use Rattle.vtd_outside.specs.Written.{LeavesPrefix}
-use Rattle.vtd_script.specs.States.{Work, State, state_of, printed, refused, missing, refused_line, new_bytes}
+use Rattle.vtd_queries.specs.declared.faults.QueryFault.{QueryFault}
+use Rattle.vtd_queries.specs.declared.faults.QueryFault.TheVariants as queries
+use Rattle.vtd_queries.specs.declared.faults.OperationFault.{OperationFault}
+use Rattle.vtd_queries.specs.declared.faults.OperationFault.TheVariants as operating
+use Rattle.vtd_edits.specs.declared.splice.StageFault.{StageFault}
+use Rattle.vtd_edits.specs.declared.splice.StageFault.TheVariants as staging
+use Rattle.vtd_script.specs.Queries.{query_refusal}
+use Rattle.vtd_script.specs.States.{Work, State, Answer, state_of, printed, refused, missing, refused_line, new_bytes}
 use Rattle.vtd_script.specs.Steps.{Does, Opens, Takes, document_line, has_file, name_of, refusal_of}
 use Rattle.vtd_script.specs.Steps.{with_document, with_file}
 use Rattle.vtd_script.specs.Runs.{IsPrefix}
 use Rattle.vtd_script.specs.declared.commands.Command.{Command}
 use Rattle.vtd_script.specs.declared.refusals.Refusal.{Refusal}
+use Rattle.vtd_script.specs.declared.refusals.Refusal.TheVariants as no
 use Rattle.vtd_script.specs.declared.endings.End.{End}
 use Rattle.vtd_script.specs.declared.endings.End.TheVariants as ends
 use Rattle.vtd_script.specs.declared.endings.Ending.{Ending}
@@ -39,6 +47,37 @@ writes (change.File name) = true
 abbrev pub Changes : Change → State → State → Type 0
 Changes change.Nothing s after = after ≡ s
 Changes (change.File name) s after = after ≡ with_file (name_of name) (new_bytes s.work) s
+
+-- the lines of a command that changes nothing, or its refusal
+abbrev pub Told : (Result (List ℕ) Refusal → Type 0) → Result (List ℕ) Stop → Type 0
+Told P (Ok lines) = P (Ok lines)
+Told P (Err (stop.Refused refusal)) = P (Err refusal)
+Told P (Err stop.File) = ⊥
+Told P (Err stop.NoMemory) = Unit {0}
+
+-- why a command ends, by why its expression has no answer
+abbrev pub query_stop : QueryFault → Stop
+query_stop queries.NoMemory = stop.NoMemory
+query_stop fault = stop.Refused (query_refusal fault)
+
+-- why a command ends, by why an operation makes no splices
+abbrev pub operation_stop : OperationFault → Stop
+operation_stop (operating.Query fault) = query_stop fault
+operation_stop operating.Name = stop.Refused no.Name
+operation_stop (operating.Kind at) = stop.Refused (no.Kind at)
+
+-- why a command ends, by why splices are not staged
+abbrev pub stage_stop : StageFault → Stop
+stage_stop (staging.Overlap earlier later) = stop.Refused (no.Overlap earlier later)
+stage_stop staging.TextLong = stop.Refused no.TextLong
+stage_stop staging.NoMemory = stop.NoMemory
+
+-- The first part of a command that stages, which leaves nothing to the second.
+abbrev pub PreparesStaging : (State → Answer → Type 0) → State → State → Result Ready Stop → Type 0
+PreparesStaging answers s now (Ok ready) = (ready.change ≡ change.Nothing) × answers s (printed ready.lines now)
+PreparesStaging answers s now (Err (stop.Refused refusal)) = (now ≡ s) × answers s (refused refusal)
+PreparesStaging answers s now (Err stop.File) = ⊥
+PreparesStaging answers s now (Err stop.NoMemory) = now ≡ s
 
 -- Bytes that are not too many are read as a document, with its line, or refused.
 abbrev pub ReadsDocument : List ℕ → Result Made Stop → Type 0

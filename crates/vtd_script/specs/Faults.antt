@@ -5,7 +5,7 @@ use Rattle.xml_model.specs.declared.DocFault.{DocFault}
 use Rattle.xml_model.specs.declared.DocFault.TheVariants as faults
 use Rattle.xml_model.specs.declared.Field.{Field}
 use Rattle.xml_model.specs.declared.Field.TheVariants as fields
-use Rattle.vtd_script.specs.Listing.{line_feed}
+use Rattle.vtd_listing.specs.Listing.{line_feed}
 
 -- the words of a refused document, before the place
 abbrev pub width_word : Field → List ℕ

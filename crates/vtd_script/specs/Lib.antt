@@ -2,9 +2,9 @@ pub mod Lines
 pub mod Fields
 pub mod Commands
 pub mod Readings
-pub mod Listing
 pub mod Faults
-pub mod Spans
+pub mod Queries
+pub mod Staging
 pub mod States
 pub mod Steps
 pub mod Runs

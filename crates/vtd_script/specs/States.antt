@@ -5,7 +5,7 @@ use Rattle.vtd_outside.specs.Known.{NameMap}
 use Rattle.vtd_edits.specs.Splices.{spliced}
 use Rattle.vtd_edits.specs.declared.splice.Splice.{Splice}
 use Rattle.vtd_script.specs.Faults.{width_word}
-use Rattle.vtd_script.specs.Listing.{line_feed}
+use Rattle.vtd_listing.specs.Listing.{line_feed}
 use Rattle.vtd_script.specs.declared.refusals.Refusal.{Refusal}
 use Rattle.vtd_script.specs.declared.refusals.Refusal.TheVariants as no
 
@@ -44,6 +44,24 @@ refusal_words no.Command = codes "command"
 refusal_words no.Escape = codes "escape"
 refusal_words no.Name = codes "name"
 refusal_words no.Staged = codes "staged"
+refusal_words no.ExprLong = codes "expr-long"
+refusal_words no.ExprSyntax = codes "expr-syntax"
+refusal_words no.ExprDeep = codes "expr-deep"
+refusal_words no.Axis = codes "axis"
+refusal_words no.Variable = codes "variable"
+refusal_words no.Function = codes "function"
+refusal_words no.Arguments = codes "arguments"
+refusal_words no.Prefix = codes "prefix"
+refusal_words no.LiteralFraction = codes "literal-fraction"
+refusal_words no.LiteralRange = codes "literal-range"
+refusal_words no.NeedsNodes = codes "type"
+refusal_words no.NotNodes = codes "not-nodes"
+refusal_words no.Fraction = codes "fraction"
+refusal_words no.Infinite = codes "infinite"
+refusal_words no.Range = codes "range"
+refusal_words (no.Kind at) = codes "kind " ++ decimal at
+refusal_words (no.Overlap earlier later) = codes "overlap " ++ decimal earlier ++ codes " " ++ decimal later
+refusal_words no.TextLong = codes "text-long"
 refusal_words no.FileLong = codes "file-long"
 refusal_words (no.Utf8 at) = codes "utf8 " ++ decimal at
 refusal_words (no.Syntax at) = codes "syntax " ++ decimal at

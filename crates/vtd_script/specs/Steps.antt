@@ -1,6 +1,7 @@
 -- What a line answers in a state, by the command that it asks for (this project's own).
 use Rattle.std.specs.Prelude.{◌≡◌, ℕ, ◌<◌, ◌≤◌, Bool, true, false, List, [], ◌∷◌, ◌++◌, length, codes, encode_utf8_all}
 use Rattle.std.specs.Prelude.{Option, Some, None, Result, Ok, Err}
+use Rattle.std.specs.Borrow.{Bor}
 use Rattle.std.specs.Fmt.{decimal}
 use Rattle.xml_model.specs.Items.{first_place}
 use Rattle.xml_model.specs.Nest.{Forest}
@@ -11,11 +12,21 @@ use Rattle.xml_model.specs.declared.DocFault.TheVariants as faults
 use Rattle.vtd_outside.specs.Known.{put_into}
 use Rattle.vtd_edits.specs.declared.splice.Splice.{Splice}
 use Rattle.xpath_grammar.specs.Bindings.{can_bind, bound_in}
-use Rattle.vtd_script.specs.Listing.{line_feed, listed}
+use Rattle.vtd_listing.specs.Listing.{line_feed, listed}
 use Rattle.vtd_script.specs.States.{State, Answer, skipped, printed, refused, missing, new_bytes}
+use Rattle.vtd_edits.specs.Splices.{AreApart, HasFirstOverlap, text_limit, text_size}
+use Rattle.vtd_modifier.specs.declared.operation.Operation.{Operation}
+use Rattle.vtd_modifier.specs.declared.operation.Operation.TheVariants as operations
+use Rattle.vtd_queries.specs.Operations.{Operates}
+use Rattle.vtd_queries.specs.declared.faults.OperationFault.{OperationFault}
+use Rattle.vtd_queries.specs.declared.operating.Operated.{Operated}
+use Rattle.vtd_script.specs.Queries.{Selects, Values}
+use Rattle.vtd_script.specs.Staging.{borrowed, operation_refusal, staged_line}
 use Rattle.vtd_script.specs.Commands.{read}
 use Rattle.vtd_script.specs.declared.commands.Command.{Command}
-use Rattle.vtd_script.specs.declared.commands.Command.TheVariants.{Elements, Ns, Discard, Apply, Save, Open}
+use Rattle.vtd_script.specs.declared.commands.Command.TheVariants.{Elements, Ns, Select, Value, Remove, Replace}
+use Rattle.vtd_script.specs.declared.commands.Command.TheVariants.{Before, After, First, Last, Attr, Set, Rename}
+use Rattle.vtd_script.specs.declared.commands.Command.TheVariants.{Discard, Apply, Save, Open}
 use Rattle.vtd_script.specs.declared.refusals.Refusal.{Refusal}
 use Rattle.vtd_script.specs.declared.refusals.Refusal.TheVariants as no
 
@@ -81,10 +92,44 @@ refusal_of (faults.Namespace at) = no.Namespace at
 abbrev pub Lists : State → Answer → Type 0
 Lists s a = (nest : Forest) × Accepted 8 s.work.bytes nest × (a ≡ printed (listed nest (first_place s.work.bytes)) s)
 
+-- lines of a command that changes nothing, or its refusal
+abbrev pub shown : State → Result (List ℕ) Refusal → Answer
+shown s (Ok lines) = printed lines s
+shown s (Err refusal) = refused refusal
+
+-- Something is told, and nothing changes.
+abbrev pub Tells : (Result (List ℕ) Refusal → Type 0) → State → Answer → Type 0
+Tells P s a = (told : Result (List ℕ) Refusal) × P told × (a ≡ shown s told)
+
 -- A prefix is bound where it can be.
 abbrev pub Binds : Bool → List ℕ → List ℕ → State → Answer → Type 0
 Binds true prefix uri s a = a ≡ printed ok_line (with_binding prefix uri s)
 Binds false prefix uri s a = a ≡ refused no.Name
+
+-- These splices are to be staged: one overlaps an earlier one, their texts are too long, or they are staged.
+pub data Puts (splices : List Splice) (count : ℕ) (s : State) : Answer → Type 0 where
+  overlaps : (earlier later : ℕ) → HasFirstOverlap splices earlier later →
+      Puts splices count s (refused (no.Overlap earlier later))
+  text_long : AreApart splices → text_limit < text_size splices → Puts splices count s (refused no.TextLong)
+  put : AreApart splices → text_size splices ≤ text_limit →
+      Puts splices count s (printed (staged_line count) (with_staged splices s))
+
+-- What an operation made is staged after what is staged already, or the operation is refused.
+abbrev pub StagesMade : Result Operated OperationFault → State → Answer → Type 0
+StagesMade (Ok made) s a = Puts (s.work.staged ++ made.splices) made.count s a
+StagesMade (Err fault) s a = a ≡ refused (operation_refusal fault)
+
+-- An operation on the nodes of an expression is staged. The text of the expression is seen as its UTF-8.
+pub record Stages (text : List ℕ) (operation : Operation) (s : State) (a : Answer) : Type 0 where
+  pub nest : Forest
+  pub accepted : Accepted 8 s.work.bytes nest
+  pub found : Result Operated OperationFault
+  pub operates : Operates s.work.bytes nest s.work.bound text operation found
+  pub stages : StagesMade found s a
+
+-- an operation that takes a text
+abbrev pub StagesText : List ℕ → (Bor (List ℕ) → Operation) → List ℕ → State → Answer → Type 0
+StagesText expr operation text s a = Stages (encode_utf8_all expr) (operation (borrowed (encode_utf8_all text))) s a
 
 -- Bytes are to be the document: they are too many, or refused, or become it.
 pub data Takes (bytes : List ℕ) (s : State) : Answer → Type 0 where
@@ -109,6 +154,17 @@ Saves name bytes s a = a ≡ printed (saved_line (length bytes)) (with_file name
 abbrev pub Does : Command → State → Answer → Type 0
 Does Elements s a = Lists s a
 Does (Ns prefix uri) s a = Binds (can_bind prefix uri) prefix uri s a
+Does (Select expr) s a = Tells (Selects s.work.bytes s.work.bound (encode_utf8_all expr)) s a
+Does (Value expr) s a = Tells (Values s.work.bytes s.work.bound (encode_utf8_all expr)) s a
+Does (Remove expr) s a = Stages (encode_utf8_all expr) operations.Remove s a
+Does (Replace expr text) s a = StagesText expr (λ t. operations.Replace t) text s a
+Does (Before expr text) s a = StagesText expr (λ t. operations.Before t) text s a
+Does (After expr text) s a = StagesText expr (λ t. operations.After t) text s a
+Does (First expr text) s a = StagesText expr (λ t. operations.First t) text s a
+Does (Last expr text) s a = StagesText expr (λ t. operations.Last t) text s a
+Does (Attr expr text) s a = StagesText expr (λ t. operations.Attr t) text s a
+Does (Set expr text) s a = StagesText expr (λ t. operations.Set t) text s a
+Does (Rename expr name) s a = StagesText expr (λ t. operations.Rename t) name s a
 Does Discard s a = a ≡ printed ok_line (with_staged [] s)
 Does Apply s a = Takes (new_bytes s.work) s a
 Does (Save file) s a = Saves (name_of file) (new_bytes s.work) s a
@@ -127,6 +183,17 @@ Step s line a = Answers (read line) s a
 abbrev pub has_file : Command → Bool
 has_file Elements = false
 has_file (Ns prefix uri) = false
+has_file (Select expr) = false
+has_file (Value expr) = false
+has_file (Remove expr) = false
+has_file (Replace expr text) = false
+has_file (Before expr text) = false
+has_file (After expr text) = false
+has_file (First expr text) = false
+has_file (Last expr text) = false
+has_file (Attr expr text) = false
+has_file (Set expr text) = false
+has_file (Rename expr name) = false
 has_file Discard = false
 has_file Apply = false
 has_file (Save file) = true

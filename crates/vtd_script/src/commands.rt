@@ -3,8 +3,8 @@
 ghost use Rattle.std.specs.Prelude.{◌≡◌};
 ghost use Rattle.std.specs.Str.{chars};
 ghost use Rattle.vtd_script.specs.Fields.{fields, unescaped};
-ghost use Rattle.vtd_script.specs.Commands.{bare_command, command, command_with_one, command_with_two};
-ghost use Rattle.vtd_script.specs.Commands.{of_one, of_two, read};
+ghost use Rattle.vtd_script.specs.Commands.{bare_command, command, command_with_one, command_with_two, read};
+ghost use Rattle.vtd_script.specs.Commands.{with_one, with_two, word_with_one, word_with_two};
 ghost use Rattle.vtd_script.specs.Readings.{IsCommand, Reads};
 
 use crate::fields::{first_field, unescape};
@@ -16,7 +16,8 @@ use xml_model::Text;
 /// The longest line, in bytes without its line end.
 const LINE_LIMIT: usize = 65_536;
 
-/// A command of a script.
+/// A command of a script. An expression is the text of one (XPath 1.0, section 3); it is read when the command is
+/// carried out.
 #[derive(Drop)]
 pub enum Command {
     /// Lists all elements.
@@ -27,6 +28,77 @@ pub enum Command {
         prefix: Text,
         /// The URI.
         uri: Text,
+    },
+    /// Lists the nodes of an expression, in document order.
+    Select {
+        /// The expression.
+        expr: Text,
+    },
+    /// Tells the string of an expression (XPath 1.0, section 4.2).
+    Value {
+        /// The expression.
+        expr: Text,
+    },
+    /// Stages that the nodes of an expression go, an attribute with the white space before it.
+    Remove {
+        /// The expression.
+        expr: Text,
+    },
+    /// Stages a text in place of each node of an expression.
+    Replace {
+        /// The expression.
+        expr: Text,
+        /// The text, as markup.
+        text: Text,
+    },
+    /// Stages a text before each node of an expression.
+    Before {
+        /// The expression.
+        expr: Text,
+        /// The text, as markup.
+        text: Text,
+    },
+    /// Stages a text after each node of an expression.
+    After {
+        /// The expression.
+        expr: Text,
+        /// The text, as markup.
+        text: Text,
+    },
+    /// Stages a text as the first thing in each element of an expression.
+    First {
+        /// The expression.
+        expr: Text,
+        /// The text, as markup.
+        text: Text,
+    },
+    /// Stages a text as the last thing in each element of an expression.
+    Last {
+        /// The expression.
+        expr: Text,
+        /// The text, as markup.
+        text: Text,
+    },
+    /// Stages a text after the name in each element's first tag, with a space before it.
+    Attr {
+        /// The expression.
+        expr: Text,
+        /// The text, as markup.
+        text: Text,
+    },
+    /// Stages that each node of an expression says a plain text, which is escaped.
+    Set {
+        /// The expression.
+        expr: Text,
+        /// The text.
+        text: Text,
+    },
+    /// Stages a new name of each node of an expression.
+    Rename {
+        /// The expression.
+        expr: Text,
+        /// The name.
+        name: Text,
     },
     /// Drops all that is staged.
     Discard,
@@ -42,6 +114,30 @@ pub enum Command {
         /// The name of the file.
         file: Text,
     },
+}
+
+/// The words that one field follows.
+#[derive(Clone, Copy)]
+enum OneField {
+    Select,
+    Value,
+    Remove,
+    Save,
+    Open,
+}
+
+/// The words that two fields follow.
+#[derive(Clone, Copy)]
+enum TwoFields {
+    Ns,
+    Replace,
+    Before,
+    After,
+    First,
+    Last,
+    Attr,
+    Set,
+    Rename,
 }
 
 /// Why a line is no command.
@@ -87,23 +183,30 @@ fn bare_command(word: &str) -> Result<Command, LineFault>
     }
 }
 
-/// The command `save`, by its field.
-fn save(alloc: Global, file: &str) -> Result<Command, LineFault>
-    ensures { IsCommand result (of_one (λ f. Command.Save f) (unescaped (chars file.now))) }
+/// The word, if it is one that one field follows.
+fn word_with_one(word: &str) -> Option<OneField>
+    ensures { result ≡ word_with_one word.now }
 {
-    match unescape(alloc, file) {
-        Ok(file) => Ok(Command::Save { file }),
-        Err(fault) => Err(fault),
+    match word {
+        "select" => Some(OneField::Select),
+        "value" => Some(OneField::Value),
+        "remove" => Some(OneField::Remove),
+        "save" => Some(OneField::Save),
+        "open" => Some(OneField::Open),
+        _ => None,
     }
 }
 
-/// The command `open`, by its field.
-fn open(alloc: Global, file: &str) -> Result<Command, LineFault>
-    ensures { IsCommand result (of_one (λ f. Command.Open f) (unescaped (chars file.now))) }
+/// The command of such a word and the text of its field.
+fn with_one(word: OneField, field: Text) -> Command
+    ensures { result ≡ with_one word field }
 {
-    match unescape(alloc, file) {
-        Ok(file) => Ok(Command::Open { file }),
-        Err(fault) => Err(fault),
+    match word {
+        OneField::Select => Command::Select { expr: field },
+        OneField::Value => Command::Value { expr: field },
+        OneField::Remove => Command::Remove { expr: field },
+        OneField::Save => Command::Save { file: field },
+        OneField::Open => Command::Open { file: field },
     }
 }
 
@@ -111,21 +214,48 @@ fn open(alloc: Global, file: &str) -> Result<Command, LineFault>
 fn command_with_one(alloc: Global, word: &str, first: &str) -> Result<Command, LineFault>
     ensures { IsCommand result (command_with_one word.now first.now) }
 {
-    match word {
-        "save" => save(alloc, first),
-        "open" => open(alloc, first),
-        _ => Err(LineFault::Command),
+    let Some(word) = word_with_one(word) else {
+        return Err(LineFault::Command);
+    };
+    match unescape(alloc, first) {
+        Ok(field) => Ok(with_one(word, field)),
+        Err(fault) => Err(fault),
     }
 }
 
-/// The command `ns`, by its fields.
-fn bind(alloc: Global, prefix: &str, uri: &str) -> Result<Command, LineFault>
-    ensures { IsCommand result
-        (of_two (λ p u. Command.Ns p u) (unescaped (chars prefix.now)) (unescaped (chars uri.now))) }
+/// The word, if it is one that two fields follow.
+fn word_with_two(word: &str) -> Option<TwoFields>
+    ensures { result ≡ word_with_two word.now }
 {
-    let prefix = unescape(alloc, prefix)?;
-    let uri = unescape(alloc, uri)?;
-    Ok(Command::Ns { prefix, uri })
+    match word {
+        "ns" => Some(TwoFields::Ns),
+        "replace" => Some(TwoFields::Replace),
+        "before" => Some(TwoFields::Before),
+        "after" => Some(TwoFields::After),
+        "first" => Some(TwoFields::First),
+        "last" => Some(TwoFields::Last),
+        "attr" => Some(TwoFields::Attr),
+        "set" => Some(TwoFields::Set),
+        "rename" => Some(TwoFields::Rename),
+        _ => None,
+    }
+}
+
+/// The command of such a word and the texts of its fields.
+fn with_two(word: TwoFields, first: Text, second: Text) -> Command
+    ensures { result ≡ with_two word first second }
+{
+    match word {
+        TwoFields::Ns => Command::Ns { prefix: first, uri: second },
+        TwoFields::Replace => Command::Replace { expr: first, text: second },
+        TwoFields::Before => Command::Before { expr: first, text: second },
+        TwoFields::After => Command::After { expr: first, text: second },
+        TwoFields::First => Command::First { expr: first, text: second },
+        TwoFields::Last => Command::Last { expr: first, text: second },
+        TwoFields::Attr => Command::Attr { expr: first, text: second },
+        TwoFields::Set => Command::Set { expr: first, text: second },
+        TwoFields::Rename => Command::Rename { expr: first, name: second },
+    }
 }
 
 /// The command of a line whose word two fields follow.
@@ -137,10 +267,12 @@ fn command_with_two(
 ) -> Result<Command, LineFault>
     ensures { IsCommand result (command_with_two word.now first.now second.now) }
 {
-    match word {
-        "ns" => bind(alloc, first, second),
-        _ => Err(LineFault::Command),
-    }
+    let Some(word) = word_with_two(word) else {
+        return Err(LineFault::Command);
+    };
+    let first = unescape(alloc, first)?;
+    let second = unescape(alloc, second)?;
+    Ok(with_two(word, first, second))
 }
 
 /// The command of a line, by its fields.

@@ -3,8 +3,8 @@
 ghost use Rattle.std.specs.Prelude.{◌≡◌, ◌++◌, codes, IfOk};
 ghost use Rattle.vtd_script.specs.Faults.{fault_line, fault_place, fault_word, width_word};
 
-use crate::listing::{push_decimal, push_text};
 use std::alloc::Global;
+use vtd_listing::{push_decimal, push_text};
 use xml_model::{DocFault, Field, NoMemory};
 
 /// The words for the part of a record that is too wide.

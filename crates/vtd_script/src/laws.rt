@@ -1,6 +1,8 @@
 //! Laws of what scripts mean. Each function does nothing; its contract is the law, which the check proves.
 
-ghost use Rattle.std.specs.Prelude.{◌⊎◌, ◌≡◌, ℕ, List, Bool};
+ghost use Rattle.std.specs.Prelude.{◌⊎◌, ◌≡◌, ℕ, List, Bool, Some};
+ghost use Rattle.vtd_listing.specs.Escapes.{escaped};
+ghost use Rattle.vtd_script.specs.Fields.{unescaped};
 ghost use Rattle.vtd_outside.specs.Causes.{Rose};
 ghost use Rattle.vtd_outside.specs.Known.{NameMap};
 ghost use Rattle.vtd_script.specs.States.{State, Answer, state_after};
@@ -8,6 +10,12 @@ ghost use Rattle.vtd_script.specs.Steps.{Step, HasDocument};
 ghost use Rattle.vtd_script.specs.Runs.{Outcome, Means, Ends};
 ghost use Rattle.vtd_script.specs.declared.endings.End.{End};
 ghost use Rattle.vtd_script.specs.declared.endings.End.TheVariants.{NoMemory};
+
+/// What `value` prints of a string, a field of a script gives back.
+#[tactic(auto, using(crate::proofs::EscapeLaws::escaped_back))]
+pub fn escaped_back()
+    ensures { (text : List ℕ) → unescaped (escaped text) ≡ Some text }
+{}
 
 /// A line has at most one answer in a state.
 #[tactic(auto, using(crate::proofs::StepLaws::one_step))]

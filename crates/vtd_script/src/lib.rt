@@ -1,6 +1,7 @@
 //! The lines of a script, what each asks for, sessions that carry them out, and what scripts mean.
 #![tactic(auto)]
 
+mod asking;
 mod carrying;
 mod commands;
 mod endings;
@@ -13,7 +14,6 @@ mod preparing;
 mod ready;
 mod refusals;
 mod session;
-mod spans;
 
 pub use carrying::carry_out;
 pub use commands::{Command, LineFault, read_line};

@@ -8,11 +8,11 @@ ghost use Rattle.xml_model.specs.Accepted.{Accepted};
 ghost use Rattle.vtd_script.specs.Steps.{document_line, document_limit, name_of, saved_line};
 ghost use Rattle.vtd_script.specs.Changes.{ReadsDocument, stops_at_file};
 
-use crate::listing::{push_decimal, push_text};
 use crate::ready::{Made, Stop};
 use crate::refusals::{Refusal, refusal_of};
 use std::alloc::Global;
 use vtd_builder::{BuildFault, Doc, build};
+use vtd_listing::{push_decimal, push_text};
 use vtd_words::{Part, Words};
 use xml_model::{Bytes, NoMemory, Text};
 
@@ -24,6 +24,13 @@ pub fn name_of(file: &Text) -> &str
     ensures { result.now ≡ name_of file.now }
 {
     file.held.as_str()
+}
+
+/// The characters of a field, in UTF-8.
+pub fn utf8_of(field: &Text) -> &str
+    ensures { result.now ≡ encode_utf8_all field.now }
+{
+    field.held.as_str()
 }
 
 /// The line of a file that was written.

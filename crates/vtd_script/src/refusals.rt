@@ -6,12 +6,11 @@ ghost use Rattle.vtd_script.specs.States.{refusal_words, refused_line};
 ghost use Rattle.vtd_script.specs.Steps.{refusal_of};
 
 use crate::faults::width_word;
-use crate::listing::{push_decimal, push_text};
 use std::alloc::Global;
+use vtd_listing::{push_decimal, push_text};
 use xml_model::{DocFault, Field, NoMemory};
 
-/// Why a line of a script is refused. The refusals of a line come in this order, and the first one counts, but that
-/// `Name` is never one of a line with another.
+/// Why a line of a script is refused. The refusals of a line come in this order, and the first one counts.
 #[derive(Clone, Copy, Debug, PartialEq, Eq)]
 pub enum Refusal {
     /// The line has more than 65,536 bytes without its line end.
@@ -24,8 +23,55 @@ pub enum Refusal {
     Escape,
     /// A document is to be opened, and a splice is staged.
     Staged,
+    /// The expression has more than 4,096 bytes.
+    ExprLong,
+    /// The expression splits into tokens, and in some prefix of them the opening brackets outnumber the closing ones by
+    /// more than 64.
+    ExprDeep,
+    /// The text is no expression (XPath 1.0, sections 3.1 to 3.7).
+    ExprSyntax,
+    /// The expression has the axis `namespace`. The refusals up to `NeedsNodes` are of the first token in the
+    /// expression at which there is one, and this order counts at one token alone.
+    Axis,
+    /// It refers to a variable; none is bound.
+    Variable,
+    /// It calls a function that is none of the core library, or `id` (XPath 1.0, section 4).
+    Function,
+    /// It calls a function with a number of arguments that the function does not take.
+    Arguments,
+    /// It has a name test whose prefix is not bound.
+    Prefix,
+    /// It has a number of more than six decimals, a further one of which is not 0.
+    LiteralFraction,
+    /// It has a number above 9007199254740991.
+    LiteralRange,
+    /// Within it nodes are needed where something of another type is.
+    NeedsNodes,
+    /// The command takes nodes, and the type of the expression is no node-set.
+    NotNodes,
+    /// Evaluating it met a number that is no whole number of millionths.
+    Fraction,
+    /// It divided a number other than 0 by 0.
+    Infinite,
+    /// It met a number whose absolute value is above 9007199254740991.
+    Range,
     /// A name, or what is bound to it, is none that the command takes.
     Name,
+    /// The command does not take the kind of a node; `at` is where the first such node begins.
+    Kind {
+        /// Where.
+        at: u32,
+    },
+    /// A splice of the command overlaps an earlier one. `later` is where the first such splice starts, and `earlier`
+    /// where the first splice starts that it overlaps.
+    Overlap {
+        /// Where the earlier one starts.
+        earlier: u32,
+        /// Where the later one starts.
+        later: u32,
+    },
+    /// All staged texts would have more than 268,435,456 bytes.
+    TextLong,
     /// The bytes that are to be the document are more than 1,073,741,823.
     FileLong,
     /// They are not UTF-8; `at` is the length of the longest prefix that is.
@@ -102,6 +148,15 @@ fn push_at(line: &mut Vec<u8>, word: &[u8], at: u32) -> Result<(), NoMemory>
     push_decimal(line, u64::from(at))
 }
 
+/// Adds the words of an overlap.
+fn push_overlap(line: &mut Vec<u8>, earlier: u32, later: u32) -> Result<(), NoMemory>
+    ensures { OnOk result
+        (line.new.items ≡ line.old.items ++ (codes "overlap " ++ decimal earlier ++ codes " " ++ decimal later)) }
+{
+    push_at(line, b"overlap ", earlier)?;
+    push_at(line, b" ", later)
+}
+
 /// Adds the words of a refusal.
 fn push_words(line: &mut Vec<u8>, refusal: Refusal) -> Result<(), NoMemory>
     ensures { OnOk result (line.new.items ≡ line.old.items ++ refusal_words refusal) }
@@ -113,6 +168,24 @@ fn push_words(line: &mut Vec<u8>, refusal: Refusal) -> Result<(), NoMemory>
         Refusal::Escape => push_text(line, b"escape"),
         Refusal::Staged => push_text(line, b"staged"),
         Refusal::Name => push_text(line, b"name"),
+        Refusal::ExprLong => push_text(line, b"expr-long"),
+        Refusal::ExprSyntax => push_text(line, b"expr-syntax"),
+        Refusal::ExprDeep => push_text(line, b"expr-deep"),
+        Refusal::Axis => push_text(line, b"axis"),
+        Refusal::Variable => push_text(line, b"variable"),
+        Refusal::Function => push_text(line, b"function"),
+        Refusal::Arguments => push_text(line, b"arguments"),
+        Refusal::Prefix => push_text(line, b"prefix"),
+        Refusal::LiteralFraction => push_text(line, b"literal-fraction"),
+        Refusal::LiteralRange => push_text(line, b"literal-range"),
+        Refusal::NeedsNodes => push_text(line, b"type"),
+        Refusal::NotNodes => push_text(line, b"not-nodes"),
+        Refusal::Fraction => push_text(line, b"fraction"),
+        Refusal::Infinite => push_text(line, b"infinite"),
+        Refusal::Range => push_text(line, b"range"),
+        Refusal::Kind { at } => push_at(line, b"kind ", at),
+        Refusal::Overlap { earlier, later } => push_overlap(line, earlier, later),
+        Refusal::TextLong => push_text(line, b"text-long"),
         Refusal::FileLong => push_text(line, b"file-long"),
         Refusal::Utf8 { at } => push_at(line, b"utf8 ", at),
         Refusal::Syntax { at } => push_at(line, b"syntax ", at),

@@ -1,6 +1,6 @@
 //! A session: a document, the prefixes that are bound for it, and what is staged.
 
-ghost use Rattle.std.specs.Prelude.{◌⊎◌, ◌≡◌, ℕ, ◌<◌, ◌≤◌, ◌^◌, List, [], length, vec_len, Bool, true, false, IfOk, IfErr};
+ghost use Rattle.std.specs.Prelude.{◌⊎◌, ◌≡◌, ℕ, ◌<◌, ◌≤◌, ◌^◌, List, [], length, encode_utf8_all, vec_len, Bool, true, false, IfOk, IfErr};
 ghost use Rattle.std.specs.Prelude.{OnErr, OnOk, Some};
 ghost use Rattle.xml_model.specs.Accepted.{Accepted, IsRefusal};
 ghost use Rattle.xml_model.specs.Nest.{Forest};
@@ -9,24 +9,29 @@ ghost use Rattle.vtd_outside.specs.Causes.{Rose};
 ghost use Rattle.vtd_outside.specs.Known.{NameMap};
 ghost use Rattle.vtd_script.specs.Commands.{read};
 ghost use Rattle.vtd_script.specs.States.{new_bytes, state_of};
+ghost use Rattle.vtd_script.specs.Steps.{Stages};
 ghost use Rattle.vtd_script.specs.Runs.{StepsKnown};
 ghost use Rattle.vtd_script.specs.Changes.{Asks, ChangesKnown, CompletesKnown, MakesDocument, OpensDocument, Prepares};
+ghost use Rattle.vtd_script.specs.Changes.{PreparesStaging};
 ghost use Rattle.vtd_script.specs.Changes.{RefusesKnown};
 ghost use Rattle.vtd_script.specs.Changes.{FileCounts, SendCounts, StaysUnlessDone, StaysUnlessReady, fails_at_file};
 ghost use Rattle.vtd_script.specs.Changes.{stops_at_file, writes};
-ghost use Rattle.vtd_script.specs.declared.commands.Command.TheVariants.{Apply, Discard, Elements, Ns, Open, Save};
+ghost use Rattle.vtd_script.specs.declared.commands.Command.TheVariants.{Apply, Discard, Elements, Ns, Open, Save, Select};
 
+use crate::asking::{operation_stop, selected_lines, stage_stop, staged_lines, valued_lines};
 use crate::commands::{Command, LineFault, read_line};
 use crate::endings::{Ending, StepFault};
 use crate::listing::{listed_lines, ok_lines};
-use crate::preparing::{DOCUMENT_LIMIT, name_of, read_document, saved_lines};
+use crate::preparing::{DOCUMENT_LIMIT, name_of, read_document, saved_lines, utf8_of};
 use crate::ready::{Change, Made, Ready, Stop};
 use crate::refusals::{Refusal, refusal_line};
 use std::alloc::Global;
 use std::marker::Model;
 use vtd_builder::{BuildFault, Doc, build};
 use vtd_edits::{Edits, spliced};
+use vtd_modifier::Operation;
 use vtd_outside::{Failed, Files, GatherFault, Sink, gather_file, send};
+use vtd_queries::operate;
 use vtd_writing::write;
 use xml_model::texts::as_str;
 use xml_model::{Bytes, Text};
@@ -140,6 +145,59 @@ impl Session {
             Err(BindFault::Name) => Err(Stop::Refused(Refusal::Name)),
             Err(BindFault::NoMemory) => Err(Stop::NoMemory),
         }
+    }
+
+    /// The first part of `select`: its lines.
+    fn select(&self, expr: &Text) -> Result<Ready, Stop>
+        ensures known { (files : NameMap) →
+            Prepares ⊥ (Select expr.now) (state_of self.now files) (state_of self.now files) result }
+        ensures no_file { stops_at_file result ≡ false }
+    {
+        match selected_lines(self.alloc, &self.document, &self.bindings, utf8_of(expr)) {
+            Ok(lines) => Ok(Ready {
+                change: Change::Nothing,
+                lines,
+            }),
+            Err(stop) => Err(stop),
+        }
+    }
+
+    /// The first part of `value`: its line.
+    fn value(&self, expr: &Text) -> Result<Ready, Stop>
+        ensures known { (files : NameMap) →
+            Prepares ⊥ (Command.Value expr.now) (state_of self.now files) (state_of self.now files) result }
+        ensures no_file { stops_at_file result ≡ false }
+    {
+        match valued_lines(self.alloc, &self.document, &self.bindings, utf8_of(expr)) {
+            Ok(lines) => Ok(Ready {
+                change: Change::Nothing,
+                lines,
+            }),
+            Err(stop) => Err(stop),
+        }
+    }
+
+    /// The first part of a command that stages an operation on the nodes of an expression: its line, and then the
+    /// splices are staged.
+    fn stage(&mut self, expr: &Text, operation: Operation<'_>) -> Result<Ready, Stop>
+        ensures known { (files : NameMap) →
+            PreparesStaging (λ s a. Stages (encode_utf8_all expr.now) operation.entry s a)
+            (state_of self.old files) (state_of self.new files) result }
+        ensures no_file { stops_at_file result ≡ false }
+    {
+        let _ = self.document.bytes();
+        let nav = self.document.nav();
+        let made = match operate(self.alloc, &nav, &self.bindings, utf8_of(expr), operation) {
+            Ok(made) => made,
+            Err(fault) => return Err(operation_stop(fault)),
+        };
+        let Ok(lines) = staged_lines(self.alloc, made.count) else {
+            return Err(Stop::NoMemory);
+        };
+        if let Err((_, fault)) = self.edits.stage(made.splices) {
+            return Err(stage_stop(fault));
+        }
+        Ok(ready(Change::Nothing, lines))
     }
 
     /// The first part of `discard`: its line, and then nothing is staged.
@@ -264,6 +322,19 @@ impl Session {
         match command {
             Command::Elements => self.list_elements(),
             Command::Ns { prefix, uri } => self.bind(&prefix, &uri),
+            Command::Select { expr } => self.select(&expr),
+            Command::Value { expr } => self.value(&expr),
+            Command::Remove { expr } => self.stage(&expr, Operation::Remove),
+            Command::Replace { expr, text } => self.stage(&expr, Operation::Replace(utf8_of(&text))),
+            Command::Before { expr, text } => self.stage(&expr, Operation::Before(utf8_of(&text))),
+            Command::After { expr, text } => self.stage(&expr, Operation::After(utf8_of(&text))),
+            Command::First { expr, text } => self.stage(&expr, Operation::First(utf8_of(&text))),
+            Command::Last { expr, text } => self.stage(&expr, Operation::Last(utf8_of(&text))),
+            Command::Attr { expr, text } => self.stage(&expr, Operation::Attr(utf8_of(&text))),
+            Command::Set { expr, text } => self.stage(&expr, Operation::Set(utf8_of(&text))),
+            Command::Rename { expr, name } => {
+                self.stage(&expr, Operation::Rename(utf8_of(&name)))
+            }
             Command::Discard => self.discard(),
             Command::Apply => self.apply(),
             Command::Save { file } => self.save(file),

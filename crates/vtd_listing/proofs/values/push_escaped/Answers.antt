@@ -1,0 +1,18 @@
+use Rattle.std.proofs.Common.{List, ℕ, ◌++◌, ap, ◌∙◌}
+use Rattle.std.specs.List.{flat_map}
+use Rattle.vtd_listing.specs.Escapes.{doubled_char, escaped_char}
+use Rattle.vtd_listing.proofs.EscapeLemmas.{escaped_before, escaped_none, last_run, one_run}
+use Rattle.vtd_listing.proofs.values.push_escaped.Goals as goal
+
+pub loop-before-preserved : goal.loop-before-preserved
+loop-before-preserved c =
+    let rest = c.loop-before.rest.now in
+    ap (λ (xs : List ℕ). c.push_escape.new.line.items ++ flat_map escaped_char xs) c.split_at-in-Some.ensures.back
+    ∙ one_run c.args.line.now.items c.loop-before.line.items _ _ _ _ _ _ _ c.loop-before.invariant (escaped_before rest c.in-Some.before c.in-Some.ensures)
+    (c.in_ok-push_doubled.ensures ∙ ap (λ (xs : List ℕ). c.loop-before.line.items ++ flat_map doubled_char xs) c.split_at.ensures.front)
+    c.in_ok-push_escape.ensures
+
+pub returns : goal.returns
+returns c =
+    last_run c.push_doubled-2.result c.args.line.now.items c.loop-before.line.items c.push_doubled-2.new.line.items
+    (flat_map doubled_char c.loop-before.rest.now) (flat_map escaped_char c.loop-before.rest.now) (flat_map escaped_char c.args.text.now) c.loop-before.invariant (escaped_none c.loop-before.rest.now c.in_default.ensures) c.push_doubled-2.ensures

@@ -1,0 +1,4 @@
+pub mod Spans
+pub mod Listing
+pub mod Nodes
+pub mod Escapes
