@@ -1,5 +1,5 @@
 -- Splices that are staged after others: one answer, and some. An operation is known by the bytes of its text.
-use Rattle.std.proofs.Common.{◌≡◌, ◌⊎◌, ℕ, zero, suc, ◌+◌, ◌<◌, ◌≤◌, Bool, true, false, List, [], ◌∷◌, ◌++◌, length, Result, Ok, Err, refl, sym, ap, ap₂, subst, ◌∙◌}
+use Rattle.std.proofs.Common.{◌≡◌, ◌⊎◌, ℕ, zero, suc, ◌+◌, ◌<◌, ◌≤◌, Bool, true, false, List, [], ◌∷◌, ◌++◌, length, Option, Result, Ok, Err, refl, sym, ap, ap₂, subst, ◌∙◌}
 use Rattle.std.proofs.Common.{inl, inr, arith}
 use Rattle.std.specs.Prelude.{cond, encode_utf8_all}
 use Rattle.std.specs.Borrow.{Bor}
@@ -72,7 +72,7 @@ record Partner (xs : List Splice) (j n : ℕ) : Type 0 where
   pub overlaps : overlap (splice_at xs j) (splice_at xs i) ≡ true
   pub first : (k : ℕ) → k < i → overlap (splice_at xs j) (splice_at xs k) ≡ false
 
-AreClear : List Splice → ℕ → ℕ → Type 0
+abbrev AreClear : List Splice → ℕ → ℕ → Type 0
 AreClear xs j n = (k : ℕ) → k < n → overlap (splice_at xs j) (splice_at xs k) ≡ false
 
 partner_below : (xs : List Splice) (j n : ℕ) → Partner xs j n ⊎ AreClear xs j n
@@ -88,7 +88,7 @@ partner_below xs j (suc n) = elim (partner_below xs j n) [
   ])
 ]
 
-ApartBelow : List Splice → ℕ → Type 0
+abbrev ApartBelow : List Splice → ℕ → Type 0
 ApartBelow xs n = (i j : ℕ) → i < j → j < n → overlap (splice_at xs j) (splice_at xs i) ≡ false
 
 record Overlapping (xs : List Splice) : Type 0 where
