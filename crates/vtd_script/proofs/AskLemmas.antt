@@ -1,5 +1,5 @@
 -- What is told of the answer of an expression, by the calls that ask for it.
-use Rattle.std.proofs.Common.{◌≡◌, ℕ, List, Result, Ok, Err, map, refl, sym, ap, subst, ◌∙◌}
+use Rattle.std.proofs.Common.{◌≡◌, ℕ, List, Result, Ok, Err, map, refl, sym, ap, subst}
 use Rattle.std.specs.Prelude.{encode_utf8_all}
 use Rattle.std.specs.List.{AllByRecursion, Contains}
 use Rattle.xml_model.specs.declared.Node.{Node}
@@ -11,11 +11,9 @@ use Rattle.vtd_location.specs.Nav.{IsNavOf, levels_in}
 use Rattle.vtd_location.proofs.NavLaws.{nest_of_table}
 use Rattle.vtd_builder.specs.Documents.{IsDoc}
 use Rattle.vtd_listing.specs.Nodes.{node_listing}
-use Rattle.vtd_listing.specs.Escapes.{value_line}
-use Rattle.xpath_values.specs.Values.{string_of}
 use Rattle.xpath_meaning.specs.Scope.{AreNodes}
-use Rattle.vtd_queries.specs.Meets.{IsString, Meets}
-use Rattle.vtd_queries.specs.Questions.{Asks, AsksNodes}
+use Rattle.vtd_queries.specs.Meets.{Meets}
+use Rattle.vtd_queries.specs.Questions.{AsksNodes}
 use Rattle.vtd_queries.specs.declared.faults.QueryFault.{QueryFault}
 use Rattle.vtd_script.specs.Queries.{Selects, Values}
 use Rattle.vtd_script.specs.States.{Work, State, Answer}
@@ -77,7 +75,7 @@ pub selects_made : (bytes given : List ℕ) (words lists : Lists) (bound : List 
 selects_made bytes given words lists bound text lines nodes d b w f g =
     let P : List ℕ → Type 0 = λ x. (nest : Forest) → IsNavOf x lists nest → Meets (AreNodes (nodes_of x nest)) (AsksNodes x nest bound text) (Ok nodes) in
     let Q : List ℕ → Type 0 = λ x. (nest : Forest) → IsNestOf x lists nest → (es : List Entry) → nodes ≡ map node_of es
-        → AllByRecursion (Contains (nodes_of x nest)) es → lines ≡ node_listing es in
+    → AllByRecursion (Contains (nodes_of x nest)) es → lines ≡ node_listing es in
     select_made bytes words lists bound text lines nodes d w (subst P b f) (subst Q b g)
 
 -- what the session holds is what the command is told of

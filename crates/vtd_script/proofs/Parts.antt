@@ -16,13 +16,12 @@ use Rattle.vtd_outside.specs.Causes.{Rose, RoseAlone, HasFileCause, GatherFileCa
 use Rattle.vtd_outside.specs.Known.{NameMap, OpenFile, put_into}
 use Rattle.vtd_outside.specs.Gathered.{Sends, GathersFile, GathersFilePrefix}
 use Rattle.vtd_outside.specs.Written.{Writes}
-use Rattle.vtd_edits.specs.Splices.{spliced}
 use Rattle.vtd_edits.specs.declared.splice.Splice.{Splice}
 use Rattle.vtd_script.specs.States.{Work, State, state_of, Answer, skipped, printed, refused, missing, refused_line, new_bytes}
-use Rattle.vtd_script.specs.Steps.{Binds, Tells, shown, Answers, Does, Step, ok_line, with_binding, with_document, with_file, has_file, asks_file, name_of}
+use Rattle.vtd_script.specs.Steps.{Binds, Tells, Answers, Does, Step, ok_line, with_binding, with_document, with_file, has_file, asks_file, name_of}
 use Rattle.vtd_script.specs.Steps.{Takes, too_long, unfit, accepted, Opens, document_limit, document_line, refusal_of, saved_line}
 use Rattle.vtd_listing.specs.Listing.{listed}
-use Rattle.vtd_script.specs.Queries.{Selects, Values, query_refusal}
+use Rattle.vtd_script.specs.Queries.{query_refusal}
 use Rattle.vtd_queries.specs.Meets.{IsRefused}
 use Rattle.vtd_queries.specs.declared.faults.QueryFault.{QueryFault}
 use Rattle.vtd_queries.specs.declared.faults.QueryFault.TheVariants as queries
@@ -32,7 +31,7 @@ use Rattle.vtd_script.specs.Changes.{Asks, Changes, ChangesKnown, MakesDocument,
 use Rattle.vtd_script.specs.Changes.{RefusesKnown, stops_at_file}
 use Rattle.vtd_script.specs.Changes.{StaysUnlessDone, StaysUnlessReady, FileCounts, fails_at_file, writes}
 use Rattle.vtd_script.specs.declared.commands.Command.{Command}
-use Rattle.vtd_script.specs.declared.commands.Command.TheVariants.{Apply, Discard, Elements, Ns, Open, Save, Select, Value}
+use Rattle.vtd_script.specs.declared.commands.Command.TheVariants.{Apply, Elements, Open, Save}
 use Rattle.xpath_grammar.specs.declared.bindings.BindFault.{BindFault}
 use Rattle.xpath_grammar.specs.declared.bindings.BindFault.TheVariants.{Name}
 use Rattle.vtd_script.specs.declared.refusals.Refusal.{Refusal}

@@ -1,7 +1,7 @@
 -- Splices that are staged after others: one answer, and some. An operation is known by the bytes of its text.
-use Rattle.std.proofs.Common.{◌≡◌, ◌⊎◌, ℕ, zero, suc, ◌+◌, ◌<◌, ◌≤◌, Bool, true, false, List, [], ◌∷◌, ◌++◌, length, Option, Result, Ok, Err, refl, sym, ap, ap₂, subst, ◌∙◌}
+use Rattle.std.proofs.Common.{◌≡◌, ◌⊎◌, ℕ, zero, suc, ◌<◌, ◌≤◌, Bool, true, false, List, [], ◌∷◌, length, Option, Result, Ok, Err, refl, sym, ap, ap₂, subst, ◌∙◌}
 use Rattle.std.proofs.Common.{inl, inr, arith}
-use Rattle.std.specs.Prelude.{cond, encode_utf8_all}
+use Rattle.std.specs.Prelude.{cond}
 use Rattle.std.specs.Borrow.{Bor}
 use Rattle.std.specs.Str.{chars}
 use Rattle.std.proofs.lemmas.Bool.{cases_Bool, cases_lt, false≢true}
@@ -9,7 +9,7 @@ use Rattle.xml_model.specs.Chars.{is_qname}
 use Rattle.xml_model.specs.Tree.{Entry}
 use Rattle.vtd_edits.specs.Splices.{AreApart, HasFirstOverlap, overlap, splice_at, start_of, text_limit, text_size}
 use Rattle.vtd_edits.specs.declared.splice.Splice.{Splice}
-use Rattle.vtd_modifier.specs.Outcomes.{ahead, has_name, outcome, rows, with_row}
+use Rattle.vtd_modifier.specs.Outcomes.{has_name, outcome, rows, with_row}
 use Rattle.vtd_modifier.specs.Parts.{part_of}
 use Rattle.vtd_modifier.specs.Rows.{row}
 use Rattle.vtd_modifier.specs.Rows as rowed
@@ -17,7 +17,7 @@ use Rattle.vtd_modifier.specs.declared.operation.EditFault.{EditFault}
 use Rattle.vtd_modifier.specs.declared.operation.EditFault.TheVariants as edits
 use Rattle.vtd_modifier.specs.declared.operation.Operation.{Operation}
 use Rattle.vtd_modifier.specs.declared.operation.Operation.TheVariants as operations
-use Rattle.vtd_queries.specs.Operations.{Operates, counted, operated}
+use Rattle.vtd_queries.specs.Operations.{counted, operated}
 use Rattle.vtd_queries.specs.declared.faults.QueryFault.{QueryFault}
 use Rattle.vtd_script.specs.Staging.{borrowed, staged_line}
 use Rattle.vtd_script.specs.States.{Answer, State, printed, refused}
@@ -30,7 +30,7 @@ use Rattle.vtd_script.specs.declared.refusals.Refusal.TheVariants as no
 same_later : (xs : List Splice) (a b e d : ℕ) (h : HasFirstOverlap xs a b) (k : HasFirstOverlap xs e d) → h.j ≡ k.j
 same_later xs a b e d h k = elim (cases_lt h.j k.j) [
   | inl l ↦ absurd (false≢true (sym (k.first h.i h.j h.order l) ∙ h.overlaps))
-  | inr m ↦ (elim (cases_lt k.j h.j) [ | inl l ↦ absurd (false≢true (sym (h.first k.i k.j k.order l) ∙ k.overlaps)) | inr n ↦ omega arith ])
+  | inr m ↦ (elim (cases_lt k.j h.j) [ inl l ↦ absurd (false≢true (sym (h.first k.i k.j k.order l) ∙ k.overlaps)) | inr n ↦ omega arith ])
 ]
 
 same_earlier : (xs : List Splice) (a b e d : ℕ) (h : HasFirstOverlap xs a b) (k : HasFirstOverlap xs e d) → h.i ≡ k.i
@@ -38,12 +38,12 @@ same_earlier xs a b e d h k =
     let at : splice_at xs h.j ≡ splice_at xs k.j = ap (splice_at xs) (same_later xs a b e d h k) in
     let P : Splice → ℕ → Type 0 = λ x i. overlap x (splice_at xs i) ≡ true in
     elim (cases_lt h.i k.i) [
-    | inl l ↦ absurd (false≢true (sym (k.partner h.i l) ∙ subst (λ (x : Splice). P x h.i) at h.overlaps))
-    | inr m ↦ (elim (cases_lt k.i h.i) [
-      | inl l ↦ absurd (false≢true (sym (h.partner k.i l) ∙ subst (λ (x : Splice). P x k.i) (sym at) k.overlaps))
-      | inr n ↦ omega arith
-    ])
-]
+      | inl l ↦ absurd (false≢true (sym (k.partner h.i l) ∙ subst (λ (x : Splice). P x h.i) at h.overlaps))
+      | inr m ↦ (elim (cases_lt k.i h.i) [
+        | inl l ↦ absurd (false≢true (sym (h.partner k.i l) ∙ subst (λ (x : Splice). P x k.i) (sym at) k.overlaps))
+        | inr n ↦ omega arith
+      ])
+    ]
 
 one_overlap : (xs : List Splice) (a b e d : ℕ) → HasFirstOverlap xs a b → HasFirstOverlap xs e d → (a ≡ e) × (b ≡ d)
 one_overlap xs a b e d h k = (
@@ -207,4 +207,3 @@ pub as_rename : (text : List ℕ) (x : Bor (List ℕ)) (given : List ℕ) (s : S
     → Stages text (operations.Rename (borrowed given)) s a
 as_rename text x given s a e h =
     stages_as text (operations.Rename x) (operations.Rename (borrowed given)) s a (ap (λ (t : List ℕ). is_qname (chars t)) e) (λ bytes n. ap (λ (t : List ℕ). rowed.renamed t (part_of bytes n)) e) h
-

@@ -86,14 +86,16 @@ done_staged bytes given words lists bound staged text operation made edits lines
     let P : List Splice → Type 0 = λ xs. Puts xs made.count s (printed (staged_line made.count) (with_staged xs s)) in
     let p : P edits.splices = put a.apart a.short in
     let Q : List ℕ → Type 0 = λ xs. Puts all made.count s (printed xs (with_staged edits.splices s)) in
-    let R : List Splice → Type 0 = λ xs. Puts xs made.count s (printed (staged_line made.count) (with_staged edits.splices s)) in
-    (n, record {
-      nest = d.nest;
-      accepted = d.accepted;
-      found = Ok made;
-      operates = made_in bytes given words lists bound text operation (Ok made) d b w f;
-      stages = subst Q (sym (r ∙ l)) (subst R e p);
-    })
+    let R : List Splice → Type 0 = λ xs. Puts xs made.count s (printed (staged_line made.count) (with_staged edits.splices s)) in (
+      n,
+      record {
+        nest = d.nest;
+        accepted = d.accepted;
+        found = Ok made;
+        operates = made_in bytes given words lists bound text operation (Ok made) d b w f;
+        stages = subst Q (sym (r ∙ l)) (subst R e p);
+      },
+    )
 
 -- splices that are not
 refused_by : (all : List Splice) (count : ℕ) (s : State) (text : List ℕ) (operation : Operation) (fault : StageFault)

@@ -1,5 +1,5 @@
 -- A line has one answer in a state, and some where the state has a document, and leaves such a state.
-use Rattle.std.proofs.Common.{◌≡◌, ◌++◌, ◌≤◌, ◌<◌, ℕ, Bool, true, false, List, [], ◌∷◌, length, Option, Some, None, Result, Ok, Err, refl, sym, ap, subst}
+use Rattle.std.proofs.Common.{◌≡◌, ◌++◌, ◌≤◌, ℕ, Bool, true, false, List, [], ◌∷◌, length, Option, Some, None, Result, Ok, Err, refl, sym, ap, subst}
 use Rattle.std.proofs.Common.{◌∙◌, inl, inr, arith}
 use Rattle.std.specs.Prelude.{encode_utf8_all}
 use Rattle.std.proofs.lemmas.Bool.{cases_lt}
@@ -28,7 +28,7 @@ use Rattle.vtd_script.specs.Queries.{Selects, Values, selected, valued}
 use Rattle.vtd_script.specs.Commands.{read}
 use Rattle.vtd_script.specs.States.{State, Answer, skipped, printed, refused, missing, state_after, new_bytes}
 use Rattle.vtd_script.specs.Steps.{HasDocument, Lists, Tells, shown, Puts, overlaps, text_long, put, StagesMade, Stages, Binds, Does, Answers, Step, ok_line, with_binding, name_of}
-use Rattle.vtd_script.specs.Steps.{Takes, too_long, unfit, accepted, Opens, Saves, document_limit, document_line, refusal_of, with_document}
+use Rattle.vtd_script.specs.Steps.{Takes, too_long, unfit, accepted, Opens, document_limit, document_line, refusal_of, with_document}
 use Rattle.vtd_script.specs.declared.commands.Command.{Command}
 use Rattle.vtd_script.specs.declared.commands.Command.TheVariants.{Elements, Ns, Select, Value, Remove, Replace, Before, After, First, Last, Attr, Set, Rename, Discard, Apply, Save, Open}
 use Rattle.vtd_script.specs.declared.refusals.Refusal.{Refusal}

@@ -1,6 +1,6 @@
 -- What the lines of a script mean one after the other, and how carrying them out may end (this project's own).
-use Rattle.std.specs.Prelude.{◌⊎◌, ◌≡◌, ℕ, zero, suc, ◌≤◌, Bool, true, false, ◌||◌, List, [], ◌∷◌, ◌++◌}
-use Rattle.std.specs.Prelude.{length, take, drop, Option, Some, None, Result, Ok, Err}
+use Rattle.std.specs.Prelude.{◌⊎◌, ◌≡◌, ℕ, zero, suc, Bool, true, false, ◌||◌, List, [], ◌∷◌, ◌++◌}
+use Rattle.std.specs.Prelude.{drop, Option, Some, None, Result, Ok, Err}
 use Rattle.vtd_outside.specs.Known.{NameMap, put_into}
 use Rattle.vtd_outside.specs.Written.{LeavesPrefix}
 use Rattle.vtd_script.specs.States.{Work, State, state_of, Answer, skipped, printed, refused, missing}

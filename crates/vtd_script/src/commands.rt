@@ -241,20 +241,23 @@ fn word_with_two(word: &str) -> Option<TwoFields>
     }
 }
 
-/// The command of such a word and the texts of its fields.
-fn with_two(word: TwoFields, first: Text, second: Text) -> Command
-    ensures { result ≡ with_two word first second }
+/// The command of such a word and the texts of its fields; those of `ns` are a prefix and a URI.
+fn with_two(word: TwoFields, expr: Text, text: Text) -> Command
+    ensures { result ≡ with_two word expr text }
 {
     match word {
-        TwoFields::Ns => Command::Ns { prefix: first, uri: second },
-        TwoFields::Replace => Command::Replace { expr: first, text: second },
-        TwoFields::Before => Command::Before { expr: first, text: second },
-        TwoFields::After => Command::After { expr: first, text: second },
-        TwoFields::First => Command::First { expr: first, text: second },
-        TwoFields::Last => Command::Last { expr: first, text: second },
-        TwoFields::Attr => Command::Attr { expr: first, text: second },
-        TwoFields::Set => Command::Set { expr: first, text: second },
-        TwoFields::Rename => Command::Rename { expr: first, name: second },
+        TwoFields::Ns => Command::Ns {
+            prefix: expr,
+            uri: text,
+        },
+        TwoFields::Replace => Command::Replace { expr, text },
+        TwoFields::Before => Command::Before { expr, text },
+        TwoFields::After => Command::After { expr, text },
+        TwoFields::First => Command::First { expr, text },
+        TwoFields::Last => Command::Last { expr, text },
+        TwoFields::Attr => Command::Attr { expr, text },
+        TwoFields::Set => Command::Set { expr, text },
+        TwoFields::Rename => Command::Rename { expr, name: text },
     }
 }
 

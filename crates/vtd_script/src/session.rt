@@ -325,7 +325,10 @@ impl Session {
             Command::Select { expr } => self.select(&expr),
             Command::Value { expr } => self.value(&expr),
             Command::Remove { expr } => self.stage(&expr, Operation::Remove),
-            Command::Replace { expr, text } => self.stage(&expr, Operation::Replace(utf8_of(&text))),
+            Command::Replace { expr, text } => self.stage(
+                &expr,
+                Operation::Replace(utf8_of(&text)),
+            ),
             Command::Before { expr, text } => self.stage(&expr, Operation::Before(utf8_of(&text))),
             Command::After { expr, text } => self.stage(&expr, Operation::After(utf8_of(&text))),
             Command::First { expr, text } => self.stage(&expr, Operation::First(utf8_of(&text))),

@@ -1,4 +1,4 @@
-use Rattle.std.proofs.Common.{◌∙◌, refl, inl, inr}
+use Rattle.std.proofs.Common.{◌∙◌}
 use Rattle.vtd_script.proofs.Parts.{complete_failed, complete_sent, complete_unsent}
 use Rattle.vtd_script.proofs.session.Session.complete.Goals as goal
 

@@ -1,4 +1,4 @@
-use Rattle.std.proofs.Common.{◌≡◌, ◌≤◌, ◌<◌, length, arith, ap, ◌∙◌}
+use Rattle.std.proofs.Common.{◌≡◌, length, arith, ap, ◌∙◌}
 use Rattle.vtd_script.specs.States.{Work}
 use Rattle.vtd_script.proofs.Parts.{opens_bytes, opens_long, opens_failed, opens_staged, gather_failed, one_rose, counts_read}
 use Rattle.vtd_script.proofs.session.Session.file_document.Goals as goal

@@ -1,6 +1,6 @@
-use Rattle.std.proofs.Common.{◌∙◌, ap, ap₂, List, ℕ}
+use Rattle.std.proofs.Common.{◌∙◌, ap, List, ℕ}
 use Rattle.vtd_edits.specs.Splices.{spliced}
-use Rattle.vtd_script.specs.States.{Work, new_bytes}
+use Rattle.vtd_script.specs.States.{new_bytes}
 use Rattle.vtd_script.proofs.Parts.{change_file, rose_by, missed_by}
 use Rattle.vtd_script.proofs.session.Session.make.Goals as goal
 

@@ -1,4 +1,4 @@
-use Rattle.std.proofs.Common.{◌≡◌, ◌<◌, ◌≤◌, List, ℕ, length, ap, sym, ◌∙◌, arith}
+use Rattle.std.proofs.Common.{◌≡◌, List, ℕ, length, ap, sym, ◌∙◌, arith}
 use Rattle.vtd_edits.specs.Splices.{spliced}
 use Rattle.vtd_script.specs.States.{Work, new_bytes}
 use Rattle.vtd_script.specs.Steps.{too_long}

@@ -1,4 +1,3 @@
-use Rattle.std.proofs.Common.{refl}
 use Rattle.vtd_script.proofs.Parts.{prepares_open, stops_open, stays_taken, counts_same}
 use Rattle.vtd_script.proofs.session.Session.open.Goals as goal
 

@@ -1,4 +1,4 @@
-use Rattle.std.proofs.Common.{refl, sym, ◌∙◌}
+use Rattle.std.proofs.Common.{refl, ◌∙◌}
 use Rattle.vtd_script.specs.declared.ready.Stop.TheVariants as stop
 use Rattle.vtd_script.proofs.Parts.{step_skipped, step_unread, step_refused, step_unopened, step_done, step_undone, step_no_memory}
 use Rattle.vtd_script.proofs.Parts.{read_none, read_some, read_refused, prepares_stop, rose_from, counts_from, stays, stays_undone}
