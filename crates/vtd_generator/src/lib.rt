@@ -5,10 +5,8 @@ ghost use Rattle.std.specs.Prelude.{◌≡◌, ℕ, ◌+◌, ◌-◌, ◌*◌, �
 ghost use Rattle.std.specs.Fmt.{decimal};
 ghost use Rattle.vtd_generator.specs.Generated.{generated, generated_script, item, order, orders};
 
-mod pushing;
-
-use crate::pushing::{push_decimal, push_text};
 use std::alloc::Global;
+use vtd_listing::{push_decimal, push_text};
 use xml_model::NoMemory;
 
 /// Adds what follows the number of an order.
