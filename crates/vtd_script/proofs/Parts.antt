@@ -27,7 +27,8 @@ use Rattle.vtd_queries.specs.declared.faults.QueryFault.{QueryFault}
 use Rattle.vtd_queries.specs.declared.faults.QueryFault.TheVariants as queries
 use Rattle.vtd_script.specs.Commands.{read}
 use Rattle.vtd_script.specs.Runs.{IsPrefix, StepsKnown}
-use Rattle.vtd_script.specs.Changes.{Asks, Changes, ChangesKnown, MakesDocument, OpensDocument, Prepares, ReadsDocument, CompletesKnown, Told, query_stop, PreparesStaging}
+use Rattle.vtd_script.specs.Changes.{Asks, Changes, ChangesKnown, MakesDocument, OpensDocument, Prepares, ReadsDocument, CompletesKnown, Told, query_stop}
+use Rattle.vtd_script.specs.Changes.{PreparesStaging}
 use Rattle.vtd_script.specs.Changes.{RefusesKnown, stops_at_file}
 use Rattle.vtd_script.specs.Changes.{StaysUnlessDone, StaysUnlessReady, FileCounts, fails_at_file, writes}
 use Rattle.vtd_script.specs.declared.commands.Command.{Command}

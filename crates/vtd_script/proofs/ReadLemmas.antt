@@ -1,12 +1,14 @@
 -- What a line asks for, by its fields.
-use Rattle.std.proofs.Common.{◌≡◌, ℕ, ◌<◌, ◌≤◌, true, false, List, [], ◌∷◌, length, Option, Some, None, option_map, is_some, Result, Ok, Err, refl, sym, ap, ap₂}
+use Rattle.std.proofs.Common.{◌≡◌, ℕ, ◌<◌, ◌≤◌, true, false, List, [], ◌∷◌, length, Option, Some, None, option_map, is_some, Result, Ok, Err, refl, sym, ap}
+use Rattle.std.proofs.Common.{ap₂}
 use Rattle.std.proofs.Common.{subst, ◌∙◌, arith, inl, inr, ◌==◌}
 use Rattle.std.specs.Str.{IsUtf8, bytes_eq, chars, is_utf8}
 use Rattle.std.proofs.lemmas.Bool.{cases_Bool, false_from_ne_true, eqb-true, lt-ltb, le-ltb}
 use Rattle.std.proofs.lemmas.Slice.Eq.{bytes_eq-Decides}
 use Rattle.std.proofs.lemmas.Str.{IsUtf8-from_is_utf8, is_utf8-from_IsUtf8}
 use Rattle.vtd_script.specs.Fields.{fields, unescaped}
-use Rattle.vtd_script.specs.Commands.{bare_command, of_two, of_word_with_two, with_two as command_of_two, command_with_one, command_with_two, command, line_limit, read}
+use Rattle.vtd_script.specs.Commands.{bare_command, of_two, of_word_with_two, with_two as command_of_two, command_with_one, command_with_two, command}
+use Rattle.vtd_script.specs.Commands.{line_limit, read}
 use Rattle.vtd_script.specs.declared.commands.TwoFields.{TwoFields}
 use Rattle.vtd_script.specs.Readings.{Reads, IsCommand, IsFieldFault, fields_of}
 use Rattle.vtd_script.specs.declared.commands.Command.{Command}
@@ -119,5 +121,6 @@ fault_same given known fault e h = let P : List ℕ → Type 0 = λ cs. IsFieldF
 
 -- the command of a word that two fields follow, by its word
 pub two_as : (result : Result Command LineFault) (found : Option TwoFields) (word : TwoFields) (first second : List ℕ) → found ≡ Some word
-    → IsCommand result (of_two (command_of_two word) (unescaped (chars first)) (unescaped (chars second))) → IsCommand result (of_word_with_two found first second)
+    → IsCommand result (of_two (command_of_two word) (unescaped (chars first)) (unescaped (chars second)))
+    → IsCommand result (of_word_with_two found first second)
 two_as result found word first second e h = let P : Option TwoFields → Type 0 = λ o. IsCommand result (of_word_with_two o first second) in subst P (sym e) h

@@ -1,5 +1,6 @@
 -- Splices that are staged after others: one answer, and some. An operation is known by the bytes of its text.
-use Rattle.std.proofs.Common.{◌≡◌, ◌⊎◌, ℕ, zero, suc, ◌<◌, ◌≤◌, Bool, true, false, List, [], ◌∷◌, length, Option, Result, Ok, Err, refl, sym, ap, ap₂, subst, ◌∙◌}
+use Rattle.std.proofs.Common.{◌≡◌, ◌⊎◌, ℕ, zero, suc, ◌<◌, ◌≤◌, Bool, true, false, List, [], ◌∷◌, length, Option, Result, Ok, Err, refl, sym, ap, ap₂, subst}
+use Rattle.std.proofs.Common.{◌∙◌}
 use Rattle.std.proofs.Common.{inl, inr, arith}
 use Rattle.std.specs.Prelude.{cond}
 use Rattle.std.specs.Borrow.{Bor}
@@ -136,12 +137,14 @@ some_puts xs count s = elim (overlapping_below xs (length xs) (omega arith)) [
 
 -- ---- operations with one text
 
-rows_same : (bytes : List ℕ) (x y : Operation) → ((e : Entry) → row bytes x (part_of bytes e) ≡ row bytes y (part_of bytes e)) → (es : List Entry) → rows bytes x es ≡ rows bytes y es
+rows_same : (bytes : List ℕ) (x y : Operation) → ((e : Entry) → row bytes x (part_of bytes e) ≡ row bytes y (part_of bytes e)) → (es : List Entry)
+    → rows bytes x es ≡ rows bytes y es
 rows_same bytes x y same [] = refl
 rows_same bytes x y same (e ∷ es) =
     ap₂ (λ (a : Option (List Splice)) (b : Result (List Splice) EditFault). with_row e.start a b) (same e) (rows_same bytes x y same es)
 
-outcome_same : (bytes : List ℕ) (x y : Operation) → has_name x ≡ has_name y → ((e : Entry) → row bytes x (part_of bytes e) ≡ row bytes y (part_of bytes e)) → (es : List Entry)
+outcome_same : (bytes : List ℕ) (x y : Operation) → has_name x ≡ has_name y
+    → ((e : Entry) → row bytes x (part_of bytes e) ≡ row bytes y (part_of bytes e)) → (es : List Entry)
     → outcome bytes x es ≡ outcome bytes y es
 outcome_same bytes x y named same es =
     ap₂ (λ (b : Bool) (r : Result (List Splice) EditFault). cond b r (Err edits.Name)) named (rows_same bytes x y same es)
@@ -171,39 +174,47 @@ stages_as text x y s a named same h =
 pub as_replace : (text : List ℕ) (x : Bor (List ℕ)) (given : List ℕ) (s : State) (a : Answer) → x.now ≡ given → Stages text (operations.Replace x) s a
     → Stages text (operations.Replace (borrowed given)) s a
 as_replace text x given s a e h =
-    stages_as text (operations.Replace x) (operations.Replace (borrowed given)) s a refl (λ bytes n. ap (λ (t : List ℕ). rowed.replaced t (part_of bytes n)) e) h
+    stages_as text (operations.Replace x) (operations.Replace (borrowed given)) s a refl
+    (λ bytes n. ap (λ (t : List ℕ). rowed.replaced t (part_of bytes n)) e) h
 
 pub as_before : (text : List ℕ) (x : Bor (List ℕ)) (given : List ℕ) (s : State) (a : Answer) → x.now ≡ given → Stages text (operations.Before x) s a
     → Stages text (operations.Before (borrowed given)) s a
 as_before text x given s a e h =
-    stages_as text (operations.Before x) (operations.Before (borrowed given)) s a refl (λ bytes n. ap (λ (t : List ℕ). rowed.put_before t (part_of bytes n)) e) h
+    stages_as text (operations.Before x) (operations.Before (borrowed given)) s a refl
+    (λ bytes n. ap (λ (t : List ℕ). rowed.put_before t (part_of bytes n)) e) h
 
 pub as_after : (text : List ℕ) (x : Bor (List ℕ)) (given : List ℕ) (s : State) (a : Answer) → x.now ≡ given → Stages text (operations.After x) s a
     → Stages text (operations.After (borrowed given)) s a
 as_after text x given s a e h =
-    stages_as text (operations.After x) (operations.After (borrowed given)) s a refl (λ bytes n. ap (λ (t : List ℕ). rowed.put_after t (part_of bytes n)) e) h
+    stages_as text (operations.After x) (operations.After (borrowed given)) s a refl
+    (λ bytes n. ap (λ (t : List ℕ). rowed.put_after t (part_of bytes n)) e) h
 
 pub as_first : (text : List ℕ) (x : Bor (List ℕ)) (given : List ℕ) (s : State) (a : Answer) → x.now ≡ given → Stages text (operations.First x) s a
     → Stages text (operations.First (borrowed given)) s a
 as_first text x given s a e h =
-    stages_as text (operations.First x) (operations.First (borrowed given)) s a refl (λ bytes n. ap (λ (t : List ℕ). rowed.put_first bytes t (part_of bytes n)) e) h
+    stages_as text (operations.First x) (operations.First (borrowed given)) s a refl
+    (λ bytes n. ap (λ (t : List ℕ). rowed.put_first bytes t (part_of bytes n)) e) h
 
 pub as_last : (text : List ℕ) (x : Bor (List ℕ)) (given : List ℕ) (s : State) (a : Answer) → x.now ≡ given → Stages text (operations.Last x) s a
     → Stages text (operations.Last (borrowed given)) s a
 as_last text x given s a e h =
-    stages_as text (operations.Last x) (operations.Last (borrowed given)) s a refl (λ bytes n. ap (λ (t : List ℕ). rowed.put_last bytes t (part_of bytes n)) e) h
+    stages_as text (operations.Last x) (operations.Last (borrowed given)) s a refl
+    (λ bytes n. ap (λ (t : List ℕ). rowed.put_last bytes t (part_of bytes n)) e) h
 
 pub as_attr : (text : List ℕ) (x : Bor (List ℕ)) (given : List ℕ) (s : State) (a : Answer) → x.now ≡ given → Stages text (operations.Attr x) s a
     → Stages text (operations.Attr (borrowed given)) s a
 as_attr text x given s a e h =
-    stages_as text (operations.Attr x) (operations.Attr (borrowed given)) s a refl (λ bytes n. ap (λ (t : List ℕ). rowed.given_attribute t (part_of bytes n)) e) h
+    stages_as text (operations.Attr x) (operations.Attr (borrowed given)) s a refl
+    (λ bytes n. ap (λ (t : List ℕ). rowed.given_attribute t (part_of bytes n)) e) h
 
 pub as_set : (text : List ℕ) (x : Bor (List ℕ)) (given : List ℕ) (s : State) (a : Answer) → x.now ≡ given → Stages text (operations.Set x) s a
     → Stages text (operations.Set (borrowed given)) s a
 as_set text x given s a e h =
-    stages_as text (operations.Set x) (operations.Set (borrowed given)) s a refl (λ bytes n. ap (λ (t : List ℕ). rowed.set_to bytes t (part_of bytes n)) e) h
+    stages_as text (operations.Set x) (operations.Set (borrowed given)) s a refl
+    (λ bytes n. ap (λ (t : List ℕ). rowed.set_to bytes t (part_of bytes n)) e) h
 
 pub as_rename : (text : List ℕ) (x : Bor (List ℕ)) (given : List ℕ) (s : State) (a : Answer) → x.now ≡ given → Stages text (operations.Rename x) s a
     → Stages text (operations.Rename (borrowed given)) s a
 as_rename text x given s a e h =
-    stages_as text (operations.Rename x) (operations.Rename (borrowed given)) s a (ap (λ (t : List ℕ). is_qname (chars t)) e) (λ bytes n. ap (λ (t : List ℕ). rowed.renamed t (part_of bytes n)) e) h
+    stages_as text (operations.Rename x) (operations.Rename (borrowed given)) s a (ap (λ (t : List ℕ). is_qname (chars t)) e)
+    (λ bytes n. ap (λ (t : List ℕ). rowed.renamed t (part_of bytes n)) e) h

@@ -128,8 +128,8 @@ stage_fault bytes given words lists bound staged text expr operation fault old s
     subst R (sym e) (subst Q t (subst P h (fault_staged bytes given words lists bound staged text operation fault files d b w f)))
 
 pub stage_refused : (bytes given : List ℕ) (words lists : Lists) (bound : List (List ℕ × List ℕ)) (staged : List Splice) (text expr : List ℕ)
-    (operation : Operation) (made : Operated) (fault : StageFault) (later : List Splice) (old : Work) (stop : Stop) (files : NameMap) → IsDoc bytes words → given ≡ bytes
-    → lists ≡ words → ((nest : Forest) → IsNavOf given lists nest → Makes (Operates given nest bound text operation) (Ok made))
+    (operation : Operation) (made : Operated) (fault : StageFault) (later : List Splice) (old : Work) (stop : Stop) (files : NameMap) → IsDoc bytes words
+    → given ≡ bytes → lists ≡ words → ((nest : Forest) → IsNavOf given lists nest → Makes (Operates given nest bound text operation) (Ok made))
     → Refuses (staged ++ made.splices) fault → holding bytes bound staged ≡ old → text ≡ encode_utf8_all expr → stop ≡ stage_stop fault → later ≡ staged
     → PreparesStaging (λ s a. Stages (encode_utf8_all expr) operation s a) (state_of old files) (state_of (holding bytes bound later) files) (Err stop)
 stage_refused bytes given words lists bound staged text expr operation made fault later old stop files d b w f q h t e k =

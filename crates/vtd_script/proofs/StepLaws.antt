@@ -27,10 +27,12 @@ use Rattle.vtd_script.proofs.StageLemmas.{one_puts, some_puts}
 use Rattle.vtd_script.specs.Queries.{Selects, Values, selected, valued}
 use Rattle.vtd_script.specs.Commands.{read}
 use Rattle.vtd_script.specs.States.{State, Answer, skipped, printed, refused, missing, state_after, new_bytes}
-use Rattle.vtd_script.specs.Steps.{HasDocument, Lists, Tells, shown, Puts, overlaps, text_long, put, StagesMade, Stages, Binds, Does, Answers, Step, ok_line, with_binding, name_of}
+use Rattle.vtd_script.specs.Steps.{HasDocument, Lists, Tells, shown, Puts, overlaps, text_long, put, StagesMade, Stages, Binds, Does, Answers, Step, ok_line}
+use Rattle.vtd_script.specs.Steps.{with_binding, name_of}
 use Rattle.vtd_script.specs.Steps.{Takes, too_long, unfit, accepted, Opens, document_limit, document_line, refusal_of, with_document}
 use Rattle.vtd_script.specs.declared.commands.Command.{Command}
-use Rattle.vtd_script.specs.declared.commands.Command.TheVariants.{Elements, Ns, Select, Value, Remove, Replace, Before, After, First, Last, Attr, Set, Rename, Discard, Apply, Save, Open}
+use Rattle.vtd_script.specs.declared.commands.Command.TheVariants.{Elements, Ns, Select, Value, Remove, Replace, Before, After, First, Last, Attr, Set, Rename}
+use Rattle.vtd_script.specs.declared.commands.Command.TheVariants.{Discard, Apply, Save, Open}
 use Rattle.vtd_script.specs.declared.refusals.Refusal.{Refusal}
 use Rattle.vtd_script.specs.declared.refusals.Refusal.TheVariants as no
 

@@ -1,6 +1,7 @@
 //! A session: a document, the prefixes that are bound for it, and what is staged.
 
-ghost use Rattle.std.specs.Prelude.{◌⊎◌, ◌≡◌, ℕ, ◌<◌, ◌≤◌, ◌^◌, List, [], length, encode_utf8_all, vec_len, Bool, true, false, IfOk, IfErr};
+ghost use Rattle.std.specs.Prelude.{◌⊎◌, ◌≡◌, ℕ, ◌<◌, ◌≤◌, ◌^◌, List, [], length, encode_utf8_all, vec_len, Bool, true};
+ghost use Rattle.std.specs.Prelude.{false, IfOk, IfErr};
 ghost use Rattle.std.specs.Prelude.{OnErr, OnOk, Some};
 ghost use Rattle.xml_model.specs.Accepted.{Accepted, IsRefusal};
 ghost use Rattle.xml_model.specs.Nest.{Forest};
@@ -16,7 +17,8 @@ ghost use Rattle.vtd_script.specs.Changes.{PreparesStaging};
 ghost use Rattle.vtd_script.specs.Changes.{RefusesKnown};
 ghost use Rattle.vtd_script.specs.Changes.{FileCounts, SendCounts, StaysUnlessDone, StaysUnlessReady, fails_at_file};
 ghost use Rattle.vtd_script.specs.Changes.{stops_at_file, writes};
-ghost use Rattle.vtd_script.specs.declared.commands.Command.TheVariants.{Apply, Discard, Elements, Ns, Open, Save, Select};
+ghost use Rattle.vtd_script.specs.declared.commands.Command.TheVariants.{Apply, Discard, Elements, Ns, Open, Save};
+ghost use Rattle.vtd_script.specs.declared.commands.Command.TheVariants.{Select};
 
 use crate::asking::{operation_stop, selected_lines, stage_stop, staged_lines, valued_lines};
 use crate::commands::{Command, LineFault, read_line};

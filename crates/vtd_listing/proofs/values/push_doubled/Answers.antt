@@ -14,4 +14,5 @@ loop-before-preserved c =
 pub returns : goal.returns
 returns c =
     last_run c.push_text-2.result c.args.line.now.items c.loop-before.line.items c.push_text-2.new.lines.items c.loop-before.rest.now
-    (flat_map doubled_char c.loop-before.rest.now) (flat_map doubled_char c.args.text.now) c.loop-before.invariant (doubled_none c.loop-before.rest.now c.in_default.ensures) c.push_text-2.ensures
+    (flat_map doubled_char c.loop-before.rest.now) (flat_map doubled_char c.args.text.now)
+    c.loop-before.invariant (doubled_none c.loop-before.rest.now c.in_default.ensures) c.push_text-2.ensures

@@ -15,4 +15,5 @@ loop-before-preserved c =
 pub returns : goal.returns
 returns c =
     last_run c.push_doubled-2.result c.args.line.now.items c.loop-before.line.items c.push_doubled-2.new.line.items
-    (flat_map doubled_char c.loop-before.rest.now) (flat_map escaped_char c.loop-before.rest.now) (flat_map escaped_char c.args.text.now) c.loop-before.invariant (escaped_none c.loop-before.rest.now c.in_default.ensures) c.push_doubled-2.ensures
+    (flat_map doubled_char c.loop-before.rest.now) (flat_map escaped_char c.loop-before.rest.now) (flat_map escaped_char c.args.text.now)
+    c.loop-before.invariant (escaped_none c.loop-before.rest.now c.in_default.ensures) c.push_doubled-2.ensures

@@ -14,4 +14,5 @@ returns-in-Err-clause-known c = λ files.
     stops_told _ (Value c.args.expr.now) _ c.in-Err.stop (to_value _ _ _ _ c.self.view_is c.utf8_of.ensures) c.in-Err.ensures
 
 pub returns-in-Err-clause-no_file : goal.returns-in-Err-clause-no_file
-returns-in-Err-clause-no_file c = tells_no_file (Values c.self.inside.document.bytes c.self.inside.bindings c.utf8_of.result.now) c.in-Err.stop c.in-Err.ensures
+returns-in-Err-clause-no_file c =
+    tells_no_file (Values c.self.inside.document.bytes c.self.inside.bindings c.utf8_of.result.now) c.in-Err.stop c.in-Err.ensures
