@@ -43,8 +43,8 @@ is_sure _ = true
 -- whether no step has predicates
 abbrev pub are_bare : Walk → Bool
 are_bare stop = true
-are_bare (go axis test none w) = are_bare w
-are_bare (go axis test (more p ps) w) = false
+are_bare (go axis t none w) = are_bare w
+are_bare (go axis t (more p ps) w) = false
 
 -- whether some node that steps without predicates find from a node passes a test
 abbrev pub any_found : Walk → Context → (Entry → Bool) → Entry → Bool
