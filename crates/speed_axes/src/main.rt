@@ -1,6 +1,6 @@
 //! How fast axes are: `speed_axes FILE` goes from the root of a document over its descendants, under several node
-//! tests, beside a plain loop over its records, and takes the step along each axis from all its nodes. The times go to
-//! standard error, and what was counted to standard output.
+//! tests, beside a plain loop over its records, goes over the children of each node in turn, and takes the step along
+//! each axis from all its nodes. The times go to standard error, and what was counted to standard output.
 #![tactic(auto)]
 
 mod axes;
