@@ -1,6 +1,6 @@
 //! Which module answers a table.
 
-use crate::evaluating;
+use crate::{evaluating, reading};
 use std::alloc::{AllocError, Global};
 use tables::Answers;
 
@@ -24,7 +24,10 @@ impl Answers for Doors {
             out.push_str("no text")?;
             return Ok(out);
         };
-        evaluating::answer(alloc, &mut out, table, given, text)?;
+        match table {
+            "reads" => reading::answer(alloc, &mut out, given, text)?,
+            _ => evaluating::answer(alloc, &mut out, table, given, text)?,
+        }
         Ok(out)
     }
 }

@@ -40,7 +40,7 @@ fn fault_name(fault: ValueFault) -> &'static str {
 }
 
 /// The bindings of a table.
-fn bindings_of(alloc: Global, table: &str) -> Bindings {
+pub fn bindings_of(alloc: Global, table: &str) -> Bindings {
     let mut bindings = Bindings::new(alloc);
     for word in table.split(" ") {
         if let Some((prefix, uri)) = word.split_once("=") {
@@ -73,7 +73,7 @@ fn write_nodes<W: Words>(
 }
 
 /// The answer of a row.
-fn write_answer<W: Words>(
+pub fn write_answer<W: Words>(
     alloc: Global,
     out: &mut String,
     nav: &Nav<'_, W>,

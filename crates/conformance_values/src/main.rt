@@ -5,6 +5,7 @@
 
 mod doors;
 mod evaluating;
+mod reading;
 
 use std::{env, fs, io};
 use tables::walk;
