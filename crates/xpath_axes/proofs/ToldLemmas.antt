@@ -139,7 +139,8 @@ module _ (w : Walk) (rs : List Record) (es : List Entry) where
   unfolding passes
   elements_as =
       filter_filter (λ e. is_element e.what) (λ e. nat_le w.at e.index && (nat_lt e.index (stop_of w rs) && (wants w e.what (length e.holders) && true))) es
-      ∙ filter_same _ (between w.at (stop_of w rs) (wants_element w)) es (λ e c. by (nat_le w.at e.index) (nat_lt e.index (stop_of w rs)) (wants w e.what (length e.holders)) (is_element e.what))
+      ∙ filter_same _ (between w.at (stop_of w rs) (wants_element w)) es
+      (λ e c. by (nat_le w.at e.index) (nat_lt e.index (stop_of w rs)) (wants w e.what (length e.holders)) (is_element e.what))
     where
       by : (a b c d : Bool) → ((a && (b && (c && true))) && d) ≡ (a && (b && (c && d)))
       by true true true d = refl
@@ -150,7 +151,8 @@ module _ (w : Walk) (rs : List Record) (es : List Entry) where
   -- for a test that elements alone pass, the nodes that are left are among the elements
   among : w.attributes ≡ false → (t : Test) → PassesElements t → left_of w t rs es ≡ filter (passes t false) (elements_left w rs es)
   among children t named =
-      filter_same _ (λ e. between w.at (stop_of w rs) (wants_element w) e && passes t false e) es (λ e c. ap (λ b. nat_le w.at e.index && (nat_lt e.index (stop_of w rs)
+      filter_same _ (λ e. between w.at (stop_of w rs) (wants_element w) e && passes t false e) es
+      (λ e c. ap (λ b. nat_le w.at e.index && (nat_lt e.index (stop_of w rs)
       && (wants w e.what (length e.holders) && passes t b e))) children
       ∙ by (nat_le w.at e.index) (nat_lt e.index (stop_of w rs)) (wants w e.what (length e.holders)) (is_element e.what) (passes t false e) (named e))
       ∙ sym (filter_filter (passes t false) (between w.at (stop_of w rs) (wants_element w)) es)
@@ -185,7 +187,8 @@ told_entry w rs es r children t named y ys xs h m =
     let next = record w { at = y.index + 1 } in
     let low : w.at ≤ y.index = leb-true w.at y.index p.0 in
     let stop : stop_of next rs ≡ stop_of w rs =
-    stop_by (goes_on w.attributes w.floor) rs (y.index + 1 - w.at) w.at (y.index + 1) (omega (arith, low)) (omega (arith, ltb-true y.index (stop_of w rs) s.0)) in
+    stop_by (goes_on w.attributes w.floor) rs (y.index + 1 - w.at) w.at (y.index + 1) (omega (arith, low))
+    (omega (arith, ltb-true y.index (stop_of w rs) s.0)) in
     let after : elements_left next rs es ≡ ys =
     elements_as next rs es
     ∙ ap (λ k. filter (between (y.index + 1) k (wants_element w)) es) stop

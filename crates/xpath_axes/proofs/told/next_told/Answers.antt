@@ -22,7 +22,8 @@ passes-requires-clause-node g c =
     let some = subst (λ lists. left_in lists c.loop-next.told ≡ c.in-Some.at ∷ left_in lists c.next.new.self) c.loop-next.invariant.lists
     c.in-Some.ensures.some in
     rw c.table-table.ensures.value
-    (told_node _ _ nav.nest (nest_of_table _ _ nav.nest nav.shown) (node_test c.args.test.now) _ c.loop-next.told c.in-Some.at _ c.loop-next.invariant.told some)
+    (told_node _ _ nav.nest (nest_of_table _ _ nav.nest nav.shown)
+    (node_test c.args.test.now) _ c.loop-next.told c.in-Some.at _ c.loop-next.invariant.told some)
 
 pub returns-then-passes-clause-left : goal.returns-then-passes-clause-left
 returns-then-passes-clause-left g c = λ nest s.
@@ -60,7 +61,8 @@ loop-next-preserved g c =
     let nav = c.table-table.ensures.nav in
     let some = subst (λ lists. left_in lists c.loop-next.told ≡ c.in-Some.at ∷ left_in lists c.next.new.self) c.loop-next.invariant.lists
     c.in-Some.ensures.some in
-    let d = told_here _ _ nav.nest (nest_of_table _ _ nav.nest nav.shown) (node_test c.args.test.now) _ c.loop-next.told c.in-Some.at _ c.loop-next.invariant.told some in
+    let d = told_here _ _ nav.nest (nest_of_table _ _ nav.nest nav.shown)
+    (node_test c.args.test.now) _ c.loop-next.told c.in-Some.at _ c.loop-next.invariant.told some in
     record {
       names = rw c.table-table.ensures.value at c.passes.ensures.names;
       lists = c.in-Some.ensures.lists ∙ c.loop-next.invariant.lists;
