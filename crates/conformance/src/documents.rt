@@ -2,6 +2,7 @@
 
 ghost use Rattle.std.specs.Prelude.{◌≡◌, ◌==◌, ◌&&◌, ◌<◌, ◌≤◌, ◌^◌, length, nat_lt, not, take, slice_index, []};
 
+use crate::tags::tag_of;
 use std::alloc::{AllocError, Global};
 use vtd_builder::{BuildFault, Doc, RecordSink, build, check, emit};
 use vtd_words::{Counts, Part, Parts, WordVec, WordView, Words, pack, unpack};
@@ -96,6 +97,15 @@ fn write_build(alloc: Global, out: &mut String, bytes: &[u8]) -> Result<(), Allo
         return Ok(());
     }
     out.push_str(" with other bytes")
+}
+
+/// The same of the document of one tag that a text asks for.
+fn write_build_of_names(alloc: Global, out: &mut String, text: &str) -> Result<(), AllocError> {
+    let made = tag_of(alloc, text)?;
+    if made.len() >= 1 << 30 {
+        return out.push_str("too long");
+    }
+    write_build(alloc, out, made.as_bytes())
 }
 
 /// The words of a part, in hexadecimal digits.
@@ -286,6 +296,7 @@ pub fn answer(
             let wanted = words_in(alloc, text)?;
             write_emission(out, given, &wanted)
         }
+        "of names" => write_build_of_names(alloc, out, text),
         "packed" => write_packed(out, text),
         "parts" => write_word_of_each(alloc, out),
         "view" => write_view(out, text),

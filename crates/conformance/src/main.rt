@@ -10,6 +10,7 @@ mod items;
 mod moves;
 mod names;
 mod nodes;
+mod tags;
 mod texts;
 
 use std::{env, fs, io};

@@ -3,7 +3,7 @@
 ghost use Rattle.std.specs.Prelude.{◌<◌, ◌^◌, length};
 
 use std::alloc::{AllocError, Global};
-use vtd_index::{IndexFault, IndexParts, Loaded, check_index};
+use vtd_index::{Checked, IndexFault, IndexParts, LoadFault, Opened, check_index, open_index};
 use vtd_words::{Part, Words};
 use xml_model::{DocFault, Field};
 
@@ -53,24 +53,33 @@ pub fn write_document(out: &mut String, parts: &IndexParts<'_>) -> Result<(), Al
     write!(out, "document {length} {records}")
 }
 
+/// Writes how long the document of a file of the first version is.
+fn write_first(out: &mut String, bytes: &[u8]) -> Result<(), AllocError> {
+    let length = bytes.len();
+    write!(out, "first {length}")
+}
+
 /// Writes what `check_index` says of a file.
 pub fn write_checked(out: &mut String, file: &[u8]) -> Result<(), AllocError>
     requires { length file.now < 2 ^ 32 }
 {
     match check_index(file) {
-        Ok(parts) => write_document(out, &parts),
+        Ok(Checked::One(bytes)) => write_first(out, bytes),
+        Ok(Checked::Two(parts)) => write_document(out, &parts),
         Err(fault) => write_fault(out, fault),
     }
 }
 
-/// Writes what `Loaded` says of a file.
-fn write_loaded(out: &mut String, file: Vec<u8>) -> Result<(), AllocError> {
+/// Writes what `open_index` says of a file.
+fn write_opened(alloc: Global, out: &mut String, file: Vec<u8>) -> Result<(), AllocError> {
     if file.len() > u32::MAX as usize {
         return out.push_str("too long");
     }
-    match Loaded::of(file) {
-        Ok(loaded) => write_document(out, &loaded.parts()),
-        Err((_, fault)) => write_fault(out, fault),
+    match open_index(alloc, file) {
+        Ok(Opened::View(loaded)) => write_document(out, &loaded.parts()),
+        Ok(Opened::Built(doc)) => write_first(out, doc.bytes()),
+        Err((_, LoadFault::Index(fault))) => write_fault(out, fault),
+        Err((_, LoadFault::NoMemory)) => Err(AllocError),
     }
 }
 
@@ -81,11 +90,11 @@ pub fn write_both(alloc: Global, out: &mut String, file: &[u8]) -> Result<(), Al
     }
     write_checked(out, file)?;
     let mut again = String::new(alloc);
-    write_loaded(&mut again, file.to_vec(alloc)?)?;
+    write_opened(alloc, &mut again, file.to_vec(alloc)?)?;
     if again.as_str() == out.as_str() {
         return Ok(());
     }
-    out.push_str(", loaded ")?;
+    out.push_str(", opened ")?;
     out.push_str(again.as_str())
 }
 

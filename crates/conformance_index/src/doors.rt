@@ -2,7 +2,7 @@
 
 use crate::changes::{bytes_in, changed};
 use crate::checks::{write_both, write_prefixes};
-use crate::writes;
+use crate::{opens, writes};
 use std::alloc::{AllocError, Global};
 use tables::Answers;
 
@@ -28,6 +28,7 @@ impl Answers for Doors {
                 let file = bytes_in(alloc, digits)?;
                 write_both(alloc, &mut out, &changed(alloc, &file, text)?)?
             }
+            "opened" => opens::answer(alloc, &mut out, digits, text)?,
             "prefixes" => write_prefixes(alloc, &mut out, &bytes_in(alloc, digits)?)?,
             _ => out.push_str("no such table")?,
         }

@@ -6,6 +6,7 @@
 mod changes;
 mod checks;
 mod doors;
+mod opens;
 mod writes;
 
 use std::{env, fs, io};

@@ -7,8 +7,10 @@ use crate::checks::write_document;
 use std::alloc::{AllocError, Global};
 use views::nav_over;
 use vtd_builder::{Doc, build};
-use vtd_index::{check_index, index_length, write_index};
+use vtd_index::{Checked, check_index, index_length, write_index};
+use vtd_location::Nav;
 use vtd_outside::MemoryFiles;
+use vtd_words::Words;
 
 /// The name of the file.
 const NAME: &str = "f";
@@ -32,17 +34,16 @@ fn files_for(
 }
 
 /// What the file of that name holds after the index file of a document was written to it, and whether that went well.
-fn written(
+fn written<W: Words>(
     alloc: Global,
-    doc: &Doc,
+    nav: &Nav<'_, W>,
     failing: u32,
     piece: usize,
 ) -> Result<(bool, Vec<u8>), AllocError>
     requires { 0 < piece }
 {
-    let nav = doc.nav();
-    let mut files = files_for(alloc, failing, piece, index_length(&nav))?;
-    let done = write_index(NAME, &nav, &mut files).is_ok();
+    let mut files = files_for(alloc, failing, piece, index_length(nav))?;
+    let done = write_index(NAME, nav, &mut files).is_ok();
     let bytes = match files.bytes_of(NAME) {
         Some(bytes) => bytes.to_vec(alloc)?,
         None => Vec::new(alloc),
@@ -61,8 +62,8 @@ fn write_written(
 ) -> Result<(), AllocError>
     requires { 0 < piece }
 {
-    let (_, whole) = written(alloc, doc, u32::MAX, usize::MAX)?;
-    let (done, bytes) = written(alloc, doc, failing, piece)?;
+    let (_, whole) = written(alloc, &doc.nav(), u32::MAX, usize::MAX)?;
+    let (done, bytes) = written(alloc, &doc.nav(), failing, piece)?;
     let length = bytes.len();
     let word = if done { "written" } else { "failed" };
     write!(out, "{word} {length}")?;
@@ -73,8 +74,12 @@ fn write_written(
 }
 
 /// Writes the bytes of the index file of a document, after how many there are.
-fn write_whole(alloc: Global, out: &mut String, doc: &Doc) -> Result<(), AllocError> {
-    let (_, bytes) = written(alloc, doc, u32::MAX, usize::MAX)?;
+pub fn write_whole<W: Words>(
+    alloc: Global,
+    out: &mut String,
+    nav: &Nav<'_, W>,
+) -> Result<(), AllocError> {
+    let (_, bytes) = written(alloc, nav, u32::MAX, usize::MAX)?;
     let length = bytes.len();
     write!(out, "{length}")?;
     write_bytes(out, &bytes)
@@ -84,12 +89,12 @@ fn write_whole(alloc: Global, out: &mut String, doc: &Doc) -> Result<(), AllocEr
 fn write_read_back(alloc: Global, out: &mut String, doc: &Doc) -> Result<(), AllocError> {
     let nav = doc.nav();
     let length = index_length(&nav);
-    let (_, bytes) = written(alloc, doc, u32::MAX, 1000)?;
+    let (_, bytes) = written(alloc, &nav, u32::MAX, 1000)?;
     write!(out, "index {length}; ")?;
     if bytes.len() as u64 != length || bytes.len() > u32::MAX as usize {
         return out.push_str("another length");
     }
-    let Ok(parts) = check_index(&bytes) else {
+    let Ok(Checked::Two(parts)) = check_index(&bytes) else {
         return out.push_str("no index file");
     };
     write_document(out, &parts)?;
@@ -115,7 +120,7 @@ pub fn answer(
     };
     let Some(numbers) = input.strip_prefix("failing ") else {
         return match input {
-            "bytes" => write_whole(alloc, out, &doc),
+            "bytes" => write_whole(alloc, out, &doc.nav()),
             _ => write_read_back(alloc, out, &doc),
         };
     };

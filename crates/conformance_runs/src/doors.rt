@@ -22,6 +22,9 @@ impl Answers for Doors {
             "feeds" => runs::answer_feeds(alloc, &mut out, words, given, input)?,
             "changed" => runs::answer_changed(alloc, &mut out, words, given, input)?,
             "files" => runs::answer_files(alloc, &mut out, words, given, input)?,
+            "indexed" => runs::answer_indexed(alloc, &mut out, words, given, input)?,
+            "filed" => runs::answer_filed(alloc, &mut out, words, given, input)?,
+            "loads" => runs::answer_loads(alloc, &mut out, words, given, input)?,
             "faults" => faults::answer(alloc, &mut out, words, given, input)?,
             _ => out.push_str("no such table")?,
         }

@@ -103,16 +103,17 @@ fn files_of(alloc: Global, doc: &[u8], plan: Plan) -> Result<MemoryFiles, AllocE
     }
 }
 
-/// Runs over the file `doc` with these bytes, beside those of `files_of`.
-pub fn run_over(
+/// Runs beside these files.
+fn run_beside(
     alloc: Global,
     words: &str,
-    doc: &[u8],
+    mut files: MemoryFiles,
     script: Vec<u8>,
     plan: Plan,
-) -> Result<Left, AllocError> {
+) -> Result<Left, AllocError>
+    requires { files.writing ≡ None }
+{
     let words = words_in(alloc, words)?;
-    let mut files = files_of(alloc, doc, plan)?;
     let failing = failing_of(alloc, plan, Object::Script)?;
     let mut script = MemorySource::new(script, failing, plan.piece);
     let mut out = sink_of(alloc, plan, Object::Out)?;
@@ -124,6 +125,18 @@ pub fn run_over(
         err,
         files,
     })
+}
+
+/// Runs over the file `doc` with these bytes, beside those of `files_of`.
+pub fn run_over(
+    alloc: Global,
+    words: &str,
+    doc: &[u8],
+    script: Vec<u8>,
+    plan: Plan,
+) -> Result<Left, AllocError> {
+    let files = files_of(alloc, doc, plan)?;
+    run_beside(alloc, words, files, script, plan)
 }
 
 /// A plan by which nothing fails.
@@ -161,6 +174,90 @@ pub fn answer(
     script: &[u8],
 ) -> Result<(), AllocError> {
     let left = run_over(alloc, words, doc, script.to_vec(alloc)?, plain(7))?;
+    write_left(out, &left)
+}
+
+/// The index file of a document, as a run writes it.
+fn index_of(alloc: Global, doc: &[u8]) -> Result<Vec<u8>, AllocError> {
+    let left = run_over(alloc, "doc", doc, b"index\tf".to_vec(alloc)?, plain(4096))?;
+    left.files.bytes_of("f").unwrap_or(b"").to_vec(alloc)
+}
+
+/// Turns the lowest bit at a place, where that is there.
+fn flip(bytes: &mut Vec<u8>, at: usize) {
+    if let Some(slot) = bytes.get_mut(at) {
+        *slot = *slot ^ 1;
+    }
+}
+
+/// Puts a byte in place of the one at a place, where that is there; both are numbers, with a space between them.
+fn set(bytes: &mut Vec<u8>, numbers: &str) {
+    let (at, byte) = numbers.split_once(" ").unwrap_or((numbers, ""));
+    let at = at.parse::<usize>().unwrap_or(usize::MAX);
+    if let Some(slot) = bytes.get_mut(at) {
+        *slot = byte.parse::<u8>().unwrap_or(*slot);
+    }
+}
+
+/// A file that is cut off at a length, has another lowest bit or another byte at a place, or has a zero more, as words
+/// say; other words leave it as it is.
+fn changed_file(alloc: Global, file: &[u8], how: &str) -> Result<Vec<u8>, AllocError> {
+    let mut bytes = file.to_vec(alloc)?;
+    let (word, number) = how.split_once(" ").unwrap_or((how, ""));
+    let at = number.parse::<usize>().unwrap_or(usize::MAX);
+    match word {
+        "cut" => bytes.truncate(at),
+        "flip" => flip(&mut bytes, at),
+        "set" => set(&mut bytes, number),
+        "add" => bytes.push(0)?,
+        _ => {}
+    }
+    Ok(bytes)
+}
+
+/// What a script leaves, where the file `doc` is the index file of the document, changed as the words before `; ` say.
+pub fn answer_indexed(
+    alloc: Global,
+    out: &mut String,
+    words: &str,
+    doc: &[u8],
+    script: &[u8],
+) -> Result<(), AllocError> {
+    let (how, words) = words.split_once("; ").unwrap_or(("", words));
+    let file = changed_file(alloc, &index_of(alloc, doc)?, how)?;
+    let left = run_over(alloc, words, &file, script.to_vec(alloc)?, plain(7))?;
+    write_left(out, &left)
+}
+
+/// What a script leaves, where the file `doc` is the given one, changed as the words before `; ` say.
+pub fn answer_filed(
+    alloc: Global,
+    out: &mut String,
+    words: &str,
+    file: &[u8],
+    script: &[u8],
+) -> Result<(), AllocError> {
+    let (how, words) = words.split_once("; ").unwrap_or(("", words));
+    let file = changed_file(alloc, file, how)?;
+    let left = run_over(alloc, words, &file, script.to_vec(alloc)?, plain(7))?;
+    write_left(out, &left)
+}
+
+/// What a script leaves, where the file `h` is the index file of the document, changed as the words before `; ` say.
+pub fn answer_loads(
+    alloc: Global,
+    out: &mut String,
+    words: &str,
+    doc: &[u8],
+    script: &[u8],
+) -> Result<(), AllocError> {
+    let (how, words) = words.split_once("; ").unwrap_or(("", words));
+    let file = changed_file(alloc, &index_of(alloc, doc)?, how)?;
+    let mut files = files_of(alloc, doc, plain(7))?;
+    if files.put("h", file).is_err() {
+        return Err(AllocError);
+    }
+    let left = run_beside(alloc, words, files, script.to_vec(alloc)?, plain(7))?;
     write_left(out, &left)
 }
 

@@ -8,10 +8,8 @@ ghost use Rattle.vtd_builder.specs.Cuts.{in_name, is_low, is_other, AttributeAt,
 
 use memchr::memchr;
 use xml_items::AttributeItem;
+use xml_lanes::{InTag, LANES, Other, far_end, run_end, run_len};
 use xml_model::Span;
-
-/// How many bytes are looked at one by one before `memchr` is called.
-const NEAR: usize = 16;
 
 /// The places of an attribute, and where it ends.
 #[derive(Clone, Copy)]
@@ -19,14 +17,6 @@ pub struct AttributeCut {
     pub item: AttributeItem,
     /// The place after the closing quote.
     pub end: u32,
-}
-
-/// Whether the byte may be in a name: it is no white space, and none of `/`, `=`, `>`.
-#[inline(always)]
-fn in_name(byte: u8) -> bool
-    ensures { result ≡ in_name byte }
-{
-    byte > b' ' && byte != b'/' && byte != b'=' && byte != b'>'
 }
 
 /// The place where the name at a place ends.
@@ -37,11 +27,11 @@ pub fn past_name(bytes: &[u8], at: u32) -> u32
     ensures value { result ≡ at + prefix_len in_name (drop at bytes.now) }
     ensures within { result ≤ length bytes.now }
 {
-    let mut end = at as usize;
-    while end < bytes.len() && in_name(bytes[end]) {
-        end += 1;
+    let place = at as usize;
+    if bytes.len() - place < LANES {
+        return far_end(&InTag, bytes, place) as u32;
     }
-    end as u32
+    run_end(&InTag, bytes, place) as u32
 }
 
 /// The place where the white space at a place ends.
@@ -71,8 +61,8 @@ fn far_byte(bytes: &[u8], at: u32, byte: u8) -> u32
     at + memchr(byte, rest).unwrap_or(rest.len()) as u32
 }
 
-/// The place of the next such byte, or the end of the bytes where there is none. It is near most times, so the first
-/// bytes are looked at one by one.
+/// The place of the next such byte, or the end of the bytes where there is none. It is near most times, so 16 bytes are
+/// looked at before `memchr` is called.
 #[inline(always)]
 pub fn next_byte(bytes: &[u8], at: u32, byte: u8) -> u32
     requires place { at ≤ length bytes.now }
@@ -80,15 +70,15 @@ pub fn next_byte(bytes: &[u8], at: u32, byte: u8) -> u32
     ensures value { result ≡ at + prefix_len (is_other byte) (drop at bytes.now) }
     ensures within { result ≤ length bytes.now }
 {
-    let near = bytes.len().min(at as usize + NEAR);
-    let mut end = at as usize;
-    while end < near && bytes[end] != byte {
-        end += 1;
+    let place = at as usize;
+    if bytes.len() - place < LANES {
+        return far_byte(bytes, at, byte);
     }
-    if end < near {
-        return end as u32;
+    let run = run_len(&Other { byte }, bytes, place);
+    if run < LANES {
+        return (place + run) as u32;
     }
-    far_byte(bytes, end as u32, byte)
+    far_byte(bytes, (place + LANES) as u32, byte)
 }
 
 /// Where the attribute lies whose name begins at a place.

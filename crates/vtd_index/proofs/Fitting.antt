@@ -5,7 +5,7 @@ use Rattle.std.proofs.Common.{length, refl, ap, arith}
 use Rattle.std.proofs.lemmas.Bool.{and_parts, ltb-true}
 use Rattle.xml_model.specs.Accepted.{Accepted, is_name_token}
 use Rattle.xml_model.specs.Items.{first_place}
-use Rattle.xml_model.specs.Levels.{child_position, if_tag_of, is_tag, level_word, levels, record_level, tags_from}
+use Rattle.xml_model.specs.Levels.{child_position, if_tag_of, is_tag, level_word, levels, levels_one, record_level, tags_from}
 use Rattle.xml_model.specs.Nest.{Forest}
 use Rattle.xml_model.specs.Records.{Record, records, word}
 use Rattle.xml_model.proofs.Each.{each_append, each_more}
@@ -19,6 +19,9 @@ use Rattle.vtd_location.proofs.ChildrenOf.{position_small}
 use Rattle.vtd_location.proofs.NavLaws.{fewer_layers}
 use Rattle.vtd_builder.specs.Documents.{words_of}
 use Rattle.vtd_index.specs.Holding.{Fit, CanHold}
+use Rattle.vtd_index.specs.declared.head.Version.{Version}
+use Rattle.vtd_index.specs.declared.head.Version.TheVariants.{One, Two}
+use Rattle.vtd_index.proofs.Versions.{words_by, words_one}
 
 -- the length of a record, and that of its prefix, have 20 bits in all
 wide_fits : (prefix len : ℕ) (name : Bool) → cond name (nat_lt prefix (2 ^ 9) && nat_lt len (2 ^ 11)) (prefix == 0 && nat_lt len (2 ^ 20)) ≡ true
@@ -83,10 +86,10 @@ level_fits k rs few = record {
   few = let l = length_entries (child_position k rs) (tags_from k 0 rs) in let w = count_within k 0 rs in omega arith;
 }
 
-last_fits : (rs : List Record) → length rs < 2 ^ 32 → Fit 4 (tags_from 5 0 rs)
-last_fits rs few = record {
-  each = each_more (λ (t : ℕ). t < 2 ^ 32) (λ (w : ℕ). w < 256 ^ 4) (λ t h. omega arith) (tags_from 5 0 rs) (tags_below 5 0 (2 ^ 32) rs (omega arith));
-  few = let w = count_within 5 0 rs in omega arith;
+last_fits : (k : ℕ) (rs : List Record) → length rs < 2 ^ 32 → Fit 4 (tags_from k 0 rs)
+last_fits k rs few = record {
+  each = each_more (λ (t : ℕ). t < 2 ^ 32) (λ (w : ℕ). w < 256 ^ 4) (λ t h. omega arith) (tags_from k 0 rs) (tags_below k 0 (2 ^ 32) rs (omega arith));
+  few = let w = count_within k 0 rs in omega arith;
 }
 
 few_records : (bytes : List ℕ) (nest : Forest) → length bytes < 2 ^ 30 → Accepted 8 bytes nest → length (records nest (first_place bytes)) < 2 ^ 30
@@ -106,5 +109,29 @@ can_hold bytes nest few a =
       level2 = level_fits 2 rs small;
       level3 = level_fits 3 rs small;
       level4 = level_fits 4 rs small;
-      level5 = last_fits rs small;
+      level5 = last_fits 5 rs small;
     }
+
+none_fit : Fit 8 []
+none_fit = record { each = tt; few = omega arith }
+
+pub can_hold_one : (bytes : List ℕ) (nest : Forest) → length bytes < 2 ^ 30 → Accepted 8 bytes nest → CanHold bytes (words_one bytes nest)
+unfolding levels_one
+can_hold_one bytes nest few a =
+    let rs = records nest (first_place bytes) in
+    let low = few_records bytes nest few a in
+    let small : length rs < 2 ^ 32 = omega arith in
+    let both = can_hold bytes nest few a in
+    record {
+      few = few;
+      records = both.records;
+      level1 = level_fits 1 rs small;
+      level2 = level_fits 2 rs small;
+      level3 = none_fit;
+      level4 = none_fit;
+      level5 = last_fits 3 rs small;
+    }
+
+pub can_by : (v : Version) (bytes : List ℕ) (nest : Forest) → length bytes < 2 ^ 30 → Accepted 8 bytes nest → CanHold bytes (words_by v bytes nest)
+can_by One bytes nest few a = can_hold_one bytes nest few a
+can_by Two bytes nest few a = can_hold bytes nest few a

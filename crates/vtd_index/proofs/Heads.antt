@@ -1,7 +1,6 @@
 -- What a head that is found says of the file.
 use Rattle.std.proofs.Common.{◌≡◌, ℕ, zero, suc, ◌+◌, ◌-◌, ◌*◌, ◌^◌, ◌<◌, ◌≤◌, Bool, true, false, cond, not, nat_lt, ◌==◌, List, [], ◌∷◌, length}
-use Rattle.std.proofs.Common.{take, drop, get_or, codes, Option, Some, None, Result, Ok, Err, refl, ap, subst, arith}
-use Rattle.std.specs.Prelude.{bytes_eq}
+use Rattle.std.proofs.Common.{drop, get_or, Option, Some, None, Result, Ok, Err, refl, ap, subst, arith}
 use Rattle.std.specs.List.{position, position_or_len}
 use Rattle.std.proofs.lemmas.Bool.Decides.{nat_tests}
 use Rattle.std.proofs.lemmas.List.{length-take, length-drop}
@@ -9,20 +8,26 @@ use Rattle.std.proofs.lemmas.List.Quantifiers.{position-Some}
 use Rattle.vtd_words.specs.Numbers.{number, AreWords}
 use Rattle.vtd_words.specs.View.{CanView}
 use Rattle.vtd_index.specs.declared.head.Head.{Head}
+use Rattle.vtd_index.specs.declared.head.Version.{Version}
+use Rattle.vtd_index.specs.declared.head.Version.TheVariants.{One, Two}
 use Rattle.vtd_index.specs.declared.faults.IndexFault.{IndexFault}
 use Rattle.vtd_index.specs.declared.faults.IndexFault.TheVariants.{Short, Magic, Size, Padding}
 use Rattle.vtd_index.specs.Layout.{padded}
-use Rattle.vtd_index.specs.Heads.{slice, head_in, end_of, first_nonzero, with_zeros, with_size, or_padding, head_of, records_at, level1_at, level2_at}
-use Rattle.vtd_index.specs.Heads.{level3_at, level4_at, level5_at}
+use Rattle.vtd_index.specs.Heads.{slice, begins, spare_at, document_at, head_in, end_of, first_nonzero, with_zeros, with_size, or_padding, head_from, head_of}
+use Rattle.vtd_index.specs.Heads.{records_at, level1_at, level2_at, level3_at, level4_at, level5_at}
+
+-- what a file of a version begins with, and its lengths
+pub record HeadAt (version : Version) (file : List ℕ) (h : Head) : Type 0 where
+  pub long : document_at version ≤ length file
+  pub magic : begins version file ≡ true
+  pub is : h ≡ head_in version file
+  pub spare : first_nonzero (spare_at version) (slice (spare_at version) 4 file) ≡ None
 
 pub record IsHead (file : List ℕ) (h : Head) : Type 0 where
-  pub long : 40 ≤ length file
-  pub magic : bytes_eq (codes "VTDIDX02") (take 8 file) ≡ true
-  pub is : h ≡ head_in file
+  pub front : HeadAt h.version file h
   pub short : h.document < 2 ^ 30
   pub fills : length file ≡ end_of h
-  pub spare : first_nonzero 36 (slice 36 4 file) ≡ None
-  pub padding : first_nonzero (40 + h.document) (slice (40 + h.document) (padded h.document - h.document) file) ≡ None
+  pub padding : first_nonzero (document_at h.version + h.document) (slice (document_at h.version + h.document) (padded h.document - h.document) file) ≡ None
 
 record Passed (b : Bool) (r : Result Head IndexFault) (h : Head) : Type 0 where
   pub test : b ≡ false
@@ -51,27 +56,72 @@ past_zeros None r h e = record { test = refl; rest = e }
 same_ok : (g h : Head) → ◌≡◌ {A = Result Head IndexFault} (Ok g) (Ok h) → g ≡ h
 same_ok g h e = cc
 
-sized : (file : List ℕ) (g h : Head) → with_size file g ≡ Ok h → 40 ≤ length file → bytes_eq (codes "VTDIDX02") (take 8 file) ≡ true
-    → g ≡ head_in file → IsHead file h
+sized : (file : List ℕ) (g h : Head) → with_size file g ≡ Ok h → document_at g.version ≤ length file → begins g.version file ≡ true
+    → g ≡ head_in g.version file → IsHead file h
 sized file g h e long magic is =
     let a = past (nat_lt 1073741823 g.document) Size (cond (length file == end_of g) (with_zeros file g) (Err Size)) h e in
     let b = met (length file == end_of g) Size (with_zeros file g) h a.rest in
-    let spare = first_nonzero 36 (slice 36 4 file) in
-    let padding = first_nonzero (40 + g.document) (slice (40 + g.document) (padded g.document - g.document) file) in
+    let spare = first_nonzero (spare_at g.version) (slice (spare_at g.version) 4 file) in
+    let start = document_at g.version + g.document in
+    let padding = first_nonzero start (slice start (padded g.document - g.document) file) in
     let c = past_zeros spare (or_padding padding (Ok g)) h b.rest in
     let d = past_zeros padding (Ok g) h c.rest in
     let short : g.document < 2 ^ 30 = grind (arith, nat_tests, a.test) in
     let fills : length file ≡ end_of g = grind (arith, nat_tests, b.test) in
     let P : Head → Type 0 = λ x. IsHead file x in
-    subst P (same_ok g h d.rest) (record { long = long; magic = magic; is = is; short = short; fills = fills; spare = c.test; padding = d.test })
+    subst P (same_ok g h d.rest)
+    (record { front = record { long = long; magic = magic; is = is; spare = c.test }; short = short; fills = fills; padding = d.test })
+
+headed : (v : Version) (file : List ℕ) (h : Head) → head_from v file ≡ Ok h → begins v file ≡ true → IsHead file h
+headed One file h e magic =
+    let c = past (nat_lt (length file) 32) Short _ h e in
+    let long : 32 ≤ length file = grind (arith, nat_tests, c.test) in
+    sized file (head_in One file) h c.rest long magic refl
+headed Two file h e magic =
+    let c = past (nat_lt (length file) 40) Short _ h e in
+    let long : 40 ≤ length file = grind (arith, nat_tests, c.test) in
+    sized file (head_in Two file) h c.rest long magic refl
 
 pub is_head : (file : List ℕ) (h : Head) → head_of file ≡ Ok h → IsHead file h
-is_head file h e =
-    let a = past (nat_lt (length file) 32) Short _ h e in
-    let b = met (bytes_eq (codes "VTDIDX02") (take 8 file)) Magic _ h a.rest in
-    let c = past (nat_lt (length file) 40) Short _ h b.rest in
-    let long : 40 ≤ length file = grind (arith, nat_tests, c.test) in
-    sized file (head_in file) h c.rest long b.test refl
+is_head file h e = by_first (begins One file) refl (past (nat_lt (length file) 32) Short _ h e).rest
+  where
+    by_first : (t : Bool) → begins One file ≡ t → cond t (head_from One file) (cond (begins Two file) (head_from Two file) (Err Magic)) ≡ Ok h
+        → IsHead file h
+    by_first true b r = headed One file h r b
+    by_first false b r = let m = met (begins Two file) Magic (head_from Two file) h r in headed Two file h m.rest m.test
+
+-- the lengths of words are multiples
+abbrev Multiple : ℕ → ℕ → Type 0
+Multiple n x = (k : ℕ) × x ≡ n * k
+
+pub record Whole (h : Head) : Type 0 where
+  pub records : Multiple 8 h.records
+  pub level1 : Multiple 8 h.level1
+  pub level2 : Multiple 8 h.level2
+  pub level3 : Multiple 8 h.level3
+  pub level4 : Multiple 8 h.level4
+  pub level5 : Multiple 4 h.level5
+
+whole_in : (v : Version) (file : List ℕ) (h : Head) → h ≡ head_in v file → Whole h
+whole_in One file h e = record {
+  records = (number 4 (drop 12 file), ap (λ (x : Head). x.records) e);
+  level1 = (number 4 (drop 16 file), ap (λ (x : Head). x.level1) e);
+  level2 = (number 4 (drop 20 file), ap (λ (x : Head). x.level2) e);
+  level3 = (0, ap (λ (x : Head). x.level3) e);
+  level4 = (0, ap (λ (x : Head). x.level4) e);
+  level5 = (number 4 (drop 24 file), ap (λ (x : Head). x.level5) e);
+}
+whole_in Two file h e = record {
+  records = (number 4 (drop 12 file), ap (λ (x : Head). x.records) e);
+  level1 = (number 4 (drop 16 file), ap (λ (x : Head). x.level1) e);
+  level2 = (number 4 (drop 20 file), ap (λ (x : Head). x.level2) e);
+  level3 = (number 4 (drop 24 file), ap (λ (x : Head). x.level3) e);
+  level4 = (number 4 (drop 28 file), ap (λ (x : Head). x.level4) e);
+  level5 = (number 4 (drop 32 file), ap (λ (x : Head). x.level5) e);
+}
+
+pub whole : (file : List ℕ) (h : Head) → IsHead file h → Whole h
+whole file h i = whole_in h.version file h i.front.is
 
 -- a part has the length that it is cut to
 pub length_slice : (at n : ℕ) (bytes : List ℕ) → at + n ≤ length bytes → length (slice at n bytes) ≡ n
@@ -92,14 +142,16 @@ are_short at n k bytes within few e =
 pub can_view : (file : List ℕ) (h : Head) → IsHead file h → length file < 2 ^ 32
     → CanView (slice (records_at h) h.records file) (slice (level1_at h) h.level1 file) (slice (level2_at h) h.level2 file)
     (slice (level3_at h) h.level3 file) (slice (level4_at h) h.level4 file) (slice (level5_at h) h.level5 file)
-can_view file h i few = record {
-  records = are_long _ _ (number 4 (drop 12 file)) file (omega (arith, i.fills)) few (ap (λ (x : Head). x.records) i.is);
-  level1 = are_long _ _ (number 4 (drop 16 file)) file (omega (arith, i.fills)) few (ap (λ (x : Head). x.level1) i.is);
-  level2 = are_long _ _ (number 4 (drop 20 file)) file (omega (arith, i.fills)) few (ap (λ (x : Head). x.level2) i.is);
-  level3 = are_long _ _ (number 4 (drop 24 file)) file (omega (arith, i.fills)) few (ap (λ (x : Head). x.level3) i.is);
-  level4 = are_long _ _ (number 4 (drop 28 file)) file (omega (arith, i.fills)) few (ap (λ (x : Head). x.level4) i.is);
-  level5 = are_short _ _ (number 4 (drop 32 file)) file (omega (arith, i.fills)) few (ap (λ (x : Head). x.level5) i.is);
-}
+can_view file h i few =
+    let w = whole file h i in
+    record {
+      records = are_long _ _ w.records.0 file (omega (arith, i.fills)) few w.records.1;
+      level1 = are_long _ _ w.level1.0 file (omega (arith, i.fills)) few w.level1.1;
+      level2 = are_long _ _ w.level2.0 file (omega (arith, i.fills)) few w.level2.1;
+      level3 = are_long _ _ w.level3.0 file (omega (arith, i.fills)) few w.level3.1;
+      level4 = are_long _ _ w.level4.0 file (omega (arith, i.fills)) few w.level4.1;
+      level5 = are_short _ _ w.level5.0 file (omega (arith, i.fills)) few w.level5.1;
+    }
 
 -- the first byte that is not zero, as a search for it finds it
 nonzero_at : (n i m : ℕ) (bs : List ℕ) → i < length bs → not (get_or bs i 0 == 0) ≡ true → ((k : ℕ) → k < i → not (get_or bs k 0 == 0) ≡ false) → m ≡ n + i
@@ -147,16 +199,16 @@ none_nonzero n bs e = by_test (nat_lt (position_or_len (λ (b : ℕ). not (b == 
     by_test false t h = all_pass n bs (grind (arith, nat_tests, t))
 
 -- what the tests of bytes that are to be zero answer
-pub nonzero_spare : (file : List ℕ) (h : Head) (at : ℕ) → first_nonzero 36 (slice 36 4 file) ≡ Some at
+pub nonzero_spare : (file : List ℕ) (h : Head) (at : ℕ) → first_nonzero (spare_at h.version) (slice (spare_at h.version) 4 file) ≡ Some at
     → ◌≡◌ {A = Result Head IndexFault} (Err (Padding at)) (with_zeros file h)
 nonzero_spare file h at e = rw e refl
 
-pub nonzero_padding : (file : List ℕ) (h : Head) (at : ℕ) → first_nonzero 36 (slice 36 4 file) ≡ None
-    → first_nonzero (40 + h.document) (slice (40 + h.document) (padded h.document - h.document) file) ≡ Some at
+pub nonzero_padding : (file : List ℕ) (h : Head) (at : ℕ) → first_nonzero (spare_at h.version) (slice (spare_at h.version) 4 file) ≡ None
+    → first_nonzero (document_at h.version + h.document) (slice (document_at h.version + h.document) (padded h.document - h.document) file) ≡ Some at
     → ◌≡◌ {A = Result Head IndexFault} (Err (Padding at)) (with_zeros file h)
 nonzero_padding file h at d e = rw (d, e) refl
 
-pub all_zeros : (file : List ℕ) (h : Head) → first_nonzero 36 (slice 36 4 file) ≡ None
-    → first_nonzero (40 + h.document) (slice (40 + h.document) (padded h.document - h.document) file) ≡ None
+pub all_zeros : (file : List ℕ) (h : Head) → first_nonzero (spare_at h.version) (slice (spare_at h.version) 4 file) ≡ None
+    → first_nonzero (document_at h.version + h.document) (slice (document_at h.version + h.document) (padded h.document - h.document) file) ≡ None
     → ◌≡◌ {A = Result Head IndexFault} (Ok h) (with_zeros file h)
 all_zeros file h d e = rw (d, e) refl

@@ -5,6 +5,9 @@ pub mod Written
 pub mod Prefixes
 pub mod Reading
 pub mod Differing
+pub mod Versions
 pub mod Documents
 pub mod Fitting
 pub mod Verdicts
+pub mod Checks
+pub mod Opens

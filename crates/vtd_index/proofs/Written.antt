@@ -1,17 +1,23 @@
--- A file whose head has no fault is that of its document and its words.
-use Rattle.std.proofs.Common.{◌≡◌, ℕ, zero, suc, ◌+◌, ◌-◌, ◌*◌, ◌≤◌, Bool, true, false, cond, ◌==◌, List, [], ◌∷◌, ◌++◌, length, take, drop, codes}
+-- A file whose head has no fault is that of its document and its words, by the layout of its version.
+use Rattle.std.proofs.Common.{◌≡◌, ℕ, zero, suc, ◌+◌, ◌-◌, ◌*◌, ◌≤◌, Bool, true, false, cond, ◌==◌, List, [], ◌∷◌, ◌++◌, length, take, drop}
 use Rattle.std.proofs.Common.{Some, None, refl, ap, sym, ◌∙◌, arith, replicate}
 use Rattle.std.specs.Prelude.{bytes_eq}
 use Rattle.std.proofs.lemmas.List.{length-drop, take-append-drop, drop-drop}
 use Rattle.std.proofs.lemmas.Bool.Decides.{nat_tests}
 use Rattle.std.proofs.lemmas.Slice.Eq.{bytes_eq-Decides}
 use Rattle.vtd_words.specs.Numbers.{number, number_bytes, bytes_of, words_in, AreBytes}
+use Rattle.std.specs.List.{concat}
+use Rattle.vtd_words.specs.Lists.{Lists}
 use Rattle.vtd_words.proofs.Back.{take_bytes, drop_bytes, number_back, words_back}
 use Rattle.vtd_words.proofs.Numbered.{length_words}
 use Rattle.vtd_index.specs.declared.head.Head.{Head}
-use Rattle.vtd_index.specs.Layout.{padded, file_of}
-use Rattle.vtd_index.specs.Heads.{slice, first_nonzero, end_of, records_at, level1_at, level2_at, level3_at, level4_at, level5_at, document_in, lists_at}
-use Rattle.vtd_index.proofs.Heads.{IsHead, length_slice}
+use Rattle.vtd_index.specs.declared.head.Version.{Version}
+use Rattle.vtd_index.specs.declared.head.Version.TheVariants.{One, Two}
+use Rattle.vtd_index.specs.Layout.{padded, file_of, file_one}
+use Rattle.vtd_index.specs.Holding.{file_by, Shape}
+use Rattle.vtd_index.specs.Heads.{slice, magic, document_at, first_nonzero, end_of, records_at, level1_at, level2_at, level3_at, level4_at, level5_at}
+use Rattle.vtd_index.specs.Heads.{document_in, lists_at}
+use Rattle.vtd_index.proofs.Heads.{HeadAt, IsHead, length_slice, whole}
 
 -- a part, and what is after it
 piece : (p n q : ℕ) (file x rest : List ℕ) → q ≡ p + n → slice p n file ≡ x → drop q file ≡ rest → drop p file ≡ x ++ rest
@@ -43,9 +49,9 @@ unfolding slice
 slice_bytes p n file a = take_bytes n (drop p file) (drop_bytes p file a)
 
 -- what the file begins with
-magic_part : (file : List ℕ) → bytes_eq (codes "VTDIDX02") (take 8 file) ≡ true → slice 0 8 file ≡ codes "VTDIDX02"
+magic_part : (x file : List ℕ) → bytes_eq x (take 8 file) ≡ true → slice 0 8 file ≡ x
 unfolding slice
-magic_part file e = sym ((bytes_eq-Decides (codes "VTDIDX02") (take 8 file)).0 e)
+magic_part x file e = sym ((bytes_eq-Decides x (take 8 file)).0 e)
 
 -- a number of the head
 stored_number : (n p x : ℕ) (file : List ℕ) → AreBytes file → p + n ≤ length file → number n (drop p file) ≡ x → slice p n file ≡ number_bytes n x
@@ -83,9 +89,68 @@ zero_part p n m file within e d =
     let l = length_slice p n file within in
     zeros p (slice p n file) d ∙ ap (λ (k : ℕ). replicate k 0) (l ∙ sym e)
 
-pub is_file : (file : List ℕ) (h : Head) → AreBytes file → IsHead file h → file ≡ file_of (document_in file h) (lists_at file h)
-unfolding file_of
-is_file file h a i =
+-- what is after the head, in both versions: the document with its zeros, and the words
+abbrev pub body_of : List ℕ → Lists → List ℕ
+body_of bytes words = concat (
+    bytes
+    ∷ replicate (padded (length bytes) - length bytes) 0
+    ∷ bytes_of 8 words.records
+    ∷ bytes_of 8 words.level1
+    ∷ bytes_of 8 words.level2
+    ∷ bytes_of 8 words.level3
+    ∷ bytes_of 8 words.level4
+    ∷ bytes_of 4 words.level5
+    ∷ [])
+
+is_body : (file : List ℕ) (h : Head) → AreBytes file → IsHead file h → drop (document_at h.version) file ≡ body_of (document_in file h) (lists_at file h)
+is_body file h a i =
+    let w = whole file h i in
+    let all : length file ≡ end_of h = i.fills in
+    let s : ℕ = document_at h.version in
+    let doc : length (slice s h.document file) ≡ h.document = length_slice s h.document file (omega arith) in
+    piece s h.document (s + h.document) file _ _ refl refl
+    (piece (s + h.document) (padded h.document - h.document) (records_at h) file _ _ (omega arith)
+    (zero_part _ _ _ file (omega arith) (ap (λ (n : ℕ). padded n - n) doc) i.padding)
+    (piece (records_at h) h.records (level1_at h) file _ _ refl (long_part _ _ _ file a (omega arith) w.records.1)
+    (piece (level1_at h) h.level1 (level2_at h) file _ _ refl (long_part _ _ _ file a (omega arith) w.level1.1)
+    (piece (level2_at h) h.level2 (level3_at h) file _ _ refl (long_part _ _ _ file a (omega arith) w.level2.1)
+    (piece (level3_at h) h.level3 (level4_at h) file _ _ refl (long_part _ _ _ file a (omega arith) w.level3.1)
+    (piece (level4_at h) h.level4 (level5_at h) file _ _ refl (long_part _ _ _ file a (omega arith) w.level4.1)
+    (piece (level5_at h) h.level5 (end_of h) file _ _ refl (short_part _ _ _ file a (omega arith) w.level5.1)
+    (nothing (end_of h) file all))))))))
+
+-- no bytes hold no words
+none_in : (p n : ℕ) (file : List ℕ) → n ≡ 0 → words_in 8 (slice p n file) ≡ []
+unfolding slice words_in
+none_in p n file e = rw e refl
+
+-- the first version has no third and no fourth level in the places of the second
+pub shaped : (v : Version) (file : List ℕ) (h : Head) → HeadAt v file h → Shape v (lists_at file h)
+shaped One file h i =
+    rw (none_in (level3_at h) h.level3 file (ap (λ (x : Head). x.level3) i.is), none_in (level4_at h) h.level4 file (ap (λ (x : Head). x.level4) i.is)) refl
+shaped Two file h i = tt
+
+-- by the version of the head
+written_by : (v : Version) (file : List ℕ) (h : Head) → AreBytes file → length file ≡ end_of h → document_at h.version ≡ document_at v → HeadAt v file h
+    → drop (document_at v) file ≡ body_of (document_in file h) (lists_at file h) → file ≡ file_by v (document_in file h) (lists_at file h)
+unfolding file_of file_one
+written_by One file h a all same i rest =
+    let document : h.document ≡ number 4 (drop 8 file) = ap (λ (x : Head). x.document) i.is in
+    let records : h.records ≡ 8 * number 4 (drop 12 file) = ap (λ (x : Head). x.records) i.is in
+    let level1 : h.level1 ≡ 8 * number 4 (drop 16 file) = ap (λ (x : Head). x.level1) i.is in
+    let level2 : h.level2 ≡ 8 * number 4 (drop 20 file) = ap (λ (x : Head). x.level2) i.is in
+    let level5 : h.level5 ≡ 4 * number 4 (drop 24 file) = ap (λ (x : Head). x.level5) i.is in
+    let long = i.long in
+    let doc : length (document_in file h) ≡ h.document = length_slice (document_at h.version) h.document file (omega arith) in
+    let shape = ap (λ (w : Lists). body_of (document_in file h) w) (shaped One file h i) in
+    piece 0 8 8 file _ _ refl (magic_part (magic One) file i.magic)
+    (piece 8 4 12 file _ _ refl (stored_number 4 8 _ file a (omega arith) (sym document ∙ sym doc))
+    (piece 12 4 16 file _ _ refl (stored_number 4 12 _ file a (omega arith) (count_long (records_at h) h.records _ file (omega arith) records))
+    (piece 16 4 20 file _ _ refl (stored_number 4 16 _ file a (omega arith) (count_long (level1_at h) h.level1 _ file (omega arith) level1))
+    (piece 20 4 24 file _ _ refl (stored_number 4 20 _ file a (omega arith) (count_long (level2_at h) h.level2 _ file (omega arith) level2))
+    (piece 24 4 28 file _ _ refl (stored_number 4 24 _ file a (omega arith) (count_short (level5_at h) h.level5 _ file (omega arith) level5))
+    (piece 28 4 32 file _ _ refl (zero_part 28 4 4 file (omega arith) refl i.spare) (rest ∙ shape)))))))
+written_by Two file h a all same i rest =
     let document : h.document ≡ number 4 (drop 8 file) = ap (λ (x : Head). x.document) i.is in
     let records : h.records ≡ 8 * number 4 (drop 12 file) = ap (λ (x : Head). x.records) i.is in
     let level1 : h.level1 ≡ 8 * number 4 (drop 16 file) = ap (λ (x : Head). x.level1) i.is in
@@ -93,9 +158,9 @@ is_file file h a i =
     let level3 : h.level3 ≡ 8 * number 4 (drop 24 file) = ap (λ (x : Head). x.level3) i.is in
     let level4 : h.level4 ≡ 8 * number 4 (drop 28 file) = ap (λ (x : Head). x.level4) i.is in
     let level5 : h.level5 ≡ 4 * number 4 (drop 32 file) = ap (λ (x : Head). x.level5) i.is in
-    let all : length file ≡ end_of h = i.fills in
-    let doc : length (slice 40 h.document file) ≡ h.document = length_slice 40 h.document file (omega arith) in
-    piece 0 8 8 file _ _ refl (magic_part file i.magic)
+    let long = i.long in
+    let doc : length (document_in file h) ≡ h.document = length_slice (document_at h.version) h.document file (omega arith) in
+    piece 0 8 8 file _ _ refl (magic_part (magic Two) file i.magic)
     (piece 8 4 12 file _ _ refl (stored_number 4 8 _ file a (omega arith) (sym document ∙ sym doc))
     (piece 12 4 16 file _ _ refl (stored_number 4 12 _ file a (omega arith) (count_long (records_at h) h.records _ file (omega arith) records))
     (piece 16 4 20 file _ _ refl (stored_number 4 16 _ file a (omega arith) (count_long (level1_at h) h.level1 _ file (omega arith) level1))
@@ -103,14 +168,7 @@ is_file file h a i =
     (piece 24 4 28 file _ _ refl (stored_number 4 24 _ file a (omega arith) (count_long (level3_at h) h.level3 _ file (omega arith) level3))
     (piece 28 4 32 file _ _ refl (stored_number 4 28 _ file a (omega arith) (count_long (level4_at h) h.level4 _ file (omega arith) level4))
     (piece 32 4 36 file _ _ refl (stored_number 4 32 _ file a (omega arith) (count_short (level5_at h) h.level5 _ file (omega arith) level5))
-    (piece 36 4 40 file _ _ refl (zero_part 36 4 4 file (omega arith) refl i.spare)
-    (piece 40 h.document (40 + h.document) file _ _ refl refl
-    (piece (40 + h.document) (padded h.document - h.document) (records_at h) file _ _ (omega arith)
-    (zero_part _ _ _ file (omega arith) (ap (λ (n : ℕ). padded n - n) doc) i.padding)
-    (piece (records_at h) h.records (level1_at h) file _ _ refl (long_part _ _ _ file a (omega arith) records)
-    (piece (level1_at h) h.level1 (level2_at h) file _ _ refl (long_part _ _ _ file a (omega arith) level1)
-    (piece (level2_at h) h.level2 (level3_at h) file _ _ refl (long_part _ _ _ file a (omega arith) level2)
-    (piece (level3_at h) h.level3 (level4_at h) file _ _ refl (long_part _ _ _ file a (omega arith) level3)
-    (piece (level4_at h) h.level4 (level5_at h) file _ _ refl (long_part _ _ _ file a (omega arith) level4)
-    (piece (level5_at h) h.level5 (end_of h) file _ _ refl (short_part _ _ _ file a (omega arith) level5)
-    (nothing (end_of h) file all)))))))))))))))))
+    (piece 36 4 40 file _ _ refl (zero_part 36 4 4 file (omega arith) refl i.spare) rest))))))))
+
+pub is_file : (file : List ℕ) (h : Head) → AreBytes file → IsHead file h → file ≡ file_by h.version (document_in file h) (lists_at file h)
+is_file file h a i = written_by h.version file h a i.fills refl i.front (is_body file h a i)

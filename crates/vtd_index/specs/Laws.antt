@@ -5,21 +5,27 @@ use Rattle.xml_model.specs.Nest.{Forest}
 use Rattle.vtd_words.specs.Numbers.{AreBytes}
 use Rattle.vtd_index.specs.declared.faults.IndexFault.{IndexFault}
 use Rattle.vtd_index.specs.declared.faults.IndexFault.TheVariants.{Short, Size}
-use Rattle.vtd_index.specs.Index.{index_of, IsFault, IsIndexFile, IsIndexOf}
+use Rattle.vtd_index.specs.declared.head.Version.{Version}
+use Rattle.vtd_index.specs.Heads.{document_at}
+use Rattle.vtd_index.specs.Index.{index_by, IsFault, IsIndexBy, IsIndexFile, IsIndexOf, IsIndexOneOf}
 
--- each document that is accepted, of fewer than 2 to the power 30 bytes, has an index file
+-- each document that is accepted, of fewer than 2 to the power 30 bytes, has an index file of each version
 abbrev pub SomeIndex : Type 0
 SomeIndex =
-    (bytes : List ℕ) (nest : Forest) → length bytes < 2 ^ 30 → Accepted 8 bytes nest →
-    IsIndexOf (index_of bytes nest) bytes
+    (version : Version) (bytes : List ℕ) (nest : Forest) → length bytes < 2 ^ 30 → Accepted 8 bytes nest →
+    IsIndexBy version (index_by version bytes nest) bytes
 
--- and it has one alone
+-- and it has one alone of each
 abbrev pub OneIndex : Type 0
-OneIndex = (bytes f g : List ℕ) → IsIndexOf f bytes → IsIndexOf g bytes → f ≡ g
+OneIndex = (version : Version) (bytes f g : List ℕ) → IsIndexBy version f bytes → IsIndexBy version g bytes → f ≡ g
 
 -- the index file of a document is that of no other
 abbrev pub OneDocument : Type 0
-OneDocument = (file a b : List ℕ) → IsIndexOf file a → IsIndexOf file b → a ≡ b
+OneDocument = (version : Version) (file a b : List ℕ) → IsIndexBy version file a → IsIndexBy version file b → a ≡ b
+
+-- no file is an index file of both versions
+abbrev pub OneVersion : Type 0
+OneVersion = (file a b : List ℕ) → IsIndexOneOf file a → IsIndexOf file b → ⊥
 
 -- no file is an index file and has a fault
 abbrev pub NotBoth : Type 0
@@ -37,8 +43,8 @@ Answer file = IsIndexFile file ⊎ ((fault : IndexFault) × IsFault file fault)
 abbrev pub SomeAnswer : Type 0
 SomeAnswer = (file : List ℕ) → AreBytes file → Answer file
 
--- a proper prefix of an index file is too short, or has another length than its head tells
+-- a proper prefix of an index file is too short for the head of its version, or has another length than its head tells
 abbrev pub PrefixesRefused : Type 0
 PrefixesRefused =
-    (file bytes : List ℕ) (n : ℕ) → IsIndexOf file bytes → n < length file →
-    IsFault (take n file) (cond (nat_lt n 40) Short Size)
+    (version : Version) (file bytes : List ℕ) (n : ℕ) → IsIndexBy version file bytes → n < length file →
+    IsFault (take n file) (cond (nat_lt n (document_at version)) Short Size)

@@ -1,6 +1,7 @@
--- The index file of a document and its words (this project's own).
+-- The index files of a document and its words, of two versions (this project's own).
 use Rattle.std.specs.Prelude.{ℕ, ◌+◌, ◌-◌, ◌*◌, ◌/◌, List, [], ◌∷◌, length, replicate, codes}
 use Rattle.std.specs.List.{concat}
+use Rattle.xml_model.specs.Levels.{LevelsOne}
 use Rattle.vtd_words.specs.Lists.{Lists}
 use Rattle.vtd_words.specs.Numbers.{number_bytes, bytes_of}
 
@@ -29,4 +30,23 @@ file_of bytes words = concat (
     ∷ bytes_of 8 words.level3
     ∷ bytes_of 8 words.level4
     ∷ bytes_of 4 words.level5
+    ∷ [])
+
+-- The file of the first version, of bytes, records and three levels: the lengths have 4 bytes, and so has a word of the
+-- third level; any other word has 8.
+unfoldable pub file_one : List ℕ → List ℕ → LevelsOne → List ℕ
+file_one bytes records levels = concat (
+    codes "VTDIDX01"
+    ∷ number_bytes 4 (length bytes)
+    ∷ number_bytes 4 (length records)
+    ∷ number_bytes 4 (length levels.level1)
+    ∷ number_bytes 4 (length levels.level2)
+    ∷ number_bytes 4 (length levels.level3)
+    ∷ replicate 4 0
+    ∷ bytes
+    ∷ replicate (padded (length bytes) - length bytes) 0
+    ∷ bytes_of 8 records
+    ∷ bytes_of 8 levels.level1
+    ∷ bytes_of 8 levels.level2
+    ∷ bytes_of 4 levels.level3
     ∷ [])

@@ -5,5 +5,7 @@ pub mod Heads
 pub mod Holding
 pub mod Index
 pub mod Loading
+pub mod Answers
+pub mod Opening
 pub mod Comparing
 pub mod Laws

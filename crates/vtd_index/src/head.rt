@@ -2,8 +2,10 @@
 
 ghost use Rattle.std.specs.Prelude.{◌≡◌, ◌+◌, ◌-◌, ◌*◌, ◌≤◌, ◌<◌, ◌^◌, ◌==◌, length, drop, not, position, Ok};
 ghost use Rattle.vtd_words.specs.Numbers.{number};
-ghost use Rattle.vtd_index.specs.Heads.{document_in, end_of, first_nonzero, head_in, head_of, lists_at, records_at};
-ghost use Rattle.vtd_index.specs.Heads.{slice, with_size, with_zeros};
+ghost use Rattle.vtd_index.specs.Heads.{document_at, document_in, end_of, first_nonzero, head_from, head_in, head_of};
+ghost use Rattle.vtd_index.specs.Heads.{level1_at, level2_at, level5_at, lists_at, records_at, slice, spare_at};
+ghost use Rattle.vtd_index.specs.Heads.{with_size, with_zeros};
+ghost use Rattle.vtd_index.specs.declared.head.Version.TheVariants.{One, Two};
 
 use crate::faults::IndexFault;
 use crate::pieces::{MAGIC, padded_len};
@@ -12,15 +14,25 @@ use vtd_words::{WordView, short_from};
 /// The greatest length of a document, in bytes.
 const LONGEST: usize = 1_073_741_823;
 
-/// Where the spare bytes begin.
-const SPARE: usize = 36;
+/// What an index file of the first version begins with.
+const MAGIC_ONE: &[u8] = b"VTDIDX01";
 
-/// Where the document begins.
-const DOCUMENT: usize = 40;
+/// How many spare bytes there are.
+const SPARE: usize = 4;
 
-/// How many bytes each part of an index file has.
+/// Which layout an index file has.
+#[derive(Clone, Copy)]
+pub enum Version {
+    /// Three levels, read and no longer written.
+    One,
+    /// Five levels.
+    Two,
+}
+
+/// How many bytes each part of an index file has. The last level of the first version is in place of the fifth.
 #[derive(Clone, Copy)]
 pub struct Head {
+    pub version: Version,
     pub document: usize,
     pub records: usize,
     pub level1: usize,
@@ -66,13 +78,51 @@ fn first_nonzero(file: &[u8], at: usize, len: usize) -> Option<u32>
     }
 }
 
-/// The lengths that the head tells.
-fn head_in(file: &[u8]) -> Head
-    requires { 40 ≤ length file.now }
-    ensures value { result ≡ head_in file.now }
+/// Where the spare bytes of a version begin.
+fn spare_start(version: Version) -> usize
+    ensures value { result ≡ spare_at version }
+    ensures small { result ≤ 36 }
+{
+    match version {
+        Version::One => 28,
+        Version::Two => 36,
+    }
+}
+
+/// Where the document begins.
+fn document_start(version: Version) -> usize
+    ensures value { result ≡ document_at version }
+    ensures small { result ≤ 40 }
+{
+    spare_start(version) + SPARE
+}
+
+/// The lengths that the head of a file of the first version tells.
+fn head_one(file: &[u8]) -> Head
+    requires { 32 ≤ length file.now }
+    ensures value { result ≡ head_in One file.now }
     ensures small { end_of result < 2 ^ 63 }
 {
     Head {
+        version: Version::One,
+        document: number_at(file, 8),
+        records: 8 * number_at(file, 12),
+        level1: 8 * number_at(file, 16),
+        level2: 8 * number_at(file, 20),
+        level3: 0,
+        level4: 0,
+        level5: 4 * number_at(file, 24),
+    }
+}
+
+/// The lengths that the head of a file of the second version tells.
+fn head_two(file: &[u8]) -> Head
+    requires { 40 ≤ length file.now }
+    ensures value { result ≡ head_in Two file.now }
+    ensures small { end_of result < 2 ^ 63 }
+{
+    Head {
+        version: Version::Two,
         document: number_at(file, 8),
         records: 8 * number_at(file, 12),
         level1: 8 * number_at(file, 16),
@@ -83,12 +133,24 @@ fn head_in(file: &[u8]) -> Head
     }
 }
 
+/// The lengths that the head of a file of a version tells.
+fn head_in(version: Version, file: &[u8]) -> Head
+    requires { document_at version ≤ length file.now }
+    ensures value { result ≡ head_in version file.now }
+    ensures small { end_of result < 2 ^ 63 }
+{
+    match version {
+        Version::One => head_one(file),
+        Version::Two => head_two(file),
+    }
+}
+
 /// Where the records begin.
 fn records_start(head: &Head) -> usize
     requires { end_of head.now < 2 ^ 63 }
     ensures { result ≡ records_at head.now }
 {
-    DOCUMENT + padded_len(head.document)
+    document_start(head.version) + padded_len(head.document)
 }
 
 /// How many bytes a file with that head has.
@@ -111,10 +173,10 @@ fn with_zeros(file: &[u8], head: Head) -> Result<Head, IndexFault>
     requires size { length file.now ≡ end_of head }
     ensures { result ≡ with_zeros file.now head }
 {
-    if let Some(at) = first_nonzero(file, SPARE, DOCUMENT - SPARE) {
+    if let Some(at) = first_nonzero(file, spare_start(head.version), SPARE) {
         return Err(IndexFault::Padding { at });
     }
-    let past = DOCUMENT + head.document;
+    let past = document_start(head.version) + head.document;
     if let Some(at) = first_nonzero(file, past, records_start(&head) - past) {
         return Err(IndexFault::Padding { at });
     }
@@ -133,6 +195,17 @@ fn with_size(file: &[u8], head: Head) -> Result<Head, IndexFault>
     with_zeros(file, head)
 }
 
+/// The head of a file of a version, or the first fault.
+fn head_from(version: Version, file: &[u8]) -> Result<Head, IndexFault>
+    requires { length file.now < 2 ^ 32 }
+    ensures { result ≡ head_from version file.now }
+{
+    if file.len() < document_start(version) {
+        return Err(IndexFault::Short);
+    }
+    with_size(file, head_in(version, file))
+}
+
 /// The head of a file, or the first fault that shows before the document is read.
 pub fn read_head(file: &[u8]) -> Result<Head, IndexFault>
     requires { length file.now < 2 ^ 32 }
@@ -141,13 +214,13 @@ pub fn read_head(file: &[u8]) -> Result<Head, IndexFault>
     if file.len() < 32 {
         return Err(IndexFault::Short);
     }
-    if !file.starts_with(MAGIC) {
-        return Err(IndexFault::Magic);
+    if file.starts_with(MAGIC_ONE) {
+        return head_from(Version::One, file);
     }
-    if file.len() < DOCUMENT {
-        return Err(IndexFault::Short);
+    if file.starts_with(MAGIC) {
+        return head_from(Version::Two, file);
     }
-    with_size(file, head_in(file))
+    Err(IndexFault::Magic)
 }
 
 /// The document in a file.
@@ -155,7 +228,7 @@ pub fn document<'a>(file: &'a [u8], head: &Head) -> &'a [u8]
     requires { head_of file.now ≡ Ok head.now }
     ensures { result.now ≡ document_in file.now head.now }
 {
-    part(file, DOCUMENT, head.document)
+    part(file, document_start(head.version), head.document)
 }
 
 /// The words in a file, which stay where they lie.
@@ -182,4 +255,21 @@ pub fn words<'a>(file: &'a [u8], head: &Head) -> WordView<'a>
         Some(view) => view,
         None => unreachable!(),
     }
+}
+
+/// The first two levels in a file and the last one, as they lie in it.
+pub fn outer_levels<'a>(file: &'a [u8], head: &Head) -> (&'a [u8], &'a [u8], &'a [u8])
+    requires { head_of file.now ≡ Ok head.now }
+    ensures one { result.0.now ≡ slice (level1_at head.now) head.now.level1 file.now }
+    ensures two { result.1.now ≡ slice (level2_at head.now) head.now.level2 file.now }
+    ensures last { result.2.now ≡ slice (level5_at head.now) head.now.level5 file.now }
+{
+    let level1 = records_start(head) + head.records;
+    let level2 = level1 + head.level1;
+    let level5 = level2 + head.level2 + head.level3 + head.level4;
+    (
+        part(file, level1, head.level1),
+        part(file, level2, head.level2),
+        part(file, level5, head.level5),
+    )
 }

@@ -8,11 +8,13 @@ mod faults;
 mod head;
 pub mod laws;
 mod numbers;
+mod opening;
 mod parts;
 mod pieces;
 mod writing;
 
-pub use checking::check_index;
+pub use checking::{Checked, check_index};
 pub use faults::IndexFault;
-pub use parts::{IndexParts, Loaded};
+pub use opening::{LoadFault, Loaded, Opened, open_index};
+pub use parts::IndexParts;
 pub use writing::{index_length, write_index};

@@ -1,13 +1,8 @@
-//! A document and its words where they lie in an index file, lent or owned.
+//! A document and its words where they lie in an index file.
 
-ghost use Rattle.std.specs.Prelude.{◌≡◌, ◌<◌, ◌^◌, ◌↔◌, length, vec_len, IfOk, IfErr, IsOk};
+ghost use Rattle.std.specs.Prelude.{◌≡◌};
 ghost use Rattle.vtd_builder.specs.Documents.{IsDoc};
-ghost use Rattle.vtd_index.specs.Index.{IsFault, IsIndexFile, IsIndexOf};
-ghost use Rattle.vtd_index.specs.Loading.{held_in};
 
-use crate::checking::check_index;
-use crate::faults::IndexFault;
-use crate::head::{document, read_head, words};
 use std::marker::Model;
 use vtd_location::Nav;
 use vtd_words::{Table, WordView};
@@ -61,53 +56,5 @@ impl<'a> IndexParts<'a> {
         ensures words { result.words ≡ self.now.words }
     {
         Nav::of(Table::of(self.bytes, &self.words))
-    }
-}
-
-/// An index file, with the document and the words in it.
-#[derive(Drop)]
-pub struct Loaded {
-    file: Vec<u8>,
-}
-
-impl Model for Loaded {
-    ghost use Rattle.vtd_builder.specs.Documents.{Document};
-    ghost use Rattle.vtd_index.specs.Loading.{held_in, IsLoaded};
-
-    ghost Value = { Document };
-
-    ghost view = { λ l. held_in l.file.items };
-
-    ghost invariant = { λ l. IsLoaded l.file.items };
-}
-
-impl Loaded {
-    /// The file, where it is the index file of a document. It takes no memory, and copies nothing.
-    ///
-    /// # Errors
-    /// The fault of the file, exactly where it is the index file of no document. The file comes back.
-    pub fn of(file: Vec<u8>) -> Result<Loaded, (Vec<u8>, IndexFault)>
-        requires { vec_len file < 2 ^ 32 }
-        ensures parts { IfOk result (λ loaded. loaded ≡ held_in file.items) }
-        ensures index { IfOk result (λ loaded. IsIndexOf file.items loaded.bytes) }
-        ensures accepted { IsOk result ↔ IsIndexFile file.items }
-        ensures given_back { IfErr result (λ e. e.0 ≡ file) }
-        ensures fault { IfErr result (λ e. IsFault file.items e.1) }
-    {
-        if let Err(fault) = check_index(file.as_slice()) {
-            return Err((file, fault));
-        }
-        Ok(Loaded { file })
-    }
-
-    /// The document and its words, found again by the head of the file alone: nothing is checked a second time.
-    pub fn parts(&self) -> IndexParts<'_>
-        ensures { result ≡ self.now }
-    {
-        let file = self.file.as_slice();
-        match read_head(file) {
-            Ok(head) => IndexParts::of(document(file, &head), words(file, &head)),
-            Err(_) => unreachable!(),
-        }
     }
 }

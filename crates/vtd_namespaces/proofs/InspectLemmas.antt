@@ -19,7 +19,7 @@ use Rattle.vtd_namespaces.specs.Faults.{first_of}
 use Rattle.vtd_namespaces.specs.Offences.{seen_after, IsFine}
 use Rattle.vtd_namespaces.proofs.RepeatLemmas.{no_attribute_there, index_more}
 
-seen_more : (tags : List Tag) (done : List Attribute) (a : Attribute) (seen : List Expanded) → seen_after tags seen (done ++ (a ∷ [])) ≡ seen_with tags a (seen_after tags seen done)
+pub seen_more : (tags : List Tag) (done : List Attribute) (a : Attribute) (seen : List Expanded) → seen_after tags seen (done ++ (a ∷ [])) ≡ seen_with tags a (seen_after tags seen done)
 seen_more tags [] a seen = refl
 seen_more tags (b ∷ done) a seen = seen_more tags done a (seen_with tags b seen)
 
@@ -32,7 +32,7 @@ not_no true h = refl
 not_no false h = absurd (false≢true (sym h))
 
 -- an attribute that does not offend is fine by itself
-fine_from : (tags : List Tag) (seen : List Expanded) (a : Attribute) → attribute_offends tags seen a ≡ false → IsFine tags a
+pub fine_from : (tags : List Tag) (seen : List Expanded) (a : Attribute) → attribute_offends tags seen a ≡ false → IsFine tags a
 fine_from tags seen a h =
     let p = or_parts (not (is_qname a.name)) _ h in
     record { qualified = not_no (is_qname a.name) p.0; bound = bound (declares a.name) p.1 }
@@ -52,7 +52,7 @@ fresh_seen [] left a at seen h = (none_first (list_any (bytes_eq a.name) seen) (
 fresh_seen (b ∷ done) left a at seen h =
     (or_parts (bytes_eq a.name b.name) (list_any (bytes_eq a.name) seen) (fresh_seen done left a (at + size (written_attribute b)) (b.name ∷ seen) (none_first (list_any (bytes_eq b.name) seen) (name_place at b) _ h).1)).1
 
-fresh : (done left : List Attribute) (a : Attribute) (at : ℕ) (seen : List (List ℕ)) → repeated at seen (done ++ (a ∷ left)) ≡ [] → Each (λ b. bytes_eq a.name b.name ≡ false) done
+pub fresh : (done left : List Attribute) (a : Attribute) (at : ℕ) (seen : List (List ℕ)) → repeated at seen (done ++ (a ∷ left)) ≡ [] → Each (λ b. bytes_eq a.name b.name ≡ false) done
 fresh [] left a at seen h = tt
 fresh (b ∷ done) left a at seen h =
     let more = (none_first (list_any (bytes_eq b.name) seen) (name_place at b) _ h).1 in

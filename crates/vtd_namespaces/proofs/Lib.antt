@@ -20,3 +20,6 @@ pub mod ResolverLemmas
 pub mod MemoLemmas
 pub mod RepeatLemmas
 pub mod SieveLemmas
+pub mod RoundLemmas
+pub mod NotedLemmas
+pub mod PlainLemmas

@@ -31,7 +31,7 @@ known_along bytes words a b c d a' b' c' d' e f g h k =
     subst (λ n. IsKnown bytes words n b' c' d') (sym e) (subst (λ n. IsKnown bytes words a n c' d') (sym f)
     (subst (λ n. IsKnown bytes words a b n d') (sym g) (subst (λ n. IsKnown bytes words a b c n) (sym h) k)))
 
-equal_or : (m n : ℕ) → (m ≡ n) ⊎ (m ≡ n → ⊥)
+pub equal_or : (m n : ℕ) → (m ≡ n) ⊎ (m ≡ n → ⊥)
 equal_or m n = ⊎_elim (λ s. inr (λ e. omega arith)) (λ s. ⊎_elim (λ t. inr (λ e. omega arith)) (λ t. inl (omega arith)) (cases_lt n m)) (cases_lt m n)
 
 -- a memo with one place more

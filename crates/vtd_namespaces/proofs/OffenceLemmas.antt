@@ -149,7 +149,7 @@ twin_is : (bytes : List ℕ) (p : Parts) (tags : List Tag) (a b : Attribute) →
 twin_is bytes p tags a b o t =
     ap (λ x. not x && same_expanded (expanded_of tags a) (expanded_of tags b)) (name_of_token (declares b.name) (sym o.token ∙ t)) ∙ same_expanded_is (expanded_of tags a) (expanded_of tags b)
 
-size_nothing : (cs : List ℕ) → size cs ≡ 0 → cs ≡ []
+pub size_nothing : (cs : List ℕ) → size cs ≡ 0 → cs ≡ []
 unfolding size
 size_nothing cs h = Rattle.vtd_namespaces.proofs.DeclarationLemmas.empty_encoded cs h
 

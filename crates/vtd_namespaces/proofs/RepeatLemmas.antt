@@ -16,7 +16,6 @@ use Rattle.vtd_text.specs.Joined.{slice_of}
 use Rattle.vtd_text.specs.NameRecords.{is_attribute_name}
 use Rattle.vtd_namespaces.specs.NameRecords.{IsAttributeRecord, AreAttributeRecords}
 use Rattle.vtd_namespaces.specs.Repeats.{names_before, HasNoAttribute}
-use Rattle.vtd_text.specs.Fingerprints.{is_taken}
 use Rattle.vtd_namespaces.specs.Faults.{first_of}
 
 -- texts are equal where their bytes are
@@ -100,6 +99,13 @@ next_name bytes rs first n at others p name d here kind is = by d.left d.hold d.
             names_before bytes rs first (n + 1) ≡ map encode_utf8_all (a.name ∷ d.seen)
         named h = let k : n + 1 ≡ suc n = omega arith in ap (names_before bytes rs first) k ∙ h
 
+pub pass_name : (bytes : List ℕ) (rs : List Record) (first n at : ℕ) (others : List Attribute) → Passed bytes rs first n at others → is_attribute_name (record_at (first + 2 * n) rs).token ≡ true →
+    list_any (bytes_eq (slice_of bytes (record_at (first + 2 * n) rs))) (names_before bytes rs first n) ≡ false → Passed bytes rs first (n + 1) at others
+pass_name bytes rs first n at others d kind none =
+    let r = record_at (first + 2 * n) rs in
+    let p : Parts = record { token = r.token; depth = r.depth; prefix = r.prefix; length = r.len; offset = r.offset } in
+    (next_name bytes rs first n at others p (slice_of bytes r) d refl kind refl).miss none
+
 -- one of the first names has these bytes
 any_more : (bytes : List ℕ) (rs : List Record) (first : ℕ) (x : List ℕ) (m n : ℕ) → list_any (bytes_eq x) (names_before bytes rs first m) ≡ true → list_any (bytes_eq x) (names_before bytes rs first (m + n)) ≡ true
 any_more bytes rs first x m zero h = let e : m + 0 ≡ m = omega arith in ap (λ k. list_any (bytes_eq x) (names_before bytes rs first k)) e ∙ h
@@ -121,25 +127,6 @@ any_here bytes rs first x y m n l e h =
     let k : suc m + (n - suc m) ≡ n = omega arith in
     sym (ap (λ j. list_any (bytes_eq x) (names_before bytes rs first j)) (sym k) ∙ any_more bytes rs first x (suc m) (n - suc m) (or_first _ _ same))
 
--- the filter: each name before has its slot taken
-pub not_taken : (slots : List ℕ) (x : List ℕ) (names : List (List ℕ)) → ((y : List ℕ) → list_any (bytes_eq y) names ≡ true → is_taken slots y ≡ true) → is_taken slots x ≡ false → list_any (bytes_eq x) names ≡ false
-not_taken slots x names h k = false_from_ne_true _ (λ t. false≢true (sym k ∙ h x t))
-
 pub not_not : (r t : Bool) → r ≡ not t → (r ≡ true) → t ≡ false
 not_not r true e h = absurd (false≢true (sym e ∙ h))
 not_not r false e h = refl
-
--- and the next one
-pub next_noted : (bytes : List ℕ) (rs : List Record) (first n : ℕ) (old new : List ℕ) (p : Parts) (name : List ℕ) → record_of p ≡ record_at (first + 2 * n) rs → name ≡ slice_of bytes (record_of p) →
-    ((y : List ℕ) → list_any (bytes_eq y) (names_before bytes rs first n) ≡ true → is_taken old y ≡ true) → is_taken new name ≡ true → ((y : List ℕ) → is_taken old y ≡ true → is_taken new y ≡ true) →
-    (y : List ℕ) → list_any (bytes_eq y) (names_before bytes rs first (n + 1)) ≡ true → is_taken new y ≡ true
-next_noted bytes rs first n old new p name here is before noted kept y h =
-    let s : n + 1 ≡ suc n = omega arith in
-    let there : slice_of bytes (record_at (first + 2 * n) rs) ≡ name = ap (slice_of bytes) (sym here) ∙ sym is in
-    by (bytes_eq y (slice_of bytes (record_at (first + 2 * n) rs))) refl (ap (λ k. list_any (bytes_eq y) (names_before bytes rs first k)) (sym s) ∙ h)
-  where
-    by : (b : Bool) → bytes_eq y (slice_of bytes (record_at (first + 2 * n) rs)) ≡ b → (b || list_any (bytes_eq y) (names_before bytes rs first n)) ≡ true → is_taken new y ≡ true
-    by true e k =
-        let same : y ≡ name = (bytes_eq-Decides y (slice_of bytes (record_at (first + 2 * n) rs))).0 e ∙ ap (slice_of bytes) (sym here) ∙ sym is in
-        ap (is_taken new) same ∙ noted
-    by false e k = kept y (before y k)

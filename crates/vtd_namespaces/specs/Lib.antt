@@ -7,7 +7,9 @@ pub mod Undeclared
 pub mod NameRecords
 pub mod Faults
 pub mod Repeats
+pub mod Rounds
 pub mod Scope
 pub mod Reach
 pub mod Memos
 pub mod Offences
+pub mod Plain

@@ -1,5 +1,7 @@
 -- The offences of a tag's names, name by name.
-use Rattle.std.specs.Prelude.{◌≡◌, ◌≢◌, ℕ, Bool, true, not, Option, ◌&&◌, List, [], ◌∷◌, ◌++◌, encode_utf8_all}
+use Rattle.std.specs.Prelude.{◌≡◌, ◌≢◌, ℕ, ◌<◌, Bool, true, false, not, Option, None, IfSome, ◌&&◌, List, [], ◌∷◌, ◌++◌, length}
+use Rattle.std.specs.Prelude.{encode_utf8_all}
+use Rattle.std.specs.List.{slice_index_or}
 use Rattle.std.specs.Option.{unwrap_or}
 use Rattle.xml_model.specs.Chars.{size, prefix_of, is_name, is_qname}
 use Rattle.xml_model.specs.Items.{Attribute, Tag}
@@ -7,11 +9,13 @@ use Rattle.xml_model.specs.declared.TokenKind.TheVariants as token
 use Rattle.xml_model.specs.Nest.{Forest}
 use Rattle.xml_model.specs.Records.{Record, declares, kind_number}
 use Rattle.xml_model.specs.Tree.{Holder}
+use Rattle.vtd_words.specs.Lists.{Lists}
 use Rattle.vtd_words.specs.Table.{nodes_of}
 use Rattle.vtd_namespaces.specs.Scope.{IsNearest}
 use Rattle.xml_model.specs.Names.{Expanded}
 use Rattle.xml_model.specs.Accepted.{expanded_of, seen_with, same_expanded, is_bound}
 use Rattle.vtd_text.specs.Fingerprints.{is_taken}
+use Rattle.vtd_text.specs.NameRecords.{IsDeclaration}
 
 -- whether an attribute under tags has the expanded name of another; a declaration has none: Namespaces in XML 1.0,
 -- section 6.3
@@ -48,3 +52,17 @@ IsNoted tags slots a = not (declares a.name) ≡ true → (prefix_of a.name ≡ 
 abbrev pub NearestOf : List ℕ → Forest → List Holder → Record → Attribute → Option ℕ → Type 0
 NearestOf bytes nest hs r a declaration = r.token ≢ kind_number token.NamespaceName → r.prefix ≢ 0 →
     IsNearest (nodes_of bytes nest) hs (prefix_of a.name) declaration
+
+-- a declaration is the nearest one of an attribute's prefix, where the attribute has a prefix and is no declaration
+abbrev pub NearestFor : List ℕ → Forest → List Holder → Attribute → Option ℕ → Type 0
+NearestFor bytes nest hs a declaration = declares a.name ≡ false → (prefix_of a.name ≡ [] → ⊥) →
+    IsNearest (nodes_of bytes nest) hs (prefix_of a.name) declaration
+
+-- a list has the nearest declarations of the prefixes of so many attributes, as far as it goes
+abbrev pub AreNearest : List ℕ → Forest → List Holder → List Attribute → ℕ → List (Option ℕ) → Type 0
+AreNearest bytes nest hs attributes count noted = (m : ℕ) (d : Attribute) → m < count → m < length noted →
+    NearestFor bytes nest hs (slice_index_or attributes m d) (slice_index_or noted m None)
+
+-- what a list has are declarations, by the records of their names
+abbrev pub AreDeclarations : List ℕ → Lists → List (Option ℕ) → Type 0
+AreDeclarations bytes lists noted = (m : ℕ) → IfSome (slice_index_or noted m None) (IsDeclaration bytes lists)

@@ -13,9 +13,10 @@ use xml_model::DocFault;
 /// Whether the names of a document are accepted: no name of an attribute or a declaration repeats an earlier one of its
 /// tag, or else `Twice` at the first that does, and then no name offends Namespaces in XML 1.0, or else `Namespace` at
 /// the first that does, in the order of the records. A `Namespace` comes only where in no tag a name repeats an earlier
-/// one. It takes no memory. It reads each record three times, the names of a tag pairwise up to 64 of them and with a
-/// fingerprint filter beyond, and for each prefix the names of the open tags that may declare it once, as long as 8,192
-/// notes of prefixes have room.
+/// one. It takes no memory. It reads each record three times. The names of a tag are compared pairwise up to 64 of them;
+/// more are sorted in rounds of 1,024, or of 16,384 where there are more than that, and k names in r rounds cost at most
+/// 8 * k * (r + 1) comparisons besides the sorts, whatever they are, with 24 or 384 KiB of stack. For each prefix it
+/// reads the names of the open tags that may declare it once, as long as 8,192 notes of prefixes have room.
 pub fn check_names<W: Words>(table: &Table<'_, W>) -> Result<(), DocFault>
     ensures accepted { OnOk result ((nest : Forest) → IsNestOf table.now.bytes (W.lists table.now.words) nest →
         Accepted 8 table.now.bytes nest) }

@@ -1,8 +1,8 @@
 //! Names that offend Namespaces in XML 1.0 (sections 3, 5, 6.3 and 7).
 
 ghost use Rattle.std.specs.Prelude.{◌≡◌, ℕ, ◌+◌, ◌*◌, ◌<◌, ◌≤◌, ◌^◌, true, false, List, [], ◌∷◌, ◌++◌, length, take};
-ghost use Rattle.std.specs.Prelude.{is_some, encode_utf8_all, bytes_eq, codes, IfSome};
-ghost use Rattle.std.specs.List.{AllByRecursion, list_any};
+ghost use Rattle.std.specs.Prelude.{is_some, encode_utf8_all, bytes_eq, codes, IfSome, None, slice_set};
+ghost use Rattle.std.specs.List.{slice_index_or, AllByRecursion, list_any};
 ghost use Rattle.xml_model.specs.Scan.{record_at};
 ghost use Rattle.vtd_words.specs.Packed.{record_of};
 ghost use Rattle.xml_model.specs.Items.{Attribute, first_place};
@@ -24,7 +24,8 @@ ghost use Rattle.vtd_namespaces.specs.NameRecords.{AreAttributeRecords, IsAttrib
 ghost use Rattle.vtd_namespaces.specs.Faults.{first_of};
 ghost use Rattle.vtd_namespaces.specs.Scope.{IsNearest, tags_in};
 ghost use Rattle.vtd_namespaces.specs.Reach.{IsScope};
-ghost use Rattle.vtd_namespaces.specs.Offences.{is_twin, seen_after, IsFine, IsWritten, NearestOf};
+ghost use Rattle.vtd_namespaces.specs.Offences.{is_twin, seen_after, AreDeclarations, AreNearest};
+ghost use Rattle.vtd_namespaces.specs.Offences.{IsFine, IsWritten, NearestFor, NearestOf};
 
 use crate::memo::{Memo, Prefix};
 use crate::qnames::{after_prefix, is_qname, prefix_of};
@@ -78,15 +79,51 @@ const DECLARES_XML: &[u8] = b"xmlns:xml";
 /// The name that would declare the prefix `xmlns`.
 const DECLARES_XMLNS: &[u8] = b"xmlns:xmlns";
 
-/// Whether the attribute whose name is a record has the local part and the URI of another, whose prefix is not empty
-/// and is bound by the declaration of a record (Namespaces in XML 1.0, section 6.3, constraint 'Attributes Unique').
+/// The record of the nearest declaration of the prefix of the attribute with a number: what is noted for it, or found by
+/// a look along the open tags where nothing is.
+fn nearest_of<W: Words>(
+    scope: &Scope<'_, '_, W>,
+    noted: &[Option<u32>],
+    number: u32,
+    prefix: &[u8],
+) -> Option<u32>
+    requires { AreDeclarations scope.now.table.now.bytes (W.lists scope.now.table.now.words) noted.now }
+    ensures found { (nest : Forest) (hs : List Holder) → IsScope scope.now.table.now.bytes
+        (W.lists scope.now.table.now.words) scope.now.open_tags.now scope.now.depth nest hs →
+        (p : List ℕ) → prefix.now ≡ encode_utf8_all p →
+        (number < length noted.now →
+        IsNearest (nodes_of scope.now.table.now.bytes nest) hs p (slice_index_or noted.now number None)) →
+        IsNearest (nodes_of scope.now.table.now.bytes nest) hs p result }
+    ensures declares { IfSome result (IsDeclaration scope.now.table.now.bytes (W.lists scope.now.table.now.words)) }
+{
+    if (number as usize) < noted.len() {
+        return noted[number as usize];
+    }
+    scope.declaration(prefix)
+}
+
+/// Notes the declaration of the attribute with a number, where the notes go as far.
+fn note(noted: &mut [Option<u32>], number: u32, declaration: Option<u32>)
+    ensures { noted.new ≡ slice_set noted.old number declaration }
+{
+    if (number as usize) < noted.len() {
+        noted[number as usize] = declaration;
+    }
+}
+
+/// Whether the attribute with a number, whose name is a record, has the local part and the URI of another, whose prefix
+/// is not empty and is bound by the declaration of a record (Namespaces in XML 1.0, section 6.3, constraint 'Attributes
+/// Unique').
 fn is_twin_at<W: Words>(
     scope: &Scope<'_, '_, W>,
+    noted: &[Option<u32>],
+    number: u32,
     at: u32,
     name: &[u8],
     prefix_len: u32,
     declaration: Option<u32>,
 ) -> bool
+    requires noted { AreDeclarations scope.now.table.now.bytes (W.lists scope.now.table.now.words) noted.now }
     requires room { at < length (list_of Part.Records (W.lists scope.now.table.now.words)) }
     requires prefix { 0 < prefix_len }
     requires declaration { IfSome declaration
@@ -98,6 +135,8 @@ fn is_twin_at<W: Words>(
         IsNearest (nodes_of scope.now.table.now.bytes nest) hs (prefix_of_chars a.name) declaration →
         (rs : List Record) → Shows (list_of Part.Records (W.lists scope.now.table.now.words)) rs →
         (place : ℕ) (b : Attribute) → IsAttributeRecord scope.now.table.now.bytes rs at place b →
+        (number < length noted.now →
+        NearestFor scope.now.table.now.bytes nest hs b (slice_index_or noted.now number None)) →
         result ≡ is_twin (tags_in hs) a b }
 {
     let other = parts_at(scope.table.words(), at);
@@ -109,10 +148,12 @@ fn is_twin_at<W: Words>(
     }
     let other_name = slice_of(scope.table.bytes(), other);
     if after_prefix(other_name, other.prefix) == after_prefix(name, prefix_len) {
+        let other_prefix = prefix_of(other_name, other.prefix);
         return scope.bound_alike(
             prefix_of(name, prefix_len),
             declaration,
-            prefix_of(other_name, other.prefix),
+            other_prefix,
+            nearest_of(scope, noted, number, other_prefix),
         );
     }
     false
@@ -123,12 +164,14 @@ fn is_twin_at<W: Words>(
 /// `first`.
 fn has_twin<W: Words>(
     scope: &Scope<'_, '_, W>,
+    noted: &[Option<u32>],
     first: u32,
     count: u32,
     name: &[u8],
     prefix_len: u32,
     declaration: Option<u32>,
 ) -> bool
+    requires noted { AreDeclarations scope.now.table.now.bytes (W.lists scope.now.table.now.words) noted.now }
     requires room { first + 2 * count ≤ length (list_of Part.Records (W.lists scope.now.table.now.words)) }
     requires bound { first + 2 * count < 2 ^ 32 }
     requires prefix { 0 < prefix_len }
@@ -137,13 +180,22 @@ fn has_twin<W: Words>(
     ensures { (nest : Forest) (x : Holder) (xs : List Holder) → IsScope scope.now.table.now.bytes
         (W.lists scope.now.table.now.words) scope.now.open_tags.now scope.now.depth nest (x ∷ xs) →
         first ≡ x.index + 1 → count ≤ length x.tag.attributes →
+        AreNearest scope.now.table.now.bytes nest (x ∷ xs) x.tag.attributes count noted.now →
         (a : Attribute) → IsWritten name.now prefix_len a →
         is_some (attribute_uri (prefix_of_chars a.name) (tags_in (x ∷ xs))) ≡ true →
         IsNearest (nodes_of scope.now.table.now.bytes nest) (x ∷ xs) (prefix_of_chars a.name) declaration →
         result ≡ list_any (is_twin (tags_in (x ∷ xs)) a) (take count x.tag.attributes) }
 {
     for number in 0..count {
-        if is_twin_at(scope, first + 2 * number, name, prefix_len, declaration) {
+        if is_twin_at(
+            scope,
+            noted,
+            number,
+            first + 2 * number,
+            name,
+            prefix_len,
+            declaration,
+        ) {
             return true;
         }
     }
@@ -156,12 +208,14 @@ fn has_twin<W: Words>(
 /// an attribute that has one.
 fn attribute_offends<W: Words>(
     scope: &Scope<'_, '_, W>,
+    noted: &[Option<u32>],
     first: u32,
     number: u32,
     parts: Parts,
     is_new: bool,
     declaration: Option<u32>,
 ) -> bool
+    requires noted { AreDeclarations scope.now.table.now.bytes (W.lists scope.now.table.now.words) noted.now }
     requires room { first + 2 * number < length (list_of Part.Records (W.lists scope.now.table.now.words)) }
     requires bound { first + 2 * number < 2 ^ 32 }
     requires here { (rs : List Record) → Shows (list_of Part.Records (W.lists scope.now.table.now.words)) rs →
@@ -172,6 +226,7 @@ fn attribute_offends<W: Words>(
         (W.lists scope.now.table.now.words) scope.now.open_tags.now scope.now.depth nest (x ∷ xs) →
         first ≡ x.index + 1 → (done left : List Attribute) (a : Attribute) → x.tag.attributes ≡ done ++ (a ∷ left) →
         length done ≡ number →
+        AreNearest scope.now.table.now.bytes nest (x ∷ xs) x.tag.attributes number noted.now →
         AllByRecursion (IsFine (tags_in (x ∷ xs))) done → AllByRecursion (λ b. bytes_eq a.name b.name ≡ false) done →
         (is_new ≡ true → is_some (attribute_uri (prefix_of_chars a.name) (tags_in (x ∷ xs))) ≡ true →
         list_any (is_twin (tags_in (x ∷ xs)) a) done ≡ false) →
@@ -194,7 +249,7 @@ fn attribute_offends<W: Words>(
     if is_new {
         return false;
     }
-    has_twin(scope, first, number, name, parts.prefix, declaration)
+    has_twin(scope, noted, first, number, name, parts.prefix, declaration)
 }
 
 /// The record of the nearest declaration of an attribute's prefix, by the parts of its name's record; `None` for a
@@ -226,6 +281,12 @@ fn prefix_declaration<W: Words>(
 /// The number of attributes from which on a filter is worth its making.
 const MANY: u32 = 64;
 
+/// Of how many attributes the declarations are noted where they are few.
+const FEW: usize = 64;
+
+/// Of how many attributes the declarations are noted where they are many: 512 KiB of stack.
+const NOTED: usize = 65_536;
+
 /// Where the first name of an attribute or a declaration of the nearest tag begins that offends; no two of them have
 /// one name, and the record of the first of them has the index `first`. Each is compared with those before it only
 /// where a filter takes its expanded name for one of theirs.
@@ -245,13 +306,15 @@ fn attributes_offence_in_many<W: Words>(
         result ≡ first_of (offending_attributes (tags_in (x ∷ xs)) at [] x.tag.attributes) }
 {
     let mut filter = FingerprintFilter::new();
+    let mut noted = [None; NOTED];
     let mut number = 0;
     while let Some(parts) = attribute_at(scope.table.words(), first + 2 * number) {
         let declaration = prefix_declaration(scope, memo, parts);
         let is_new = note_attribute(scope, &mut filter, parts, declaration);
-        if attribute_offends(scope, first, number, parts, is_new, declaration) {
+        if attribute_offends(scope, &noted, first, number, parts, is_new, declaration) {
             return Some(parts.offset);
         }
+        note(&mut noted, number, declaration);
         number += 1;
     }
     None
@@ -275,15 +338,17 @@ fn attributes_offence<W: Words>(
         repeated at [] x.tag.attributes ≡ [] →
         result ≡ first_of (offending_attributes (tags_in (x ∷ xs)) at [] x.tag.attributes) }
 {
+    let mut noted = [None; FEW];
     let mut number = 0;
     while let Some(parts) = attribute_at(scope.table.words(), first + 2 * number) {
         if number >= MANY && parts.prefix > 0 {
             return attributes_offence_in_many(scope, memo, first);
         }
         let declaration = prefix_declaration(scope, memo, parts);
-        if attribute_offends(scope, first, number, parts, false, declaration) {
+        if attribute_offends(scope, &noted, first, number, parts, false, declaration) {
             return Some(parts.offset);
         }
+        note(&mut noted, number, declaration);
         number += 1;
     }
     None

@@ -12,12 +12,12 @@ ghost use Rattle.vtd_namespaces.specs.NameRecords.{AreAttributeRecords};
 ghost use Rattle.vtd_namespaces.specs.Repeats.{names_before};
 ghost use Rattle.vtd_namespaces.specs.Faults.{first_of};
 
+use crate::many_names::repeat_in_many;
 use crate::records::{attribute_at, slice_of};
-use vtd_text::FingerprintFilter;
 use vtd_words::{Part, Words, parts_at};
 use xml_model::TokenKind;
 
-/// The number of names from which on a filter is worth its making.
+/// The number of names up to which each is compared with those before it.
 const MANY: u32 = 64;
 
 /// Whether one of so many names has these bytes; the record of the first of them has the index `first`.
@@ -33,26 +33,6 @@ fn is_among<W: Words>(bytes: &[u8], words: &W, first: u32, count: u32, name: &[u
         }
     }
     false
-}
-
-/// Where the first name of a tag begins that repeats an earlier one; the records of the tag's attributes begin at
-/// `first`. Each name is compared with those before it only where a filter takes it for one of them.
-fn repeat_in_many<W: Words>(bytes: &[u8], words: &W, first: u32) -> Option<u32>
-    requires { first ≤ length (list_of Part.Records (W.lists words.now)) }
-    ensures { (rs : List Record) → Shows (list_of Part.Records (W.lists words.now)) rs →
-        (at : ℕ) (others : List Attribute) →
-        AreAttributeRecords bytes.now rs first at others → result ≡ first_of (repeated at [] others) }
-{
-    let mut filter = FingerprintFilter::new();
-    let mut earlier = 0;
-    while let Some(parts) = attribute_at(words, first + 2 * earlier) {
-        let name = slice_of(bytes, parts);
-        if !filter.note(name) && is_among(bytes, words, first, earlier, name) {
-            return Some(parts.offset);
-        }
-        earlier += 1;
-    }
-    None
 }
 
 /// Where the first name of a tag begins that repeats an earlier one; the records of the tag's attributes begin at

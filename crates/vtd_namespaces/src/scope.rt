@@ -96,27 +96,29 @@ impl<'s, 'a, W: Words> Scope<'s, 'a, W> {
         }
     }
 
-    /// The URI to which a prefix is bound that is not empty; none where it is not bound.
-    pub fn uri_of_prefix(&self, prefix: &[u8]) -> Uri<'a, W>
-        ensures { (nest : Forest) (hs : List Holder) → IsScope self.now.table.now.bytes
-            (W.lists self.now.table.now.words) self.now.open_tags.now self.now.depth nest hs →
-            (p : List ℕ) → prefix.now ≡ encode_utf8_all p → (p ≡ [] → ⊥) →
-            uri_value result ≡ attribute_uri p (tags_in hs) }
-    {
-        self.uri_by(prefix, self.declaration(prefix))
-    }
-
-    /// Whether two prefixes that are not empty are bound to one URI, or both not bound, by the record of the nearest
-    /// declaration of the first.
-    pub fn bound_alike(&self, one: &[u8], declaration: Option<u32>, other: &[u8]) -> bool
-        requires { IfSome declaration (IsDeclaration self.now.table.now.bytes (W.lists self.now.table.now.words)) }
+    /// Whether two prefixes that are not empty are bound to one URI, or both not bound, by the records of their nearest
+    /// declarations.
+    pub fn bound_alike(
+        &self,
+        one: &[u8],
+        declaration: Option<u32>,
+        other: &[u8],
+        other_declaration: Option<u32>,
+    ) -> bool
+        requires one { IfSome declaration (IsDeclaration self.now.table.now.bytes (W.lists self.now.table.now.words)) }
+        requires other { IfSome other_declaration
+            (IsDeclaration self.now.table.now.bytes (W.lists self.now.table.now.words)) }
         ensures { (nest : Forest) (hs : List Holder) → IsScope self.now.table.now.bytes
             (W.lists self.now.table.now.words) self.now.open_tags.now self.now.depth nest hs →
             (p q : List ℕ) → one.now ≡ encode_utf8_all p → other.now ≡ encode_utf8_all q → (p ≡ [] → ⊥) → (q ≡ [] → ⊥) →
             IsNearest (nodes_of self.now.table.now.bytes nest) hs p declaration →
+            IsNearest (nodes_of self.now.table.now.bytes nest) hs q other_declaration →
             result ≡ same_uri (attribute_uri p (tags_in hs)) (attribute_uri q (tags_in hs)) }
     {
-        same_uri(self.uri_by(one, declaration), self.uri_of_prefix(other))
+        same_uri(
+            self.uri_by(one, declaration),
+            self.uri_by(other, other_declaration),
+        )
     }
 
     /// Whether a prefix is bound, by the record of its nearest declaration (Namespaces in XML 1.0, section 5,

@@ -18,6 +18,7 @@ use crate::declarations::declarations_end;
 use crate::memo::{Memo, empty_memo};
 use crate::offences::tag_offence;
 use crate::open_tags::OpenTags;
+use crate::plain::are_plain;
 use crate::qnames::has_colon;
 use crate::records::slice_of;
 use crate::scope::Scope;
@@ -109,12 +110,16 @@ fn offence_at<W: Words>(
 }
 
 /// Where the first name of a document begins that offends Namespaces in XML 1.0, in the order of the records; `None`
-/// exactly where none does. No name repeats an earlier one of its tag.
+/// exactly where none does. No name repeats an earlier one of its tag. Where no name has a colon and nothing is declared it
+/// reads each record once.
 pub fn first_offence<W: Words>(table: &Table<'_, W>) -> Option<u32>
     ensures { ForEachNest table.now.bytes (W.lists table.now.words) (λ nest.
         over_names repeats [] (first_place table.now.bytes) nest ≡ [] →
         result ≡ first_of (over_names offences [] (first_place table.now.bytes) nest)) }
 {
+    if are_plain(table.bytes(), table.words()) {
+        return None;
+    }
     let records = table.words().len(Part::Records);
     let end = declarations_end(table.words());
     let mut open_tags = OpenTags::new();

@@ -11,13 +11,13 @@ use Rattle.vtd_outside.specs.declared.GatherFault.{GatherFault}
 use Rattle.vtd_outside.specs.declared.GatherFault.TheVariants as gather
 use Rattle.xml_model.specs.declared.DocFault.{DocFault}
 use Rattle.xml_model.specs.Accepted.{IsRefusal}
-use Rattle.vtd_script.specs.Lines.{lines}
+use Rattle.vtd_lines.specs.Lines.{lines}
 use Rattle.vtd_script.specs.States.{Work, State, state_of}
 use Rattle.vtd_script.specs.Faults.{fault_line}
 use Rattle.vtd_script.specs.Runs.{EndsKnown}
 use Rattle.vtd_script.specs.declared.endings.End.{End}
 use Rattle.vtd_script.proofs.Parts.{prefix_of}
-use Rattle.vtd_running.specs.Form.{Form, document, generation, no_form}
+use Rattle.vtd_running.specs.Form.{Form, document, generation, index_file, no_form}
 use Rattle.vtd_running.specs.Statuses.{status_of}
 use Rattle.vtd_script.specs.Steps.{document_limit}
 use Rattle.vtd_running.specs.Meaning.{Outcome, EndsWith, RunsScript, RunsName, Runs, Ran, script_limit}
@@ -59,7 +59,7 @@ line_part rose line whole status sent x before after t l w o =
           (prefix_of w.count whole line l, o, refl);
     }
 
-nothing_more : (before : List ℕ) (o : Option (List ℕ)) → o ≡ Some before → o ≡ Some (before ++ [])
+pub nothing_more : (before : List ℕ) (o : Option (List ℕ)) → o ≡ Some before → o ≡ Some (before ++ [])
 nothing_more before o e = e ∙ ap (λ (xs : List ℕ). Some xs) (sym (append-nil before))
 
 -- ---- a script
@@ -186,7 +186,7 @@ name_begun sr or p0 p1 p2 keep files name script work fa la sent oa status p b l
       status_is = l.status_is;
     }
 
-done_nothing : (kind : Outcome → Type 0) (files : NameMap) (script sent : List ℕ) (files_after : Option NameMap) (left_after out_after : Option (List ℕ))
+pub done_nothing : (kind : Outcome → Type 0) (files : NameMap) (script sent : List ℕ) (files_after : Option NameMap) (left_after out_after : Option (List ℕ))
     (status : Status) → kind (nothing_done files script status) → files_after ≡ Some files → left_after ≡ Some script → out_after ≡ Some sent
     → Left kind files_after left_after sent out_after status
 done_nothing kind files script sent fa la oa status k f l t = record {
@@ -307,5 +307,6 @@ ran_no_memory sr fr or er asked files script fa la out oa err ea f l t e = recor
   where
     by : (asked : Form) → Runs sr fr or er asked files script (nothing_done files script statuses.NoMemory)
     by (document name keep) = document_unkept
+    by (index_file name keep) = document_unkept
     by (generation count) = generated_unkept
     by no_form = words_unkept

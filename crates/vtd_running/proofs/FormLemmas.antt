@@ -31,8 +31,15 @@ form_refused words e other (inr h) =
     ap (λ (b : Bool). if b then form_of_rows (rows words) else no_form) (some_kind (kind_of e) (faults words) h)
 
 pub form_taken : (words : List Text) (found : Found) → fault_of vtd_app words ≡ [] → rows_of found ≡ matches_of vtd_app words
-    → choose (first_value found (codes "doc")) (first_value found (codes "generate")) (is_set (first_value found (codes "keep"))) ≡ form words
+    → choose (first_value found (codes "doc")) (first_value found (codes "generate")) (is_set (first_value found (codes "keep")))
+    (is_set (first_value found (codes "index"))) ≡ form words
 unfolding faults rows
 form_taken words found none same =
-    rw (first_value-rows found (codes "doc"), first_value-rows found (codes "generate"), first_value-rows found (codes "keep"), same)
+    rw (
+      first_value-rows found (codes "doc"),
+      first_value-rows found (codes "generate"),
+      first_value-rows found (codes "keep"),
+      first_value-rows found (codes "index"),
+      same,
+    )
     (ap (λ (k : Kinds). if is_empty k then form_of_rows (rows words) else no_form) (sym none))

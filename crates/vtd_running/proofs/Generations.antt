@@ -1,15 +1,17 @@
 -- How each part of a generated run ends, joined to its meaning.
-use Rattle.std.proofs.Common.{◌≡◌, ℕ, ◌≤◌, false, List, [], ◌++◌, length, Option, Some, None}
+use Rattle.std.proofs.Common.{◌≡◌, ℕ, ◌≤◌, true, false, List, [], ◌++◌, length, Option, Some, None}
 use Rattle.std.proofs.Common.{refl, sym, ap, ◌∙◌, subst, arith}
 use Rattle.std.proofs.lemmas.List.{append-nil}
+use Rattle.std.specs.Str.{chars, is_utf8}
 use Rattle.vtd_outside.specs.Known.{NameMap}
 use Rattle.xml_model.specs.declared.DocFault.{DocFault}
 use Rattle.xml_model.specs.Nest.{Forest}
 use Rattle.xml_model.specs.Accepted.{Accepted, IsRefusal}
 use Rattle.vtd_script.specs.Faults.{fault_line}
-use Rattle.vtd_script.specs.Lines.{lines}
+use Rattle.vtd_lines.specs.Lines.{lines}
+use Rattle.vtd_lines.specs.Commands.{read}
 use Rattle.vtd_script.specs.States.{Work, State, state_of}
-use Rattle.vtd_script.specs.Steps.{document_limit}
+use Rattle.vtd_script.specs.Steps.{asks_any_file, asks_for, document_limit}
 use Rattle.vtd_script.specs.Runs.{EndsBy, EndsKnown, Reached}
 use Rattle.vtd_script.specs.declared.endings.End.{End}
 use Rattle.vtd_script.specs.declared.endings.End.TheVariants as ends
@@ -18,7 +20,7 @@ use Rattle.vtd_running.specs.Form.{Form, generation}
 use Rattle.vtd_running.specs.Meaning.{RunsScript, RunsGenerated, Runs, Ran, accepted, carried, document_unfit}
 use Rattle.vtd_running.specs.Meaning.{generated_unkept, generated_run, no_files, only_printed, script_limit}
 use Rattle.vtd_running.specs.Parts.{Carries, Generates, LineSent}
-use Rattle.vtd_running.specs.Statuses.{status_of, generated_status}
+use Rattle.vtd_running.specs.Statuses.{EndsGenerated, status_of}
 use Rattle.vtd_running.specs.declared.status.Status.{Status}
 use Rattle.vtd_running.specs.declared.status.Status.TheVariants as statuses
 
@@ -28,49 +30,54 @@ pub script_fits : length generated_script ≤ script_limit
 unfolding generated_script
 script_fits = omega arith
 
--- how the script ends, where no file can fail
-alone : End → End
-alone ends.Done = ends.Done
-alone ends.Stopped = ends.Stopped
-alone ends.WriteFault = ends.WriteFault
-alone ends.FileFault = ends.NoMemory
-alone ends.NoMemory = ends.NoMemory
+-- no line asks for a file
+asks_none : asks_any_file (lines generated_script) ≡ false
+unfolding lines generated_script asks_for read is_utf8 chars lib.Utf8.encode
+asks_none = refl
 
-alone_status : (end : End) → generated_status end ≡ status_of (alone end)
-unfolding alone
-alone_status ends.Done = refl
-alone_status ends.Stopped = refl
-alone_status ends.WriteFault = refl
-alone_status ends.FileFault = refl
-alone_status ends.NoMemory = refl
+pub no_file_fault : (script : List ℕ) (end : End) → script ≡ generated_script
+    → (end ≡ ends.FileFault → asks_any_file (lines script) ≡ true) → end ≡ ends.FileFault → ⊥
+no_file_fault script end same asked e =
+    let f = ap (λ (x : List ℕ). asks_any_file (lines x)) same ∙ asks_none in
+    let t = asked e in
+    cc
 
-alone_ends : (fr or : Type 0) (r : Reached) (line : Option (List ℕ)) (end : End) (more : List ℕ) (files : NameMap) → EndsBy fr or false r line end more files
-    → (left : NameMap) × EndsBy ⊥ or false r line (alone end) more left
-unfolding alone
-alone_ends fr or r None ends.Done more files h = (files, h)
-alone_ends fr or r None ends.Stopped more files h = (files, h)
-alone_ends fr or r None ends.WriteFault more files h = absurd h
-alone_ends fr or r None ends.FileFault more files h = absurd h
-alone_ends fr or r None ends.NoMemory more files h = (files, h)
-alone_ends fr or r (Some line) ends.Done more files h = absurd h
-alone_ends fr or r (Some line) ends.Stopped more files h = (files, h)
-alone_ends fr or r (Some line) ends.WriteFault more files h = (files, h)
-alone_ends fr or r (Some line) ends.FileFault more files h = (r.state.files, (h.0, refl))
-alone_ends fr or r (Some line) ends.NoMemory more files h = (files, h)
+-- how the script ends, where no line asks for a file
+alone_ends : (fr or : Type 0) (r : Reached) (line : Option (List ℕ)) (end : End) (more : List ℕ) (files : NameMap) → (end ≡ ends.FileFault → ⊥)
+    → EndsBy fr or false r line end more files → EndsBy ⊥ or false r line end more files
+alone_ends fr or r None ends.Done more files n h = h
+alone_ends fr or r None ends.Stopped more files n h = h
+alone_ends fr or r None ends.WriteFault more files n h = absurd h
+alone_ends fr or r None ends.FileFault more files n h = absurd h
+alone_ends fr or r None ends.NoMemory more files n h = h
+alone_ends fr or r (Some line) ends.Done more files n h = absurd h
+alone_ends fr or r (Some line) ends.Stopped more files n h = h
+alone_ends fr or r (Some line) ends.WriteFault more files n h = h
+alone_ends fr or r (Some line) ends.FileFault more files n h = absurd (n refl)
+alone_ends fr or r (Some line) ends.NoMemory more files n h = h
+
+pub alone_status : (end : End) (result : Status) → (end ≡ ends.FileFault → ⊥) → result ≡ status_of end → EndsGenerated result
+alone_status end result n e = subst (λ (x : Status). EndsGenerated x) (sym e) (by end n)
+  where
+    by : (end : End) → (end ≡ ends.FileFault → ⊥) → EndsGenerated (status_of end)
+    by ends.Done n = tt
+    by ends.Stopped n = tt
+    by ends.WriteFault n = tt
+    by ends.FileFault n = absurd (n refl)
+    by ends.NoMemory n = tt
 
 pub script_alone : (fr or : Type 0) (s : State) (script : List ℕ) (end : End) (files_after : Option NameMap) (before : List ℕ)
-    (out_after : Option (List ℕ)) (result : Status) → script ≡ generated_script
-    → EndsKnown fr or false s (lines script) end files_after before out_after → result ≡ generated_status end → Carries or s before out_after result
-script_alone fr or s script end fa before oa result same known r =
+    (out_after : Option (List ℕ)) (result : Status) → script ≡ generated_script → (end ≡ ends.FileFault → ⊥)
+    → EndsKnown fr or false s (lines script) end files_after before out_after → result ≡ status_of end → Carries or s before out_after result
+script_alone fr or s script end fa before oa result same n known r =
     let k = subst (λ (x : List ℕ). EndsKnown fr or false s (lines x) end fa before oa) same known in
     let e = k.ends in
-    let a = alone_ends fr or e.reached _ end e.more k.files e.ends in
     record {
-      own = only_printed k.out a.0 [] (status_of (alone end));
-      runs = carried script_fits (alone end) k.out a.0
-          (record { k = e.k; reached = e.reached; reaches = e.reaches; more = e.more; out_is = e.out_is; ends = a.1 });
+      own = only_printed k.out k.files [] (status_of end);
+      runs = carried script_fits end k.out k.files
+          (record { k = e.k; reached = e.reached; reaches = e.reaches; more = e.more; out_is = e.out_is; ends = alone_ends fr or e.reached _ end e.more k.files n e.ends });
       taken = k.taken;
-      status_is = r ∙ alone_status end;
+      status_is = r;
     }
 
 -- ---- the document

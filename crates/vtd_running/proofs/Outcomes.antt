@@ -9,7 +9,7 @@ use Rattle.xml_model.specs.Nest.{Forest}
 use Rattle.xml_model.specs.Accepted.{Accepted, IsRefusal, layer}
 use Rattle.xml_acceptance.proofs.OneAnswer as answers
 use Rattle.xml_acceptance.proofs.SomeAnswer as some
-use Rattle.vtd_script.specs.Lines.{lines}
+use Rattle.vtd_lines.specs.Lines.{lines}
 use Rattle.vtd_script.specs.Faults.{fault_line}
 use Rattle.vtd_script.specs.States.{State}
 use Rattle.vtd_script.specs.Runs as script
@@ -17,14 +17,23 @@ use Rattle.vtd_script.specs.declared.endings.End.{End}
 use Rattle.vtd_script.specs.declared.endings.End.TheVariants as ends
 use Rattle.vtd_script.proofs.RunLaws as laws
 use Rattle.vtd_generator.specs.Generated.{generated, generated_script}
-use Rattle.vtd_running.specs.Form.{Form, document, generation, no_form}
+use Rattle.vtd_running.specs.Form.{Form, document, generation, index_file, no_form}
 use Rattle.vtd_running.specs.Statuses.{status_of, IsMeant}
 use Rattle.vtd_script.specs.Steps.{document_limit}
-use Rattle.vtd_running.specs.Meaning.{Outcome, EndsWith, RunsScript, RunsDocument, RunsName, RunsGenerated, RunsUsage, Runs, Ran, Means}
+use Rattle.vtd_running.specs.Meaning.{Outcome, EndsWith, RunsScript, RunsDocument, RunsGenerated, RunsUsage, Runs, Ran, Means}
 use Rattle.vtd_running.specs.Meaning.{script_limit, script_long_line, document_long_line, usage_line, first_state}
 use Rattle.vtd_running.specs.Meaning.{script_unread, script_unkept, script_long, carried, document_long, document_unfit, accepted}
 use Rattle.vtd_running.specs.Meaning.{document_missing, document_unread, document_unkept, there, words_unkept, told, only_printed}
 use Rattle.vtd_running.specs.Meaning.{generated_unkept, generated_run, no_files}
+use Rattle.vtd_running.specs.Meaning.{RunsFile, RunsIndex, index_accepted, index_long, index_no_file, index_unfit}
+use Rattle.vtd_words.specs.Numbers.{AreBytes}
+use Rattle.vtd_documents.specs.Loads.{IsFileOf}
+use Rattle.vtd_documents.proofs.Loading.{loaded_no_fault, one_loaded, some_load}
+use Rattle.vtd_index.specs.declared.faults.IndexFault.{IndexFault}
+use Rattle.vtd_index.proofs.Verdicts as indexes
+use Rattle.vtd_script.proofs.IndexLaws.{are_bytes}
+use Rattle.vtd_script.specs.States.{refused_line}
+use Rattle.vtd_script.specs.Steps.{index_limit, index_refusal}
 use Rattle.vtd_running.specs.declared.status.Status.{Status}
 use Rattle.vtd_running.specs.declared.status.Status.TheVariants as statuses
 
@@ -89,13 +98,26 @@ exact_document sr fr or keep files bytes text m ns nf nw (document_unfit l fault
 exact_document sr fr or keep files bytes text m ns nf nw (accepted l nest a x h) =
     elim (exact_script sr fr or keep (first_state bytes files) text x ns nf nw h) [ inl q ↦ inl q | inr q ↦ inr (q.0, accepted l nest a x q.1) ]
 
-exact_name : (sr fr or : Type 0) (keep : Bool) (files : NameMap) (name text : List ℕ) (m : Outcome) → (sr → ⊥) → (fr → ⊥) → (or → ⊥)
-    → RunsName sr fr or keep files name text m → MeansOr (RunsName ⊥ ⊥ ⊥ keep files name text) m
-exact_name sr fr or keep files name text m ns nf nw (document_missing e) = inr (tt, document_missing e)
-exact_name sr fr or keep files name text m ns nf nw (document_unread r) = absurd (nf r)
-exact_name sr fr or keep files name text m ns nf nw document_unkept = inl refl
-exact_name sr fr or keep files name text m ns nf nw (there bytes e x h) =
-    elim (exact_document sr fr or keep files bytes text x ns nf nw h) [ inl q ↦ inl q | inr q ↦ inr (q.0, there bytes e x q.1) ]
+exact_index : (sr fr or : Type 0) (keep : Bool) (files : NameMap) (file text : List ℕ) (m : Outcome) → (sr → ⊥) → (fr → ⊥) → (or → ⊥)
+    → RunsIndex sr fr or keep files file text m → MeansOr (RunsIndex ⊥ ⊥ ⊥ keep files file text) m
+exact_index sr fr or keep files file text m ns nf nw (index_long l sent status e) =
+    let w = meant_line or document_long_line statuses.Refused sent status nw tt e in
+    inr (w.0, index_long l sent status w.1)
+exact_index sr fr or keep files file text m ns nf nw (index_unfit l y fault r sent status e) =
+    let w = meant_line or (refused_line (index_refusal fault)) statuses.Refused sent status nw tt e in
+    inr (w.0, index_unfit l y fault r sent status w.1)
+exact_index sr fr or keep files file text m ns nf nw (index_accepted l y bytes i x h) =
+    elim (exact_script sr fr or keep (first_state bytes files) text x ns nf nw h) [ inl q ↦ inl q | inr q ↦ inr (q.0, index_accepted l y bytes i x q.1) ]
+exact_index sr fr or keep files file text m ns nf nw (index_no_file l n) = inr (tt, index_no_file l n)
+
+exact_file : (fr : Type 0) (GoesOn Meant : List ℕ → Outcome → Type 0) (files : NameMap) (name text : List ℕ) (m : Outcome) → (fr → ⊥)
+    → ((bytes : List ℕ) (x : Outcome) → GoesOn bytes x → MeansOr (Meant bytes) x) → RunsFile fr GoesOn files name text m
+    → MeansOr (RunsFile ⊥ Meant files name text) m
+exact_file fr GoesOn Meant files name text m nf on (document_missing e) = inr (tt, document_missing e)
+exact_file fr GoesOn Meant files name text m nf on (document_unread r) = absurd (nf r)
+exact_file fr GoesOn Meant files name text m nf on document_unkept = inl refl
+exact_file fr GoesOn Meant files name text m nf on (there bytes e x h) =
+    elim (on bytes x h) [ inl q ↦ inl q | inr q ↦ inr (q.0, there bytes e x q.1) ]
 
 exact_generated : (or : Type 0) (count : ℕ) (files : NameMap) (text : List ℕ) (m : Outcome) → (or → ⊥) → RunsGenerated or count files text m
     → MeansOr (RunsGenerated ⊥ count files text) m
@@ -114,7 +136,12 @@ exact_usage er files text m ne (told sent status e) =
 
 exact_runs : (sr fr or er : Type 0) (asked : Form) (files : NameMap) (text : List ℕ) (m : Outcome) → (sr → ⊥) → (fr → ⊥) → (or → ⊥) → (er → ⊥)
     → Runs sr fr or er asked files text m → MeansOr (Runs ⊥ ⊥ ⊥ ⊥ asked files text) m
-exact_runs sr fr or er (document name keep) files text m ns nf nw ne h = exact_name sr fr or keep files name text m ns nf nw h
+exact_runs sr fr or er (document name keep) files text m ns nf nw ne h =
+    exact_file fr (λ bytes. RunsDocument sr fr or keep files bytes text) (λ bytes. RunsDocument ⊥ ⊥ ⊥ keep files bytes text) files name text m nf
+    (λ bytes x r. exact_document sr fr or keep files bytes text x ns nf nw r) h
+exact_runs sr fr or er (index_file name keep) files text m ns nf nw ne h =
+    exact_file fr (λ file. RunsIndex sr fr or keep files file text) (λ file. RunsIndex ⊥ ⊥ ⊥ keep files file text) files name text m nf
+    (λ file x r. exact_index sr fr or keep files file text x ns nf nw r) h
 exact_runs sr fr or er (generation count) files text m ns nf nw ne h = exact_generated or count files text m nw h
 exact_runs sr fr or er no_form files text m ns nf nw ne h = exact_usage er files text m ne h
 
@@ -194,20 +221,51 @@ one_document keep files bytes text m n p q (accepted k nest d o h) (document_lon
 one_document keep files bytes text m n p q (accepted l nest d o h) (document_unfit k fault r b y f) = absurd (not_both bytes nest fault d r)
 one_document keep files bytes text m n p q (accepted l nest d o h) (accepted k other c x g) = one_script keep (first_state bytes files) text o x p q h g
 
-one_name : (keep : Bool) (files : NameMap) (name text : List ℕ) (m n : Outcome) → IsMeant m.status → IsMeant n.status
-    → RunsName ⊥ ⊥ ⊥ keep files name text m → RunsName ⊥ ⊥ ⊥ keep files name text n → m ≡ n
-one_name keep files name text m n p q (document_unread r) y = absurd r
-one_name keep files name text m n p q document_unkept y = absurd p
-one_name keep files name text m n p q (document_missing e) (document_unread r) = absurd r
-one_name keep files name text m n p q (document_missing e) document_unkept = absurd q
-one_name keep files name text m n p q (document_missing e) (document_missing f) = refl
-one_name keep files name text m n p q (document_missing e) (there bytes f o h) = absurd (none-some bytes (sym e ∙ f))
-one_name keep files name text m n p q (there bytes f o h) (document_unread r) = absurd r
-one_name keep files name text m n p q (there bytes f o h) document_unkept = absurd q
-one_name keep files name text m n p q (there bytes f o h) (document_missing e) = absurd (none-some bytes (sym e ∙ f))
-one_name keep files name text m n p q (there bytes f o h) (there other g x k) =
-    let P : List ℕ → Type 0 = λ b. RunsDocument ⊥ ⊥ ⊥ keep files b text x in
-    one_document keep files bytes text o x p q h (subst P (same_Some other bytes (sym g ∙ f)) k)
+one_taken : (keep : Bool) (files : NameMap) (file text : List ℕ) (m n : Outcome) (a b : List ℕ) → IsMeant m.status → IsMeant n.status
+    → IsFileOf file a → IsFileOf file b → RunsScript ⊥ ⊥ ⊥ keep (first_state a files) text m → RunsScript ⊥ ⊥ ⊥ keep (first_state b files) text n
+    → m ≡ n
+one_taken keep files file text m n a b p q i j h k =
+    let P : List ℕ → Type 0 = λ x. RunsScript ⊥ ⊥ ⊥ keep (first_state x files) text m in
+    one_script keep (first_state b files) text m n p q (subst P (one_loaded file a b i j) h) k
+
+one_index : (keep : Bool) (files : NameMap) (file text : List ℕ) (m n : Outcome) → IsMeant m.status → IsMeant n.status
+    → RunsIndex ⊥ ⊥ ⊥ keep files file text m → RunsIndex ⊥ ⊥ ⊥ keep files file text n → m ≡ n
+one_index keep files file text m n p q (index_long l a x e) (index_long k b y f) =
+    same_line document_long_line statuses.Refused (λ sent status. only_printed sent files text status) a b x y e f
+one_index keep files file text m n p q (index_long l a x e) (index_unfit k z g r b y f) = absurd (omega arith)
+one_index keep files file text m n p q (index_long l a x e) (index_accepted k z d j o h) = absurd (omega arith)
+one_index keep files file text m n p q (index_long l a x e) (index_no_file k z) = absurd (omega arith)
+one_index keep files file text m n p q (index_unfit l w g r a x e) (index_long k b y f) = absurd (omega arith)
+one_index keep files file text m n p q (index_unfit l w g r a x e) (index_unfit k z other t b y f) =
+    let P : IndexFault → Type 0 = λ v. EndsWith ⊥ (refused_line (index_refusal v)) statuses.Refused a x in
+    same_line (refused_line (index_refusal other)) statuses.Refused (λ sent status. only_printed sent files text status) a b x y
+    (subst P (indexes.one_fault file g other r t) e) f
+one_index keep files file text m n p q (index_unfit l w g r a x e) (index_accepted k z d j o h) = absurd (loaded_no_fault file d g j r)
+one_index keep files file text m n p q (index_unfit l w g r a x e) (index_no_file k z) = absurd (z w)
+one_index keep files file text m n p q (index_accepted l w c i o h) (index_long k b y f) = absurd (omega arith)
+one_index keep files file text m n p q (index_accepted l w c i o h) (index_unfit k z g r b y f) = absurd (loaded_no_fault file c g i r)
+one_index keep files file text m n p q (index_accepted l w c i o h) (index_accepted k z d j v u) = one_taken keep files file text o v c d p q i j h u
+one_index keep files file text m n p q (index_accepted l w c i o h) (index_no_file k z) = absurd (z w)
+one_index keep files file text m n p q (index_no_file l w) (index_long k b y f) = absurd (omega arith)
+one_index keep files file text m n p q (index_no_file l w) (index_unfit k z g r b y f) = absurd (w z)
+one_index keep files file text m n p q (index_no_file l w) (index_accepted k z d j o h) = absurd (w z)
+one_index keep files file text m n p q (index_no_file l w) (index_no_file k z) = refl
+
+one_file : (Meant : List ℕ → Outcome → Type 0) (files : NameMap) (name text : List ℕ) (m n : Outcome) → IsMeant m.status → IsMeant n.status
+    → ((bytes : List ℕ) (x y : Outcome) → IsMeant x.status → IsMeant y.status → Meant bytes x → Meant bytes y → x ≡ y)
+    → RunsFile ⊥ Meant files name text m → RunsFile ⊥ Meant files name text n → m ≡ n
+one_file Meant files name text m n p q one (document_unread r) y = absurd r
+one_file Meant files name text m n p q one document_unkept y = absurd p
+one_file Meant files name text m n p q one (document_missing e) (document_unread r) = absurd r
+one_file Meant files name text m n p q one (document_missing e) document_unkept = absurd q
+one_file Meant files name text m n p q one (document_missing e) (document_missing f) = refl
+one_file Meant files name text m n p q one (document_missing e) (there bytes f o h) = absurd (none-some bytes (sym e ∙ f))
+one_file Meant files name text m n p q one (there bytes f o h) (document_unread r) = absurd r
+one_file Meant files name text m n p q one (there bytes f o h) document_unkept = absurd q
+one_file Meant files name text m n p q one (there bytes f o h) (document_missing e) = absurd (none-some bytes (sym e ∙ f))
+one_file Meant files name text m n p q one (there bytes f o h) (there other g x k) =
+    let P : List ℕ → Type 0 = λ b. Meant b x in
+    one bytes o x p q h (subst P (same_Some other bytes (sym g ∙ f)) k)
 
 one_generated : (count : ℕ) (files : NameMap) (text : List ℕ) (m n : Outcome) → IsMeant m.status → IsMeant n.status → RunsGenerated ⊥ count files text m
     → RunsGenerated ⊥ count files text n → m ≡ n
@@ -225,7 +283,10 @@ one_usage files text m n p q (told a x e) (told b y f) =
 
 one_run : (asked : Form) (files : NameMap) (text : List ℕ) (m n : Outcome) → IsMeant m.status → IsMeant n.status → Runs ⊥ ⊥ ⊥ ⊥ asked files text m
     → Runs ⊥ ⊥ ⊥ ⊥ asked files text n → m ≡ n
-one_run (document name keep) files text m n p q h k = one_name keep files name text m n p q h k
+one_run (document name keep) files text m n p q h k =
+    one_file (λ bytes. RunsDocument ⊥ ⊥ ⊥ keep files bytes text) files name text m n p q (λ bytes x y. one_document keep files bytes text x y) h k
+one_run (index_file name keep) files text m n p q h k =
+    one_file (λ file. RunsIndex ⊥ ⊥ ⊥ keep files file text) files name text m n p q (λ file x y. one_index keep files file text x y) h k
 one_run (generation count) files text m n p q h k = one_generated count files text m n p q h k
 one_run no_form files text m n p q h k = one_usage files text m n p q h k
 
@@ -257,10 +318,29 @@ some_document keep files bytes text = elim (within_or_not document_limit (length
   | inr l ↦ (_, tt, document_long l document_long_line statuses.Refused (inl (refl, refl)))
 ]
 
-some_name : (keep : Bool) (files : NameMap) (name text : List ℕ) (file : Option (List ℕ)) → files name ≡ file → Some' (RunsName ⊥ ⊥ ⊥ keep files name text)
-some_name keep files name text None e = (_, tt, document_missing e)
-some_name keep files name text (Some bytes) e =
-    let r = some_document keep files bytes text in
+some_index_answer : (keep : Bool) (files : NameMap) (file text : List ℕ) → length file ≤ index_limit → AreBytes file
+    → Some' (RunsIndex ⊥ ⊥ ⊥ keep files file text)
+some_index_answer keep files file text l y = elim (some_load file y) [
+  | inl i ↦
+      let r = some_script keep (first_state i.0 files) text (laws.some_meaning keep (first_state i.0 files) (lines text) (i.1.nest, i.1.accepted)) in
+      (r.0, r.1, index_accepted l y i.0 i.1 r.0 r.2)
+  | inr f ↦ (_, tt, index_unfit l y f.0 f.1 (refused_line (index_refusal f.0)) statuses.Refused (inl (refl, refl)))
+]
+
+some_index : (keep : Bool) (files : NameMap) (file text : List ℕ) → Some' (RunsIndex ⊥ ⊥ ⊥ keep files file text)
+some_index keep files file text = elim (within_or_not index_limit (length file)) [
+  | inl l ↦ (elim (are_bytes file) [
+    | inl y ↦ some_index_answer keep files file text l y
+    | inr n ↦ (_, tt, index_no_file l n)
+  ])
+  | inr l ↦ (_, tt, index_long l document_long_line statuses.Refused (inl (refl, refl)))
+]
+
+some_file : (Meant : List ℕ → Outcome → Type 0) (files : NameMap) (name text : List ℕ) (file : Option (List ℕ)) → files name ≡ file
+    → ((bytes : List ℕ) → Some' (Meant bytes)) → Some' (RunsFile ⊥ Meant files name text)
+some_file Meant files name text None e some = (_, tt, document_missing e)
+some_file Meant files name text (Some bytes) e some =
+    let r = some bytes in
     (r.0, r.1, there bytes e r.0 r.2)
 
 some_generated : (count : ℕ) (files : NameMap) (text : List ℕ) → Some' (RunsGenerated ⊥ count files text)
@@ -269,7 +349,10 @@ some_generated count files text =
     (only_printed r.0.out files text r.0.status, r.1, generated_run r.0 r.2)
 
 some_run : (asked : Form) (files : NameMap) (text : List ℕ) → Some' (Runs ⊥ ⊥ ⊥ ⊥ asked files text)
-some_run (document name keep) files text = some_name keep files name text (files name) refl
+some_run (document name keep) files text =
+    some_file (λ bytes. RunsDocument ⊥ ⊥ ⊥ keep files bytes text) files name text (files name) refl (λ bytes. some_document keep files bytes text)
+some_run (index_file name keep) files text =
+    some_file (λ file. RunsIndex ⊥ ⊥ ⊥ keep files file text) files name text (files name) refl (λ file. some_index keep files file text)
 some_run (generation count) files text = some_generated count files text
 some_run no_form files text = (_, tt, told usage_line statuses.Usage (inl (refl, refl)))
 

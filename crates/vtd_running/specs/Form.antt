@@ -10,9 +10,12 @@ use Rattle.clap.specs.Kinds.{Kinds}
 use Rattle.clap.specs.Faults.{fault_of}
 use Rattle.clap.specs.declared.builder.action.ArgAction.TheVariants.{Set, SetTrue}
 
--- the flag -k, the option -g with its value, and the name of a document
+-- the flags -k and -x, the option -g with its value, and the name of a document
 abbrev pub keep_rule : Rule
 keep_rule = record (new_rule (codes "keep")) { short = Some 107; action = Some SetTrue }
+
+abbrev pub index_rule : Rule
+index_rule = record (new_rule (codes "index")) { short = Some 120; action = Some SetTrue }
 
 abbrev pub generate_rule : Rule
 generate_rule = record (new_rule (codes "generate")) { short = Some 103; action = Some Set }
@@ -24,17 +27,18 @@ doc_rule = record (new_rule (codes "doc")) { action = Some Set }
 abbrev pub vtd_app : App
 vtd_app = record {
   top = record (new_shape (codes "vtd")) {
-    rules = keep_rule ∷ generate_rule ∷ doc_rule ∷ [];
+    rules = keep_rule ∷ index_rule ∷ generate_rule ∷ doc_rule ∷ [];
     no_binary_name = true;
     disable_help_flag = true;
   };
   subs = [];
 }
 
--- what the words ask for: a document by its name, with whether refused commands are passed over; the generated document
--- of so many orders; or nothing
+-- what the words ask for: a document, or an index file, by its name, with whether refused commands are passed over; the
+-- generated document of so many orders; or nothing
 pub data Form : Type 0 where
   document : List ℕ → Bool → Form
+  index_file : List ℕ → Bool → Form
   generation : ℕ → Form
   no_form : Form
 
@@ -55,17 +59,21 @@ generation_of None = no_form
 abbrev pub is_set : Option Text → Bool
 is_set value = option_map_or (λ v. bytes_eq v (codes "true")) value false
 
--- Exactly one of a name and a number of orders is asked for, and -k only beside a name.
-abbrev pub choose : Option Text → Option Text → Bool → Form
-choose (Some doc) None keep = document doc keep
-choose (Some doc) (Some count) keep = no_form
-choose None (Some count) false = generation_of (count_of count)
-choose None (Some count) true = no_form
-choose None None keep = no_form
+-- Exactly one of a name and a number of orders is asked for, and -k and -x only beside a name, which is that of an index
+-- file exactly with -x.
+abbrev pub choose : Option Text → Option Text → Bool → Bool → Form
+choose (Some doc) None keep false = document doc keep
+choose (Some doc) None keep true = index_file doc keep
+choose (Some doc) (Some count) keep indexed = no_form
+choose None (Some count) false false = generation_of (count_of count)
+choose None (Some count) false true = no_form
+choose None (Some count) true indexed = no_form
+choose None None keep indexed = no_form
 
 abbrev pub form_of_rows : List Row → Form
 form_of_rows rows =
-    choose (first_of (codes "doc") rows) (first_of (codes "generate") rows) (is_set (first_of (codes "keep") rows))
+    choose (first_of (codes "doc") rows) (first_of (codes "generate") rows)
+    (is_set (first_of (codes "keep") rows)) (is_set (first_of (codes "index") rows))
 
 -- what clap refuses of the words, and what it finds in them (unfoldable, so that no goal computes clap's walk)
 unfoldable pub faults : List Text → Kinds

@@ -7,15 +7,19 @@ use Rattle.vtd_outside.specs.Gathered.{TakesUpTo}
 use Rattle.xml_model.specs.declared.DocFault.{DocFault}
 use Rattle.xml_model.specs.Nest.{Forest}
 use Rattle.xml_model.specs.Accepted.{Accepted, IsRefusal}
-use Rattle.vtd_script.specs.Lines.{lines}
+use Rattle.vtd_words.specs.Numbers.{AreBytes}
+use Rattle.vtd_index.specs.Index.{IsFault}
+use Rattle.vtd_documents.specs.Loads.{IsFileOf}
+use Rattle.vtd_index.specs.declared.faults.IndexFault.{IndexFault}
+use Rattle.vtd_lines.specs.Lines.{lines}
 use Rattle.vtd_listing.specs.Listing.{line_feed}
 use Rattle.vtd_script.specs.Faults.{fault_line}
-use Rattle.vtd_script.specs.States.{State, state_of}
-use Rattle.vtd_script.specs.Steps.{document_limit}
+use Rattle.vtd_script.specs.States.{State, state_of, refused_line}
+use Rattle.vtd_script.specs.Steps.{document_limit, index_limit, index_refusal}
 use Rattle.vtd_script.specs.Runs.{Ends, IsPrefix}
 use Rattle.vtd_script.specs.declared.endings.End.{End}
 use Rattle.vtd_generator.specs.Generated.{generated, generated_script}
-use Rattle.vtd_running.specs.Form.{Form, document, generation, no_form}
+use Rattle.vtd_running.specs.Form.{Form, document, generation, index_file, no_form}
 use Rattle.vtd_running.specs.Statuses.{status_of, IsMeant}
 use Rattle.vtd_running.specs.declared.status.Status.{Status}
 use Rattle.vtd_running.specs.declared.status.Status.TheVariants as statuses
@@ -86,18 +90,44 @@ pub data RunsDocument (script_rose file_rose out_rose : Type 0) (keep : Bool) (f
       RunsScript script_rose file_rose out_rose keep (first_state bytes files) script m →
       RunsDocument script_rose file_rose out_rose keep files bytes script m
 
--- A document of this name: it is not there, or could not be read, or there was no memory for it; or it was read.
-pub data RunsName (script_rose file_rose out_rose : Type 0) (keep : Bool) (files : NameMap)
-    (name script : List ℕ) : Outcome → Type 0 where
+-- A file of these bytes as an index file. The script is read only where it is the index file of a document, over which
+-- the lines are carried out. What has a number above 255 is no file.
+pub data RunsIndex (script_rose file_rose out_rose : Type 0) (keep : Bool) (files : NameMap)
+    (file script : List ℕ) : Outcome → Type 0 where
+  index_long : index_limit < length file → (sent : List ℕ) (status : Status) →
+      EndsWith out_rose document_long_line statuses.Refused sent status →
+      RunsIndex script_rose file_rose out_rose keep files file script (only_printed sent files script status)
+  index_unfit : length file ≤ index_limit → AreBytes file → (fault : IndexFault) → IsFault file fault →
+      (sent : List ℕ) (status : Status) →
+      EndsWith out_rose (refused_line (index_refusal fault)) statuses.Refused sent status →
+      RunsIndex script_rose file_rose out_rose keep files file script (only_printed sent files script status)
+  index_accepted : length file ≤ index_limit → AreBytes file → (bytes : List ℕ) → IsFileOf file bytes →
+      (m : Outcome) → RunsScript script_rose file_rose out_rose keep (first_state bytes files) script m →
+      RunsIndex script_rose file_rose out_rose keep files file script m
+  index_no_file : length file ≤ index_limit → (AreBytes file → ⊥) →
+      RunsIndex script_rose file_rose out_rose keep files file script (nothing_done files script statuses.FileFault)
+
+-- A file of this name: it is not there, or could not be read, or there was no memory for it; or it was read, and the run
+-- goes on as its bytes have it.
+pub data RunsFile (file_rose : Type 0) (GoesOn : List ℕ → Outcome → Type 0) (files : NameMap) (name script : List ℕ) :
+    Outcome → Type 0 where
   document_missing : files name ≡ None →
-      RunsName script_rose file_rose out_rose keep files name script (nothing_done files script statuses.FileFault)
+      RunsFile file_rose GoesOn files name script (nothing_done files script statuses.FileFault)
   document_unread : file_rose →
-      RunsName script_rose file_rose out_rose keep files name script (nothing_done files script statuses.FileFault)
-  document_unkept :
-      RunsName script_rose file_rose out_rose keep files name script (nothing_done files script statuses.NoMemory)
-  there : (bytes : List ℕ) → files name ≡ Some bytes → (m : Outcome) →
-      RunsDocument script_rose file_rose out_rose keep files bytes script m →
-      RunsName script_rose file_rose out_rose keep files name script m
+      RunsFile file_rose GoesOn files name script (nothing_done files script statuses.FileFault)
+  document_unkept : RunsFile file_rose GoesOn files name script (nothing_done files script statuses.NoMemory)
+  there : (bytes : List ℕ) → files name ≡ Some bytes → (m : Outcome) → GoesOn bytes m →
+      RunsFile file_rose GoesOn files name script m
+
+-- a document of this name
+abbrev pub RunsName : Type 0 → Type 0 → Type 0 → Bool → NameMap → List ℕ → List ℕ → Outcome → Type 0
+RunsName script_rose file_rose out_rose keep files name script m =
+    RunsFile file_rose (λ bytes. RunsDocument script_rose file_rose out_rose keep files bytes script) files name script m
+
+-- an index file of this name
+abbrev pub RunsIndexName : Type 0 → Type 0 → Type 0 → Bool → NameMap → List ℕ → List ℕ → Outcome → Type 0
+RunsIndexName script_rose file_rose out_rose keep files name script m =
+    RunsFile file_rose (λ file. RunsIndex script_rose file_rose out_rose keep files file script) files name script m
 
 abbrev pub no_files : NameMap
 no_files name = None
@@ -123,6 +153,8 @@ pub data RunsUsage (err_rose : Type 0) (files : NameMap) (script : List ℕ) : O
 abbrev pub Runs : Type 0 → Type 0 → Type 0 → Type 0 → Form → NameMap → List ℕ → Outcome → Type 0
 Runs script_rose file_rose out_rose err_rose (document name keep) files script m =
     RunsName script_rose file_rose out_rose keep files name script m
+Runs script_rose file_rose out_rose err_rose (index_file name keep) files script m =
+    RunsIndexName script_rose file_rose out_rose keep files name script m
 Runs script_rose file_rose out_rose err_rose (generation count) files script m =
     RunsGenerated out_rose count files script m
 Runs script_rose file_rose out_rose err_rose no_form files script m = RunsUsage err_rose files script m

@@ -5,9 +5,14 @@ use Rattle.vtd_outside.specs.Known.{NameMap}
 use Rattle.xml_model.specs.Nest.{Forest}
 use Rattle.xml_model.specs.Accepted.{Accepted, IsRefusal}
 use Rattle.vtd_script.specs.States.{Work, State}
-use Rattle.vtd_script.specs.Steps.{document_limit}
+use Rattle.vtd_script.specs.Steps.{document_limit, index_limit}
+use Rattle.vtd_words.specs.Numbers.{AreBytes}
+use Rattle.vtd_index.specs.Index.{IsFault}
+use Rattle.vtd_documents.specs.Loads.{IsFileOf}
 use Rattle.vtd_generator.specs.Generated.{generated_script}
 use Rattle.vtd_running.specs.Meaning.{Outcome, EndsWith, RunsGenerated, RunsScript, only_printed}
+use Rattle.vtd_running.specs.declared.indexes.NoIndex.{NoIndex}
+use Rattle.vtd_running.specs.declared.indexes.NoIndex.TheVariants as index
 use Rattle.vtd_running.specs.declared.reading.NoDocument.{NoDocument}
 use Rattle.vtd_running.specs.declared.reading.NoDocument.TheVariants as no
 use Rattle.vtd_running.specs.declared.status.Status.{Status}
@@ -43,6 +48,31 @@ abbrev pub DocumentCause : Bool → ℕ → ℕ → ℕ → ℕ → Result Work 
 DocumentCause missing missed_before missed proper_before proper (Err no.Failed) =
     RoseAlone missing missed_before missed proper_before proper
 DocumentCause missing missed_before missed proper_before proper result =
+    (missed ≡ missed_before) × (proper ≡ proper_before)
+
+-- a session that begins over the index file of a name
+pub record BeginsIndex (files : NameMap) (name : List ℕ) (work : Work) : Type 0 where
+  pub file : List ℕ
+  pub there : files name ≡ Some file
+  pub within : length file ≤ index_limit
+  pub of_bytes : AreBytes file
+  pub index : IsFileOf file work.bytes
+  pub first : work ≡ record { bytes = work.bytes; bound = []; staged = [] }
+
+-- Why no session begins over the index file of a name, or that one does.
+abbrev pub ReadsIndex : NameMap → List ℕ → Result Work NoIndex → Type 0
+ReadsIndex files name (Ok work) = BeginsIndex files name work
+ReadsIndex files name (Err index.Failed) = Unit {0}
+ReadsIndex files name (Err index.NoMemory) = Unit {0}
+ReadsIndex files name (Err index.Long) =
+    (file : List ℕ) × (files name ≡ Some file) × (index_limit < length file)
+ReadsIndex files name (Err (index.Unfit fault)) =
+    (file : List ℕ) × (files name ≡ Some file) × (length file ≤ index_limit) × AreBytes file × IsFault file fault
+
+abbrev pub IndexCause : Bool → ℕ → ℕ → ℕ → ℕ → Result Work NoIndex → Type 0
+IndexCause missing missed_before missed proper_before proper (Err index.Failed) =
+    RoseAlone missing missed_before missed proper_before proper
+IndexCause missing missed_before missed proper_before proper result =
     (missed ≡ missed_before) × (proper ≡ proper_before)
 
 -- What a run left that sent nothing to standard error.

@@ -4,7 +4,7 @@ use Rattle.vtd_outside.specs.Causes.{Rose}
 use Rattle.vtd_script.specs.Changes.{FileCounts}
 use Rattle.vtd_script.specs.declared.endings.End.{End}
 use Rattle.vtd_script.specs.declared.endings.End.TheVariants as ends
-use Rattle.vtd_running.specs.Form.{Form, document, generation, no_form}
+use Rattle.vtd_running.specs.Form.{Form, document, generation, index_file, no_form}
 use Rattle.vtd_running.specs.declared.status.Status.{Status}
 use Rattle.vtd_running.specs.declared.status.Status.TheVariants as statuses
 
@@ -63,6 +63,8 @@ WriteCounts statuses.NoMemory before now = now ≡ before
 abbrev pub SendCounts : Form → Status → ℕ → ℕ → ℕ → ℕ → Type 0
 SendCounts (document name keep) status out_before out err_before err =
     WriteCounts status out_before out × (err ≡ err_before)
+SendCounts (index_file name keep) status out_before out err_before err =
+    WriteCounts status out_before out × (err ≡ err_before)
 SendCounts (generation count) status out_before out err_before err =
     WriteCounts status out_before out × (err ≡ err_before)
 SendCounts no_form status out_before out err_before err = (out ≡ out_before) × WriteCounts status err_before err
@@ -81,14 +83,6 @@ abbrev pub RunFiles : Status → ℕ → ℕ → ℕ → ℕ → Type 0
 RunFiles status missed_before missed proper_before proper =
     FileCounts (is_file_fault status) missed_before missed proper_before proper
 
--- the status of a generated run, whose script names no file
-abbrev pub generated_status : End → Status
-generated_status ends.Done = statuses.Done
-generated_status ends.Stopped = statuses.Refused
-generated_status ends.WriteFault = statuses.WriteFault
-generated_status ends.FileFault = statuses.NoMemory
-generated_status ends.NoMemory = statuses.NoMemory
-
 -- how a generated run ends: neither its files nor its script can fail
 abbrev pub EndsGenerated : Status → Type 0
 EndsGenerated statuses.Usage = ⊥
@@ -101,6 +95,8 @@ EndsGenerated status = Unit {0}
 abbrev pub FitsForm : Form → Status → Type 0
 FitsForm (document name keep) statuses.Usage = ⊥
 FitsForm (document name keep) status = Unit {0}
+FitsForm (index_file name keep) statuses.Usage = ⊥
+FitsForm (index_file name keep) status = Unit {0}
 FitsForm (generation count) status = EndsGenerated status
 FitsForm no_form statuses.Usage = Unit {0}
 FitsForm no_form statuses.WriteFault = Unit {0}

@@ -5,7 +5,7 @@ ghost use Rattle.vtd_outside.specs.Causes.{Rose};
 ghost use Rattle.vtd_script.specs.States.{state_of};
 ghost use Rattle.vtd_running.specs.Meaning.{no_files};
 ghost use Rattle.vtd_running.specs.Parts.{Carries, Generates};
-ghost use Rattle.vtd_running.specs.Statuses.{generated_status, EndsGenerated, WriteCounts};
+ghost use Rattle.vtd_running.specs.Statuses.{EndsGenerated, WriteCounts};
 
 use crate::sending::refuse;
 use crate::status::{Status, status_of};
@@ -13,23 +13,12 @@ use std::alloc::Global;
 use vtd_builder::BuildFault;
 use vtd_generator::{generated_document, generated_script};
 use vtd_outside::{MemoryFiles, Sink};
-use vtd_script::{End, Session, carry_out, fault_line};
+use vtd_script::{Session, carry_out, fault_line};
 
 /// The most bytes that one call moves to or from a file of a generated run, which has none.
 const PIECE: usize = 4096;
 
-/// The status of a generated run, by how the lines of its script ended. None of them names a file, so `FileFault` does
-/// not come.
-fn generated_status(end: End) -> Status
-    ensures { result ≡ generated_status end }
-{
-    match end {
-        End::FileFault => Status::NoMemory,
-        end => status_of(end),
-    }
-}
-
-/// Carries out the lines of the generated script.
+/// Carries out the lines of the generated script. None of them asks for a file, so `FileFault` does not come.
 fn carry_generated<K: Sink>(alloc: Global, session: Session, out: &mut K) -> Status
     ensures known { (sent : List ℕ) → K.taken out.old ≡ Some sent
         → Carries (Rose (K.faults out.old) (K.faults out.new)) (state_of session no_files) sent (K.taken out.new)
@@ -38,7 +27,7 @@ fn carry_generated<K: Sink>(alloc: Global, session: Session, out: &mut K) -> Sta
     ensures ends { EndsGenerated result }
 {
     let mut files = MemoryFiles::new(alloc, Vec::new(alloc), PIECE);
-    generated_status(carry_out(session, false, generated_script(), &mut files, out))
+    status_of(carry_out(session, false, generated_script(), &mut files, out))
 }
 
 /// Makes the document of so many orders, and carries out the lines of the generated script over it. It takes time and

@@ -3,6 +3,7 @@
 
 mod counts;
 mod generating;
+mod indexes;
 pub mod laws;
 mod reading;
 mod running;

@@ -3,13 +3,14 @@
 ghost use Rattle.std.specs.Prelude.{◌⊎◌, ◌≡◌, ℕ, Bool, List, map, false, Some, string_bytes, IsTrue};
 ghost use Rattle.vtd_outside.specs.Causes.{Rose, is_missing};
 ghost use Rattle.vtd_outside.specs.Known.{NameMap};
-ghost use Rattle.vtd_running.specs.Form.{form, document, generation};
-ghost use Rattle.vtd_running.specs.Meaning.{Runs, RunsName, Means, Ran};
+ghost use Rattle.vtd_running.specs.Form.{form, document, generation, index_file};
+ghost use Rattle.vtd_running.specs.Meaning.{Runs, RunsIndexName, RunsName, Means, Ran};
 ghost use Rattle.vtd_running.specs.Parts.{Left};
 ghost use Rattle.vtd_running.specs.Statuses.{ReadCounts, RunFiles, SendCounts, WriteCounts, FitsForm};
 ghost use Rattle.vtd_running.specs.Statuses.{EndsMissing, EndsScript};
 
 use crate::generating::run_generated;
+use crate::indexes::{NoIndex, read_index};
 use crate::reading::{NoDocument, read_document};
 use crate::scripts::run_script;
 use crate::sending::{refuse, say_usage};
@@ -17,7 +18,7 @@ use crate::status::Status;
 use crate::words::{Words, read_words};
 use std::alloc::Global;
 use vtd_outside::{Files, Sink, Source};
-use vtd_script::fault_line;
+use vtd_script::{fault_line, index_fault_line};
 
 /// Reads the document of a name, and then the script, and carries out the lines.
 fn run_document<F: Files, S: Source, K: Sink>(
@@ -54,10 +55,46 @@ fn run_document<F: Files, S: Source, K: Sink>(
     }
 }
 
+/// Reads the index file of a name, and then the script, and carries out the lines.
+fn run_index<F: Files, S: Source, K: Sink>(
+    alloc: Global,
+    name: &str,
+    keep: bool,
+    files: &mut F,
+    script: &mut S,
+    out: &mut K,
+) -> Status
+    requires { (F.seen files.old).is_writing ≡ false }
+    ensures known { (map : NameMap) (left sent : List ℕ) → (F.seen files.old).contents ≡ Some map
+        → S.left script.old ≡ Some left → K.taken out.old ≡ Some sent
+        → Left (RunsIndexName (Rose (S.faults script.old) (S.faults script.new))
+        (Rose (F.seen files.old).proper (F.seen files.new).proper) (Rose (K.faults out.old) (K.faults out.new)) keep
+        map name.now left) (F.seen files.new).contents (S.left script.new) sent (K.taken out.new) result }
+    ensures reads { ReadCounts result (S.faults script.old) (S.faults script.new) }
+    ensures sends { WriteCounts result (K.faults out.old) (K.faults out.new) }
+    ensures counts { RunFiles result
+        (F.seen files.old).missed (F.seen files.new).missed (F.seen files.old).proper (F.seen files.new).proper }
+    ensures missing { IsTrue (is_missing (F.seen files.old).contents name.now) → EndsMissing result }
+    ensures writing_stays { (F.seen files.new).is_writing ≡ false }
+    ensures no_usage { EndsScript result }
+{
+    match read_index(alloc, files, name) {
+        Ok(session) => run_script(alloc, session, keep, files, script, out),
+        Err(NoIndex::Failed) => Status::FileFault,
+        Err(NoIndex::NoMemory) => Status::NoMemory,
+        Err(NoIndex::Long) => refuse(out, b"refused file-long\n"),
+        Err(NoIndex::Unfit(fault)) => match index_fault_line(alloc, fault) {
+            Ok(line) => refuse(out, &line),
+            Err(_) => Status::NoMemory,
+        },
+    }
+}
+
 /// Runs the program: reads the document that the words name, then the script, and carries out its lines in turn.
 ///
-/// `words` are those after the program's name, read by `clap`: one name, with `-k` or without; or `-g` and one to seven
-/// digits whose number is 1 to 1,000,000. Where they are not of this form, `err` takes the usage line, and it takes
+/// `words` are those after the program's name, read by `clap`: one name, with `-k`, `-x`, both or neither; or `-g` and
+/// one to seven digits whose number is 1 to 1,000,000. With `-x` the file of the name is read as an index file, whose
+/// document is the first. Where they are not of this form, `err` takes the usage line, and it takes
 /// nothing else. With `-g` the document of so many orders and its own script are made, the lines are carried out beside
 /// no files, and neither `files` nor `script` is touched. A document, a script or a command that is refused prints one
 /// line on `out`. A refused document ends the run, and so does a script of more than 16,777,216 bytes, of which no line
@@ -109,6 +146,8 @@ pub fn run<F: Files, S: Source, K: Sink, E: Sink>(
     ensures usage { FitsForm (form (map string_bytes words.now)) result }
     ensures missing { (name : List ℕ) (keep : Bool) → form (map string_bytes words.now) ≡ document name keep
         → IsTrue (is_missing (F.seen files.old).contents name) → EndsMissing result }
+    ensures missing_index { (name : List ℕ) (keep : Bool) → form (map string_bytes words.now) ≡ index_file name keep
+        → IsTrue (is_missing (F.seen files.old).contents name) → EndsMissing result }
     // A generated run touches neither the files nor the script.
     ensures untouched { (count : ℕ) → form (map string_bytes words.now) ≡ generation count
         → (files.new ≡ files.old) × (script.new ≡ script.old) }
@@ -116,6 +155,7 @@ pub fn run<F: Files, S: Source, K: Sink, E: Sink>(
 {
     match read_words(alloc, words) {
         Ok(Words::Document(name, keep)) => run_document(alloc, name, keep, files, script, out),
+        Ok(Words::IndexFile(name, keep)) => run_index(alloc, name, keep, files, script, out),
         Ok(Words::Generation(count)) => run_generated(alloc, count, out),
         Ok(Words::NoForm) => say_usage(err),
         Err(_) => Status::NoMemory,

@@ -17,18 +17,23 @@ use xml_model::NoMemory;
 pub enum Words<'a> {
     /// To read the document of this name, and to go on after refused commands or not.
     Document(&'a str, bool),
+    /// To read the index file of this name, and to go on after refused commands or not.
+    IndexFile(&'a str, bool),
     /// To generate the document of so many orders, 1 to 1,000,000, and to carry out its script over it.
     Generation(u32),
     /// Nothing: they are not of the form.
     NoForm,
 }
 
-/// The command: the flag `-k`, the option `-g` with its value, and the name of a document.
+/// The command: the flags `-k` and `-x`, the option `-g` with its value, and the name of a document.
 fn vtd_command<'a>(alloc: Global) -> Result<Command<'a>, AllocError>
     ensures { IfOk result (λ command. app_of command ≡ vtd_app) }
 {
     let keep = Arg::new(alloc, "keep")
         .short('k')
+        .action(ArgAction::SetTrue);
+    let index = Arg::new(alloc, "index")
+        .short('x')
         .action(ArgAction::SetTrue);
     let generate = Arg::new(alloc, "generate")
         .short('g')
@@ -38,6 +43,7 @@ fn vtd_command<'a>(alloc: Global) -> Result<Command<'a>, AllocError>
         .no_binary_name(true)
         .disable_help_flag(true)
         .arg(keep)?
+        .arg(index)?
         .arg(generate)?
         .arg(doc)
 }
@@ -59,13 +65,14 @@ fn generation_of<'a>(count: &str) -> Words<'a>
     }
 }
 
-/// What the name of a document, the text of `-g` and the flag `-k` ask for.
-fn choose<'a>(doc: Option<&'a str>, count: Option<&str>, keep: bool) -> Words<'a>
-    ensures { form_seen result ≡ choose (option_copied doc.entry) (option_copied count.entry) keep }
+/// What the name of a document, the text of `-g` and the flags `-k` and `-x` ask for.
+fn choose<'a>(doc: Option<&'a str>, count: Option<&str>, keep: bool, indexed: bool) -> Words<'a>
+    ensures { form_seen result ≡ choose (option_copied doc.entry) (option_copied count.entry) keep indexed }
 {
     match (doc, count) {
+        (Some(doc), None) if indexed => Words::IndexFile(doc, keep),
         (Some(doc), None) => Words::Document(doc, keep),
-        (None, Some(count)) if !keep => generation_of(count),
+        (None, Some(count)) if !keep && !indexed => generation_of(count),
         _ => Words::NoForm,
     }
 }
@@ -74,12 +81,14 @@ fn choose<'a>(doc: Option<&'a str>, count: Option<&str>, keep: bool) -> Words<'a
 fn chosen<'a>(matches: &ArgMatches<'a>) -> Words<'a>
     ensures { form_seen result ≡ choose (first_value (found_of matches.now) (codes "doc"))
         (first_value (found_of matches.now) (codes "generate"))
-        (is_set (first_value (found_of matches.now) (codes "keep"))) }
+        (is_set (first_value (found_of matches.now) (codes "keep")))
+        (is_set (first_value (found_of matches.now) (codes "index"))) }
 {
     choose(
         matches.get_str("doc"),
         matches.get_str("generate"),
         has_flag(matches, "keep"),
+        has_flag(matches, "index"),
     )
 }
 

@@ -2,8 +2,8 @@
 use Rattle.std.proofs.Common.{◌≡◌, ℕ, ◌==◌, List, [], ◌∷◌, ◌++◌, Option, Some, option_map, refl, sym, ap, ◌∙◌, inl, inr}
 use Rattle.std.proofs.lemmas.Bool.{cases_Bool, eqb-true}
 use Rattle.vtd_listing.specs.Escapes.{escaped, escaped_char}
-use Rattle.vtd_script.specs.Fields.{unescaped}
-use Rattle.vtd_script.proofs.FieldLemmas.{plain_char}
+use Rattle.vtd_lines.specs.Fields.{unescaped}
+use Rattle.vtd_lines.proofs.FieldLemmas.{plain_char}
 
 abbrev with_char : ℕ → Option (List ℕ) → Option (List ℕ)
 with_char c rest = option_map (λ cs. c ∷ cs) rest

@@ -1,12 +1,11 @@
-pub mod LineLemmas
-pub mod FieldLemmas
 pub mod EscapeLaws
-pub mod ReadLemmas
-mod Examples
 pub mod StageLemmas
+pub mod IndexLaws
 pub mod StepLaws
 pub mod RunLaws
 pub mod Parts
+pub mod FileParts
+pub mod IndexParts
 pub mod AskLemmas
 pub mod StageParts
 pub mod Loop

@@ -5,10 +5,10 @@ use Rattle.std.specs.List.{slice_range}
 use Rattle.std.proofs.lemmas.List.{drop_all}
 use Rattle.vtd_outside.specs.Causes.{Rose}
 use Rattle.vtd_outside.specs.Known.{NameMap}
-use Rattle.vtd_script.specs.Lines.{lines, IsLine}
-use Rattle.vtd_script.specs.declared.lines.Line.{Line}
+use Rattle.vtd_lines.specs.Lines.{lines, IsLine}
+use Rattle.vtd_lines.specs.declared.lines.Line.{Line}
 use Rattle.vtd_script.specs.States.{Work, State, state_of, Answer, lines_of, state_after, is_refused, goes_on}
-use Rattle.vtd_script.specs.Steps.{Step}
+use Rattle.vtd_script.specs.Steps.{Step, asks_any_file, asks_file, asks_for}
 use Rattle.vtd_script.specs.Runs.{Reached, start, with_answer, Reaches, EndsBy, StepsKnown, Carrying, EndsKnown}
 use Rattle.vtd_script.specs.Runs.{Turned, TurnedKnown, end_of}
 use Rattle.vtd_script.specs.declared.refusals.Refusal.{Refusal}
@@ -279,3 +279,20 @@ loop_done f o keep s script at work files before taken r end e d c =
     let P : List (List ℕ) → Type 0 = λ rest. Carrying keep s (lines script) rest work files before taken r in
     let Q : End → Type 0 = λ x. EndsKnown f o keep s (lines script) x files before taken in
     subst Q (sym d) (ends_last f o keep s (lines script) work files before taken r (subst P none c))
+
+-- a line that asks for a file, by the lines from it on
+some_true : (a b : Bool) → b ≡ true → (a || b) ≡ true
+some_true true b e = refl
+some_true false b e = e
+
+this_true : (a b : Bool) → a ≡ true → (a || b) ≡ true
+this_true true b e = refl
+this_true false b e = absurd cc
+
+pub asked_later : (script : List ℕ) (at : ℕ) (line : Line) → IsLine script at line → asks_any_file (lines (drop line.next script)) ≡ true
+    → asks_any_file (lines (drop at script)) ≡ true
+asked_later script at line l t = ap asks_any_file l.first ∙ some_true _ _ t
+
+pub asked_here : (script : List ℕ) (at : ℕ) (line : Line) → IsLine script at line
+    → asks_file (asks_for (slice_range script line.start line.end)) ≡ true → asks_any_file (lines (drop at script)) ≡ true
+asked_here script at line l t = ap asks_any_file l.first ∙ this_true _ _ t

@@ -1,38 +1,37 @@
 -- The two parts of a command, joined.
-use Rattle.std.proofs.Common.{◌⊎◌, ◌≡◌, ◌↔◌, ◌≤◌, ◌<◌, ◌+◌, ℕ, Bool, true, false, List, [], ◌∷◌, ◌++◌, length, take, drop, Option, Some, None}
-use Rattle.std.specs.Prelude.{is_none}
-use Rattle.std.proofs.Common.{Result, Ok, Err, OnErr, refl, sym, ap, ap₂, subst, ◌∙◌, inl, inr, arith}
+use Rattle.std.proofs.Common.{◌⊎◌, ◌≡◌, ◌↔◌, ℕ, Bool, true, false, List, [], ◌++◌, length, take, drop, Option, Some, None}
+use Rattle.std.proofs.Common.{Result, Ok, Err, OnErr, refl, sym, ap, ap₂, subst, ◌∙◌, inl, inr}
 use Rattle.std.proofs.lemmas.List.{append-nil, take-append-drop}
 use Rattle.xml_model.specs.Items.{first_place}
 use Rattle.xml_model.specs.Records.{records}
 use Rattle.xml_model.specs.Nest.{Forest}
-use Rattle.xml_model.specs.Accepted.{Accepted, IsRefusal}
-use Rattle.xml_model.specs.declared.DocFault.{DocFault}
+use Rattle.xml_model.specs.Accepted.{Accepted}
 use Rattle.vtd_outside.specs.declared.Failed.{Failed}
 use Rattle.vtd_outside.specs.declared.GatherFault.{GatherFault}
 use Rattle.vtd_outside.specs.declared.GatherFault.TheVariants.{Long}
 use Rattle.vtd_outside.specs.declared.GatherFault.TheVariants as gather
-use Rattle.vtd_outside.specs.Causes.{Rose, RoseAlone, HasFileCause, GatherFileCause, is_missing}
-use Rattle.vtd_outside.specs.Known.{NameMap, OpenFile, put_into}
-use Rattle.vtd_outside.specs.Gathered.{Sends, GathersFile, GathersFilePrefix}
+use Rattle.vtd_outside.specs.Causes.{Rose, RoseAlone, HasFileCause, GatherFileCause}
+use Rattle.vtd_outside.specs.Known.{NameMap, put_into}
+use Rattle.vtd_outside.specs.Gathered.{Sends}
 use Rattle.vtd_outside.specs.Written.{Writes}
-use Rattle.vtd_edits.specs.declared.splice.Splice.{Splice}
 use Rattle.vtd_script.specs.States.{Work, State, state_of, Answer, skipped, printed, refused, missing, refused_line, new_bytes}
-use Rattle.vtd_script.specs.Steps.{Binds, Tells, Answers, Does, Step, ok_line, with_binding, with_document, with_file, has_file, asks_file, name_of}
-use Rattle.vtd_script.specs.Steps.{Takes, too_long, unfit, accepted, Opens, document_limit, document_line, refusal_of, saved_line}
+use Rattle.vtd_script.specs.Steps.{Binds, Tells, Answers, Does, Step, asked_by, asks_for, ok_line, with_binding, with_file, has_file, asks_file, name_of}
+use Rattle.vtd_script.specs.Steps.{Takes, document_line, saved_line}
 use Rattle.vtd_listing.specs.Listing.{listed}
 use Rattle.vtd_script.specs.Queries.{query_refusal}
 use Rattle.vtd_queries.specs.Meets.{IsRefused}
 use Rattle.vtd_queries.specs.declared.faults.QueryFault.{QueryFault}
 use Rattle.vtd_queries.specs.declared.faults.QueryFault.TheVariants as queries
-use Rattle.vtd_script.specs.Commands.{read}
 use Rattle.vtd_script.specs.Runs.{IsPrefix, StepsKnown}
-use Rattle.vtd_script.specs.Changes.{Asks, Changes, ChangesKnown, MakesDocument, OpensDocument, Prepares, ReadsDocument, CompletesKnown, Told, query_stop}
-use Rattle.vtd_script.specs.Changes.{PreparesStaging}
-use Rattle.vtd_script.specs.Changes.{RefusesKnown, stops_at_file}
+use Rattle.vtd_script.specs.Changes.{Asks, Changes, ChangesKnown, MakesDocument, Prepares, CompletesKnown, Told, query_stop, PreparesStaging}
+use Rattle.vtd_script.specs.Changes.{RefusesKnown, stops_at_file, touches_file}
 use Rattle.vtd_script.specs.Changes.{StaysUnlessDone, StaysUnlessReady, FileCounts, fails_at_file, writes}
-use Rattle.vtd_script.specs.declared.commands.Command.{Command}
-use Rattle.vtd_script.specs.declared.commands.Command.TheVariants.{Apply, Elements, Open, Save}
+use Rattle.vtd_lines.specs.Commands.{Wrong, line_too_long, line_no_text, no_such_command, no_such_escape, read}
+use Rattle.vtd_lines.specs.Readings.{Reads}
+use Rattle.vtd_lines.specs.declared.commands.LineFault.{LineFault}
+use Rattle.vtd_lines.specs.declared.commands.LineFault.TheVariants as why
+use Rattle.vtd_lines.specs.declared.commands.Command.{Command}
+use Rattle.vtd_lines.specs.declared.commands.Command.TheVariants.{Apply, Elements, Save}
 use Rattle.xpath_grammar.specs.declared.bindings.BindFault.{BindFault}
 use Rattle.xpath_grammar.specs.declared.bindings.BindFault.TheVariants.{Name}
 use Rattle.vtd_script.specs.declared.refusals.Refusal.{Refusal}
@@ -163,44 +162,20 @@ prepares_file rose name s ready lines n l d = (
   λ w. (refl, refl),
 )
 
--- a document that was read
-pub takes_made : (bytes built lines : List ℕ) (s now : State) → length bytes ≤ document_limit → built ≡ bytes
-    → ((nest : Forest) × Accepted 8 bytes nest × (lines ≡ document_line (length bytes) (length (records nest (first_place bytes)))))
-    → now ≡ with_document built s → Takes bytes s (printed lines now)
-takes_made bytes built lines s now l b h e =
-    let P : List ℕ → Type 0 = λ ls. Takes bytes s (printed ls now) in
-    let Q : State → Type 0 = λ t. Takes bytes s (printed (document_line (length bytes) (length (records h.0 (first_place bytes)))) t) in
-    subst P (sym h.2) (subst Q (sym (e ∙ ap (λ (x : List ℕ). with_document x s) b)) (accepted l h.0 h.1))
-
-pub takes_unfit : (bytes : List ℕ) (s : State) (refusal : Refusal) → length bytes ≤ document_limit
-    → ((fault : DocFault) × IsRefusal bytes fault × (refusal ≡ refusal_of fault)) → Takes bytes s (refused refusal)
-takes_unfit bytes s refusal l h = let P : Refusal → Type 0 = λ x. Takes bytes s (refused x) in subst P (sym h.2) (unfit l h.0 h.1)
-
--- a document that was read, and why none was
-pub made_document : (bytes : List ℕ) (result : Result Made Stop) → length bytes ≤ document_limit → ReadsDocument bytes result → MakesDocument bytes result
-made_document bytes (Ok made) l h = λ s. takes_made bytes made.document.bytes made.lines s (with_document made.document.bytes s) l h.0 h.1 refl
-made_document bytes (Err (stop.Refused refusal)) l h = λ s. takes_unfit bytes s refusal l h
-made_document bytes (Err stop.File) l h = absurd h
-made_document bytes (Err stop.NoMemory) l h = tt
-
-pub made_from : (bytes given : List ℕ) (result : Result Made Stop) → given ≡ bytes → length given ≤ document_limit → ReadsDocument given result
-    → MakesDocument bytes result
-made_from bytes given result e l h = let P : List ℕ → Type 0 = λ b. MakesDocument b result in subst P e (made_document given result l h)
-
-pub prepares_apply : (work now : Work) (files : NameMap) (made : Made) (ready : Ready) → MakesDocument (new_bytes work) (Ok made)
-    → now ≡ record { bytes = made.document.bytes; bound = work.bound; staged = [] } → ready.change ≡ change.Nothing → ready.lines ≡ made.lines
+pub prepares_apply : (work now : Work) (files : NameMap) (made : Made) (ready : Ready) → MakesDocument (Takes (new_bytes work)) (Ok made)
+    → now ≡ record { bytes = made.document; bound = work.bound; staged = [] } → ready.change ≡ change.Nothing → ready.lines ≡ made.lines
     → Prepares ⊥ Apply (state_of work files) (state_of now files) (Ok ready)
 prepares_apply work now files made ready h w n l =
     let P : Work → Type 0 = λ x. Takes (new_bytes work) (state_of work files) (printed made.lines (state_of x files)) in
     prepares_nothing ⊥ Apply (state_of work files) (state_of now files) ready made.lines n l (subst P (sym w) (h (state_of work files)))
 
-pub stops_apply : (work : Work) (files : NameMap) (x : Stop) → MakesDocument (new_bytes work) (Err x)
+pub stops_apply : (work : Work) (files : NameMap) (x : Stop) → MakesDocument (Takes (new_bytes work)) (Err x)
     → Prepares ⊥ Apply (state_of work files) (state_of work files) (Err x)
 stops_apply work files (stop.Refused refusal) h = (refl, h (state_of work files))
 stops_apply work files stop.File h = absurd h
 stops_apply work files stop.NoMemory h = refl
 
-pub makes_no_file : (bytes : List ℕ) (x : Stop) → MakesDocument bytes (Err x) → stops_at_file {T = Ready} (Err x) ≡ false
+pub makes_no_file : (bytes : List ℕ) (x : Stop) → MakesDocument (Takes bytes) (Err x) → stops_at_file {T = Ready} (Err x) ≡ false
 makes_no_file bytes (stop.Refused refusal) h = refl
 makes_no_file bytes stop.File h = absurd h
 makes_no_file bytes stop.NoMemory h = refl
@@ -210,65 +185,8 @@ counts_same (stop.Refused refusal) mb ma pb pa h = h
 counts_same stop.File mb ma pb pa h = h
 counts_same stop.NoMemory mb ma pb pa h = h
 
-pub prepares_open : (rose : Type 0) (file : List ℕ) (work now : Work) (files : NameMap) (made : Made) (ready : Ready)
-    → OpensDocument rose (state_of work files) file (Ok made)
-    → now ≡ record { bytes = made.document.bytes; bound = work.bound; staged = [] } → ready.change ≡ change.Nothing → ready.lines ≡ made.lines
-    → Prepares rose (Open file) (state_of work files) (state_of now files) (Ok ready)
-prepares_open rose file work now files made ready h w n l =
-    let P : Work → Type 0 = λ x. Opens work.staged (files (name_of file)) (state_of work files) (printed made.lines (state_of x files)) in
-    prepares_nothing rose (Open file) (state_of work files) (state_of now files) ready made.lines n l (subst P (sym w) h)
-
-pub stops_open : (rose : Type 0) (file : List ℕ) (work : Work) (files : NameMap) (x : Stop) → OpensDocument rose (state_of work files) file (Err x)
-    → Prepares rose (Open file) (state_of work files) (state_of work files) (Err x)
-stops_open rose file work files (stop.Refused refusal) h = (refl, h)
-stops_open rose file work files stop.File h = (refl, elim h [ inl q ↦ inl q | inr q ↦ inr (refl, q) ])
-stops_open rose file work files stop.NoMemory h = refl
-
 pub stays_taken : (ready : Ready) (work now : Work) → ready.change ≡ change.Nothing → StaysUnlessReady (Ok ready) work now
 stays_taken ready work now n = λ w. absurd (writes_nothing ready.change n w)
-
-unstaged : (staged : List Splice) (file : Option (List ℕ)) (bytes : List ℕ) (s : State) (a : Answer) → length staged ≤ 0 → file ≡ Some bytes → Takes bytes s a
-    → Opens staged file s a
-unstaged [] file bytes s a l e t = let P : Option (List ℕ) → Type 0 = λ o. Opens [] o s a in subst P (sym e) t
-unstaged (splice ∷ staged) file bytes s a l e t = absurd (omega arith)
-
-opens_any : (result : Result Made Stop) (rose : Type 0) (file bytes : List ℕ) (s : State) → length s.work.staged ≤ 0 → s.files (name_of file) ≡ Some bytes
-    → MakesDocument bytes result → OpensDocument rose s file result
-opens_any (Ok made) rose file bytes s l e h = unstaged s.work.staged (s.files (name_of file)) bytes s _ l e (h s)
-opens_any (Err (stop.Refused refusal)) rose file bytes s l e h = unstaged s.work.staged (s.files (name_of file)) bytes s _ l e (h s)
-opens_any (Err stop.File) rose file bytes s l e h = absurd h
-opens_any (Err stop.NoMemory) rose file bytes s l e h = tt
-
-pub opens_bytes : (rose : Type 0) (file named bytes : List ℕ) (work : Work) (map : NameMap) (contents : Option NameMap) (opened : Option OpenFile)
-    (result : Result Made Stop) → length work.staged ≤ 0 → contents ≡ Some map → named ≡ name_of file → GathersFile contents named opened bytes
-    → length bytes ≤ document_limit → ReadsDocument bytes result → OpensDocument rose (state_of work map) file result
-opens_bytes rose file named bytes work map contents opened result l c n g w h =
-    let Q : Option NameMap → Type 0 = λ o. GathersFile o named opened bytes in
-    let there = (subst Q c g).0 in
-    opens_any result rose file bytes (state_of work map) l (ap map (sym n) ∙ there) (made_document bytes result w h)
-
-pub opens_long : (file named : List ℕ) (work : Work) (map : NameMap) (contents : Option NameMap) (opened : Option OpenFile) (fault : GatherFault)
-    → length work.staged ≤ 0 → contents ≡ Some map → named ≡ name_of file → fault ≡ Long → GathersFilePrefix document_limit contents named opened fault
-    → Opens work.staged (map (name_of file)) (state_of work map) (refused no.FileLong)
-opens_long file named work map contents opened fault l c n f g =
-    let Q : Option NameMap → Type 0 = λ o. GathersFilePrefix document_limit o named opened fault in
-    let R : GatherFault → Type 0 = λ x. GathersFilePrefix document_limit (Some map) named opened x in
-    let t = subst R f (subst Q c g) in
-    let e : document_limit + 1 ≤ length t.bytes = t.enough in
-    unstaged work.staged (map (name_of file)) t.bytes (state_of work map) (refused no.FileLong) l (ap map (sym n) ∙ t.there) (too_long (omega (arith, e)))
-
-pub opens_staged : (staged : List Splice) (file : Option (List ℕ)) (s : State) → 0 < length staged → Opens staged file s (refused no.Staged)
-opens_staged [] file s l = absurd (omega arith)
-opens_staged (splice ∷ staged) file s l = refl
-
--- a file that is not there, or whose reading failed
-opens_none : (staged : List Splice) (file : Option (List ℕ)) (s : State) → length staged ≤ 0 → file ≡ None → Opens staged file s missing
-opens_none [] None s l e = refl
-opens_none [] (Some bytes) s l e = absurd (none_not bytes e)
-  where
-    none_not : (bytes : List ℕ) → Some bytes ≡ None → ⊥
-    none_not bytes e = cc
-opens_none (splice ∷ staged) file s l e = absurd (omega arith)
 
 -- a command that needs no file, where one may fail
 pub prepares_more : (rose : Type 0) (command : Command) (s now : State) (result : Result Ready Stop) → Prepares ⊥ command s now result → Prepares rose command s now result
@@ -297,12 +215,12 @@ pub read_refused : (x : Stop) (refusal : Refusal) (asked : Option (Result Comman
 read_refused x refusal asked e h = let P : Stop → Type 0 = λ y. Asks (Err y) asked in subst P e h
 
 -- A line is read, and so it answers.
-step_by : (s : State) (line : List ℕ) (asked : Option (Result Command Refusal)) (a : Answer) → read line ≡ asked → Answers asked s a → Step s line a
+step_by : (s : State) (line : List ℕ) (asked : Option (Result Command Refusal)) (a : Answer) → asks_for line ≡ asked → Answers asked s a → Step s line a
 unfolding Step
 step_by s line asked a e h = let P : Option (Result Command Refusal) → Type 0 = λ x. Answers x s a in subst P (sym e) h
 
 pub step_skipped : (file_rose out_rose : Type 0) (line : List ℕ) (work : Work) (map : NameMap) (sent : List ℕ) (files : Option NameMap) (taken : Option
-    (List ℕ)) → read line ≡ None → files ≡ Some map → taken ≡ Some sent
+    (List ℕ)) → asks_for line ≡ None → files ≡ Some map → taken ≡ Some sent
     → StepsKnown file_rose out_rose (state_of work map) line (Ok endings.Skipped) work files sent taken
 step_skipped file_rose out_rose line work map sent files taken e f t = record {
   files = map;
@@ -351,25 +269,25 @@ known_refusal file_rose out_rose line work now map sent files taken refusal (Err
 known_refusal file_rose out_rose line work now map sent files taken refusal (Err faults.File) h w f t = absurd t.refuses
 
 pub step_unread : (file_rose out_rose : Type 0) (line : List ℕ) (work : Work) (map : NameMap) (sent : List ℕ) (files : Option NameMap) (taken : Option
-    (List ℕ)) (refusal : Refusal) (result : Result Ending StepFault) → read line ≡ Some (Err refusal) → files ≡ Some map
+    (List ℕ)) (refusal : Refusal) (result : Result Ending StepFault) → asks_for line ≡ Some (Err refusal) → files ≡ Some map
     → RefusesKnown out_rose refusal result sent taken → StepsKnown file_rose out_rose (state_of work map) line result work files sent taken
 step_unread file_rose out_rose line work map sent files taken refusal result e f t =
     known_refusal file_rose out_rose line work work map sent files taken refusal result (step_by (state_of work map) line (Some (Err refusal))
     (refused refusal) e refl) refl f t
 
 pub step_refused : (rose file_rose out_rose : Type 0) (line : List ℕ) (command : Command) (work now : Work) (map : NameMap) (sent : List ℕ)
-    (files : Option NameMap) (taken : Option (List ℕ)) (refusal : Refusal) (result : Result Ending StepFault) → read line ≡ Some (Ok command)
+    (files : Option NameMap) (taken : Option (List ℕ)) (refusal : Refusal) (result : Result Ending StepFault) → asks_for line ≡ Some (Ok command)
     → Prepares rose command (state_of work map) (state_of now map) (Err (stop.Refused refusal)) → files ≡ Some map
     → RefusesKnown out_rose refusal result sent taken → StepsKnown file_rose out_rose (state_of work map) line result now files sent taken
 step_refused rose file_rose out_rose line command work now map sent files taken refusal result e p f t =
     known_refusal file_rose out_rose line work now map sent files taken refusal result (step_by (state_of work map) line (Some (Ok command))
     (refused refusal) e p.1) p.0 f t
 
-asks : (line : List ℕ) (command : Command) → read line ≡ Some (Ok command) → has_file command ≡ true → asks_file (read line) ≡ true
+asks : (line : List ℕ) (command : Command) → asks_for line ≡ Some (Ok command) → has_file command ≡ true → asks_file (asks_for line) ≡ true
 asks line command e h = ap asks_file e ∙ h
 
 -- a file that could not be read, or is not there
-pub step_unopened : (file_rose out_rose : Type 0) (line : List ℕ) (command : Command) (work now : Work) (map : NameMap) (sent : List ℕ) (files : Option NameMap) (taken : Option (List ℕ)) → read line ≡ Some (Ok command)
+pub step_unopened : (file_rose out_rose : Type 0) (line : List ℕ) (command : Command) (work now : Work) (map : NameMap) (sent : List ℕ) (files : Option NameMap) (taken : Option (List ℕ)) → asks_for line ≡ Some (Ok command)
     → Prepares file_rose command (state_of work map) (state_of now map) (Err stop.File) → files ≡ Some map → taken ≡ Some sent → StepsKnown file_rose out_rose (state_of work map) line (Err faults.File) now files sent taken
 step_unopened file_rose out_rose line command work now map sent files taken e p f t = record {
   files = map;
@@ -387,7 +305,7 @@ step_unopened file_rose out_rose line command work now map sent files taken e p 
 }
 
 -- a command whose two parts were carried out
-pub step_done : (rose other_rose file_rose out_rose : Type 0) (line : List ℕ) (command : Command) (ready : Ready) (work mid now : Work) (map : NameMap) (sent : List ℕ) (files : Option NameMap) (taken : Option (List ℕ)) (x : Unit {0}) → read line ≡ Some (Ok command)
+pub step_done : (rose other_rose file_rose out_rose : Type 0) (line : List ℕ) (command : Command) (ready : Ready) (work mid now : Work) (map : NameMap) (sent : List ℕ) (files : Option NameMap) (taken : Option (List ℕ)) (x : Unit {0}) → asks_for line ≡ Some (Ok command)
     → Prepares rose command (state_of work map) (state_of mid map) (Ok ready) → CompletesKnown other_rose out_rose ready (state_of mid map) (Ok x) now files sent taken → StepsKnown file_rose out_rose (state_of work map) line (Ok endings.Done) now files sent taken
 step_done rose other_rose file_rose out_rose line command ready work mid now map sent files taken x e p c = record {
   files = c.files;
@@ -405,7 +323,7 @@ step_done rose other_rose file_rose out_rose line command ready work mid now map
 
 -- a command whose second part failed
 pub step_undone : (rose other_rose file_rose out_rose : Type 0) (line : List ℕ) (command : Command) (ready : Ready) (work mid now : Work) (map : NameMap) (sent : List ℕ) (files : Option NameMap) (taken : Option (List ℕ)) (fault : StepFault) → (other_rose → file_rose)
-    → read line ≡ Some (Ok command) → Prepares rose command (state_of work map) (state_of mid map) (Ok ready) → CompletesKnown other_rose out_rose ready (state_of mid map) (Err fault) now files sent taken
+    → asks_for line ≡ Some (Ok command) → Prepares rose command (state_of work map) (state_of mid map) (Ok ready) → CompletesKnown other_rose out_rose ready (state_of mid map) (Err fault) now files sent taken
     → StepsKnown file_rose out_rose (state_of work map) line (Err fault) now files sent taken
 step_undone rose other_rose file_rose out_rose line command ready work mid now map sent files taken faults.Write r e p c = record {
   files = c.files;
@@ -515,20 +433,6 @@ pub one_rose : (gone : Bool) (mb ma pb pa : ℕ) → RoseAlone gone mb ma pb pa 
 one_rose true mb ma pb pa h = inl h
 one_rose false mb ma pb pa h = inr h
 
--- a file to be opened whose reading failed
-opens_by : (staged : List Splice) (file : Option (List ℕ)) (s : State) (mb ma pb pa : ℕ) → length staged ≤ 0 → RoseAlone (is_none file) mb ma pb pa
-    → Opens staged file s missing ⊎ Rose pb pa
-opens_by staged None s mb ma pb pa l h = inl (opens_none staged None s l refl)
-opens_by staged (Some bytes) s mb ma pb pa l h = inr h.1
-
-pub opens_failed : (mb ma pb pa : ℕ) (file named : List ℕ) (work : Work) (map : NameMap) (contents : Option NameMap) → length work.staged ≤ 0
-    → contents ≡ Some map → named ≡ name_of file → RoseAlone (is_missing contents named) mb ma pb pa
-    → OpensDocument (Rose pb pa) (state_of work map) file (Err stop.File)
-opens_failed mb ma pb pa file named work map contents l c n r =
-    let Q : Option NameMap → Type 0 = λ o. RoseAlone (is_missing o named) mb ma pb pa in
-    let R : List ℕ → Type 0 = λ x. RoseAlone (is_none (map x)) mb ma pb pa in
-    opens_by work.staged (map (name_of file)) (state_of work map) mb ma pb pa l (subst R n (subst Q c r))
-
 -- the listing of elements
 pub prepares_listed : (bytes lines : List ℕ) (s : State) (ready : Ready) → bytes ≡ s.work.bytes → ready.change ≡ change.Nothing → ready.lines ≡ lines
     → ((nest : Forest) × Accepted 8 bytes nest × (lines ≡ listed nest (first_place bytes))) → Prepares ⊥ Elements s s (Ok ready)
@@ -605,3 +509,53 @@ stays_staging answers work now (Ok ready) h = λ w. absurd (writes_nothing ready
 stays_staging answers work now (Err (stop.Refused refusal)) h = ap (λ (s : State). s.work) (h (λ name. None)).0
 stays_staging answers work now (Err stop.File) h = absurd (h (λ name. None))
 stays_staging answers work now (Err stop.NoMemory) h = ap (λ (s : State). s.work) (h (λ name. None))
+
+-- a command that has a file, by a first part that ended at one or leaves one
+pub has_by : (command given : Command) (s now : State) (result : Result Ready Stop) → command ≡ given → stops_at_file result ≡ false
+    → Prepares ⊥ given s now result → touches_file result ≡ true → has_file command ≡ true
+has_by command given s now (Ok ready) e n h w = ap has_file e ∙ (h.1 w).1
+has_by command given s now (Err (stop.Refused refusal)) e n h w = absurd cc
+has_by command given s now (Err stop.File) e n h w = absurd cc
+has_by command given s now (Err stop.NoMemory) e n h w = absurd cc
+
+pub stages_no_file : (command : Command) (answers : State → Answer → Type 0) (s now : State) (result : Result Ready Stop)
+    → PreparesStaging answers s now result → touches_file result ≡ true → has_file command ≡ true
+stages_no_file command answers s now (Ok ready) h w = absurd (writes_nothing ready.change h.0 w)
+stages_no_file command answers s now (Err (stop.Refused refusal)) h w = absurd cc
+stages_no_file command answers s now (Err stop.File) h w = absurd h
+stages_no_file command answers s now (Err stop.NoMemory) h w = absurd cc
+
+-- a line that asks for a file
+pub asked_as : (line : List ℕ) (x : Option Command) (command : Command) → x ≡ Some command → Asks (Ok x) (asks_for line)
+    → has_file command ≡ true → asks_file (asks_for line) ≡ true
+asked_as line x command e a h = ap asks_file (read_some x command (asks_for line) e a) ∙ h
+
+-- what a line asks for, by what was read of it
+asks_by : (line : List ℕ) (found : Option (Result Command Wrong)) → read line ≡ found → asks_for line ≡ asked_by found
+unfolding asks_for
+asks_by line found e = ap asked_by e
+
+pub asks_none : (line : List ℕ) (x : Option Command) → x ≡ None → Reads (Ok x) (read line) → asks_for line ≡ None
+asks_none line x e h = let P : Option Command → Type 0 = λ y. Reads (Ok y) (read line) in asks_by line None (subst P e h)
+
+pub asks_some : (line : List ℕ) (x : Option Command) (command : Command) → x ≡ Some command → Reads (Ok x) (read line)
+    → asks_for line ≡ Some (Ok command)
+asks_some line x command e h = let P : Option Command → Type 0 = λ y. Reads (Ok y) (read line) in asks_by line (Some (Ok command)) (subst P e h)
+
+-- the refusal of a line that was not read, where that is not for want of memory
+abbrev pub AsksRefusal : List ℕ → LineFault → Type 0
+AsksRefusal line why.Long = asks_for line ≡ Some (Err no.LineLong)
+AsksRefusal line why.Utf8 = asks_for line ≡ Some (Err no.LineUtf8)
+AsksRefusal line why.Command = asks_for line ≡ Some (Err no.Command)
+AsksRefusal line why.Escape = asks_for line ≡ Some (Err no.Escape)
+AsksRefusal line why.NoMemory = Unit {0}
+
+refusal_by : (line : List ℕ) (fault : LineFault) → Reads (Err fault) (read line) → AsksRefusal line fault
+refusal_by line why.Long h = asks_by line (Some (Err line_too_long)) h
+refusal_by line why.Utf8 h = asks_by line (Some (Err line_no_text)) h
+refusal_by line why.Command h = asks_by line (Some (Err no_such_command)) h
+refusal_by line why.Escape h = asks_by line (Some (Err no_such_escape)) h
+refusal_by line why.NoMemory h = tt
+
+pub asks_refusal : (line : List ℕ) (x given : LineFault) → x ≡ given → Reads (Err x) (read line) → AsksRefusal line given
+asks_refusal line x given e h = let P : LineFault → Type 0 = λ y. AsksRefusal line y in subst P e (refusal_by line x h)

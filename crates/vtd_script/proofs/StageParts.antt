@@ -1,10 +1,8 @@
 -- The first part of a command that stages, by the calls that it makes.
-use Rattle.std.proofs.Common.{◌≡◌, ℕ, List, ◌++◌, Result, Ok, Err, refl, sym, ap, subst, ◌∙◌}
+use Rattle.std.proofs.Common.{◌≡◌, ℕ, List, ◌++◌, Ok, Err, refl, sym, ap, subst, ◌∙◌}
 use Rattle.std.specs.Prelude.{encode_utf8_all}
 use Rattle.xml_model.specs.Nest.{Forest}
-use Rattle.vtd_words.specs.Lists.{Lists}
-use Rattle.vtd_location.specs.Nav.{IsNavOf}
-use Rattle.vtd_builder.specs.Documents.{IsDoc}
+use Rattle.vtd_documents.specs.Held.{OfNest}
 use Rattle.vtd_outside.specs.Known.{NameMap}
 use Rattle.vtd_edits.specs.Splices.{AreEdits, Refuses, Staged}
 use Rattle.vtd_edits.specs.declared.splice.Splice.{Splice}
@@ -24,20 +22,10 @@ use Rattle.vtd_script.specs.Steps.{Puts, Stages, overlaps, put, text_long, with_
 use Rattle.vtd_script.specs.declared.ready.Change.TheVariants as change
 use Rattle.vtd_script.specs.declared.ready.Ready.{Ready}
 use Rattle.vtd_script.specs.declared.ready.Stop.{Stop}
-use Rattle.vtd_script.proofs.AskLemmas.{nav_of}
 
 -- a session over a document
 abbrev pub holding : List ℕ → List (List ℕ × List ℕ) → List Splice → Work
 holding bytes bound staged = record { bytes = bytes; bound = bound; staged = staged }
-
--- what an operation makes, in the nest of the document
-made_in : (bytes given : List ℕ) (words lists : Lists) (bound : List (List ℕ × List ℕ)) (text : List ℕ) (operation : Operation)
-    (result : Result Operated OperationFault) (d : IsDoc bytes words) → given ≡ bytes → lists ≡ words
-    → ((nest : Forest) → IsNavOf given lists nest → Makes (Operates given nest bound text operation) result)
-    → Makes (Operates bytes d.nest bound text operation) result
-made_in bytes given words lists bound text operation result d b w f =
-    let P : List ℕ → Type 0 = λ x. Makes (Operates x d.nest bound text operation) result in
-    subst P b (f d.nest (nav_of bytes given words lists d b w))
 
 -- an operation that is refused
 fault_by : (work : Work) (files : NameMap) (nest : Forest) (text : List ℕ) (operation : Operation) (fault : OperationFault)
@@ -63,24 +51,22 @@ fault_by work files nest text operation (operating.Query queries.NoMemory) to h 
 fault_by work files nest text operation operating.Name to h = (refl, to h)
 fault_by work files nest text operation (operating.Kind at) to h = (refl, to h)
 
-fault_staged : (bytes given : List ℕ) (words lists : Lists) (bound : List (List ℕ × List ℕ)) (staged : List Splice) (text : List ℕ)
-    (operation : Operation) (fault : OperationFault) (files : NameMap) → IsDoc bytes words → given ≡ bytes → lists ≡ words
-    → ((nest : Forest) → IsNavOf given lists nest → Makes (Operates given nest bound text operation) (Err fault))
+fault_staged : (bytes : List ℕ) (bound : List (List ℕ × List ℕ)) (staged : List Splice) (text : List ℕ)
+    (operation : Operation) (fault : OperationFault) (files : NameMap) → OfNest bytes (λ nest. Makes (Operates bytes nest bound text operation) (Err fault))
     → PreparesStaging (λ s a. Stages text operation s a) (state_of (holding bytes bound staged) files) (state_of (holding bytes bound staged) files)
     (Err (operation_stop fault))
-fault_staged bytes given words lists bound staged text operation fault files d b w f =
-    fault_by (holding bytes bound staged) files d.nest text operation fault
-    (λ h. record { nest = d.nest; accepted = d.accepted; found = Err fault; operates = h; stages = refl })
-    (made_in bytes given words lists bound text operation (Err fault) d b w f)
+fault_staged bytes bound staged text operation fault files o =
+    fault_by (holding bytes bound staged) files o.0 text operation fault
+    (λ h. record { nest = o.0; accepted = o.1; found = Err fault; operates = h; stages = refl })
+    o.2
 
 -- splices that are staged
-done_staged : (bytes given : List ℕ) (words lists : Lists) (bound : List (List ℕ × List ℕ)) (staged : List Splice) (text : List ℕ)
-    (operation : Operation) (made : Operated) (edits : Staged) (lines : List ℕ) (ready : Ready) (files : NameMap) → IsDoc bytes words → given ≡ bytes
-    → lists ≡ words → ((nest : Forest) → IsNavOf given lists nest → Makes (Operates given nest bound text operation) (Ok made))
+done_staged : (bytes : List ℕ) (bound : List (List ℕ × List ℕ)) (staged : List Splice) (text : List ℕ)
+    (operation : Operation) (made : Operated) (edits : Staged) (lines : List ℕ) (ready : Ready) (files : NameMap) → OfNest bytes (λ nest. Makes (Operates bytes nest bound text operation) (Ok made))
     → edits.splices ≡ staged ++ made.splices → AreEdits edits → lines ≡ staged_line made.count → ready.change ≡ change.Nothing → ready.lines ≡ lines
     → PreparesStaging (λ s a. Stages text operation s a) (state_of (holding bytes bound staged) files)
     (state_of (holding bytes bound edits.splices) files) (Ok ready)
-done_staged bytes given words lists bound staged text operation made edits lines ready files d b w f e a l n r =
+done_staged bytes bound staged text operation made edits lines ready files o e a l n r =
     let s = state_of (holding bytes bound staged) files in
     let all = staged ++ made.splices in
     let P : List Splice → Type 0 = λ xs. Puts xs made.count s (printed (staged_line made.count) (with_staged xs s)) in
@@ -89,10 +75,10 @@ done_staged bytes given words lists bound staged text operation made edits lines
     let R : List Splice → Type 0 = λ xs. Puts xs made.count s (printed (staged_line made.count) (with_staged edits.splices s)) in (
       n,
       record {
-        nest = d.nest;
-        accepted = d.accepted;
+        nest = o.0;
+        accepted = o.1;
         found = Ok made;
-        operates = made_in bytes given words lists bound text operation (Ok made) d b w f;
+        operates = o.2;
         stages = subst Q (sym (r ∙ l)) (subst R e p);
       },
     )
@@ -105,51 +91,46 @@ refused_by all count s text operation (staging.Overlap earlier later) to h = (re
 refused_by all count s text operation staging.TextLong to h = (refl, to _ (text_long h.0 h.1))
 refused_by all count s text operation staging.NoMemory to h = refl
 
-refused_staged : (bytes given : List ℕ) (words lists : Lists) (bound : List (List ℕ × List ℕ)) (staged : List Splice) (text : List ℕ)
-    (operation : Operation) (made : Operated) (fault : StageFault) (files : NameMap) → IsDoc bytes words → given ≡ bytes → lists ≡ words
-    → ((nest : Forest) → IsNavOf given lists nest → Makes (Operates given nest bound text operation) (Ok made)) → Refuses (staged ++ made.splices) fault
+refused_staged : (bytes : List ℕ) (bound : List (List ℕ × List ℕ)) (staged : List Splice) (text : List ℕ)
+    (operation : Operation) (made : Operated) (fault : StageFault) (files : NameMap) → OfNest bytes (λ nest. Makes (Operates bytes nest bound text operation) (Ok made)) → Refuses (staged ++ made.splices) fault
     → PreparesStaging (λ s a. Stages text operation s a) (state_of (holding bytes bound staged) files) (state_of (holding bytes bound staged) files)
     (Err (stage_stop fault))
-refused_staged bytes given words lists bound staged text operation made fault files d b w f h =
-    let m = made_in bytes given words lists bound text operation (Ok made) d b w f in
+refused_staged bytes bound staged text operation made fault files o h =
     refused_by (staged ++ made.splices) made.count (state_of (holding bytes bound staged) files) text operation fault
-    (λ a p. record { nest = d.nest; accepted = d.accepted; found = Ok made; operates = m; stages = p }) h
+    (λ a p. record { nest = o.0; accepted = o.1; found = Ok made; operates = o.2; stages = p }) h
 
 -- the same, of the session and the expression as the method has them
-pub stage_fault : (bytes given : List ℕ) (words lists : Lists) (bound : List (List ℕ × List ℕ)) (staged : List Splice) (text expr : List ℕ)
-    (operation : Operation) (fault : OperationFault) (old : Work) (stop : Stop) (files : NameMap) → IsDoc bytes words → given ≡ bytes → lists ≡ words
-    → ((nest : Forest) → IsNavOf given lists nest → Makes (Operates given nest bound text operation) (Err fault)) → holding bytes bound staged ≡ old
+pub stage_fault : (bytes : List ℕ) (bound : List (List ℕ × List ℕ)) (staged : List Splice) (text expr : List ℕ)
+    (operation : Operation) (fault : OperationFault) (old : Work) (stop : Stop) (files : NameMap) → OfNest bytes (λ nest. Makes (Operates bytes nest bound text operation) (Err fault)) → holding bytes bound staged ≡ old
     → text ≡ encode_utf8_all expr → stop ≡ operation_stop fault
     → PreparesStaging (λ s a. Stages (encode_utf8_all expr) operation s a) (state_of old files) (state_of old files) (Err stop)
-stage_fault bytes given words lists bound staged text expr operation fault old stop files d b w f h t e =
+stage_fault bytes bound staged text expr operation fault old stop files o h t e =
     let P : Work → Type 0 = λ x. PreparesStaging (λ s a. Stages text operation s a) (state_of x files) (state_of x files) (Err (operation_stop fault)) in
     let Q : List ℕ → Type 0 = λ x. PreparesStaging (λ s a. Stages x operation s a) (state_of old files) (state_of old files) (Err (operation_stop fault)) in
     let R : Stop → Type 0 = λ x. PreparesStaging (λ s a. Stages (encode_utf8_all expr) operation s a) (state_of old files) (state_of old files) (Err x) in
-    subst R (sym e) (subst Q t (subst P h (fault_staged bytes given words lists bound staged text operation fault files d b w f)))
+    subst R (sym e) (subst Q t (subst P h (fault_staged bytes bound staged text operation fault files o)))
 
-pub stage_refused : (bytes given : List ℕ) (words lists : Lists) (bound : List (List ℕ × List ℕ)) (staged : List Splice) (text expr : List ℕ)
-    (operation : Operation) (made : Operated) (fault : StageFault) (later : List Splice) (old : Work) (stop : Stop) (files : NameMap) → IsDoc bytes words
-    → given ≡ bytes → lists ≡ words → ((nest : Forest) → IsNavOf given lists nest → Makes (Operates given nest bound text operation) (Ok made))
+pub stage_refused : (bytes : List ℕ) (bound : List (List ℕ × List ℕ)) (staged : List Splice) (text expr : List ℕ)
+    (operation : Operation) (made : Operated) (fault : StageFault) (later : List Splice) (old : Work) (stop : Stop) (files : NameMap) → OfNest bytes (λ nest. Makes (Operates bytes nest bound text operation) (Ok made))
     → Refuses (staged ++ made.splices) fault → holding bytes bound staged ≡ old → text ≡ encode_utf8_all expr → stop ≡ stage_stop fault → later ≡ staged
     → PreparesStaging (λ s a. Stages (encode_utf8_all expr) operation s a) (state_of old files) (state_of (holding bytes bound later) files) (Err stop)
-stage_refused bytes given words lists bound staged text expr operation made fault later old stop files d b w f q h t e k =
+stage_refused bytes bound staged text expr operation made fault later old stop files o q h t e k =
     let P : Work → Type 0 = λ x. PreparesStaging (λ s a. Stages text operation s a) (state_of x files) (state_of x files) (Err (stage_stop fault)) in
     let Q : List ℕ → Type 0 = λ x. PreparesStaging (λ s a. Stages x operation s a) (state_of old files) (state_of old files) (Err (stage_stop fault)) in
     let R : Stop → Type 0 = λ x. PreparesStaging (λ s a. Stages (encode_utf8_all expr) operation s a) (state_of old files) (state_of old files) (Err x) in
     let S : Work → Type 0 = λ x. PreparesStaging (λ s a. Stages (encode_utf8_all expr) operation s a) (state_of old files) (state_of x files) (Err stop) in
     let same : holding bytes bound later ≡ old = ap (λ (x : List Splice). holding bytes bound x) k ∙ h in
     subst S (sym same)
-    (subst R (sym e) (subst Q t (subst P h (refused_staged bytes given words lists bound staged text operation made fault files d b w f q))))
+    (subst R (sym e) (subst Q t (subst P h (refused_staged bytes bound staged text operation made fault files o q))))
 
-pub stage_done : (bytes given : List ℕ) (words lists : Lists) (bound : List (List ℕ × List ℕ)) (staged : List Splice) (text expr : List ℕ)
-    (operation : Operation) (made : Operated) (edits : Staged) (lines : List ℕ) (ready : Ready) (old : Work) (files : NameMap) → IsDoc bytes words
-    → given ≡ bytes → lists ≡ words → ((nest : Forest) → IsNavOf given lists nest → Makes (Operates given nest bound text operation) (Ok made))
+pub stage_done : (bytes : List ℕ) (bound : List (List ℕ × List ℕ)) (staged : List Splice) (text expr : List ℕ)
+    (operation : Operation) (made : Operated) (edits : Staged) (lines : List ℕ) (ready : Ready) (old : Work) (files : NameMap) → OfNest bytes (λ nest. Makes (Operates bytes nest bound text operation) (Ok made))
     → edits.splices ≡ staged ++ made.splices → AreEdits edits → lines ≡ staged_line made.count → ready.change ≡ change.Nothing → ready.lines ≡ lines
     → holding bytes bound staged ≡ old → text ≡ encode_utf8_all expr
     → PreparesStaging (λ s a. Stages (encode_utf8_all expr) operation s a) (state_of old files) (state_of (holding bytes bound edits.splices) files)
     (Ok ready)
-stage_done bytes given words lists bound staged text expr operation made edits lines ready old files d b w f g a l n r h t =
+stage_done bytes bound staged text expr operation made edits lines ready old files o g a l n r h t =
     let now = state_of (holding bytes bound edits.splices) files in
     let P : Work → Type 0 = λ x. PreparesStaging (λ s a. Stages text operation s a) (state_of x files) now (Ok ready) in
     let Q : List ℕ → Type 0 = λ x. PreparesStaging (λ s a. Stages x operation s a) (state_of old files) now (Ok ready) in
-    subst Q t (subst P h (done_staged bytes given words lists bound staged text operation made edits lines ready files d b w f g a l n r))
+    subst Q t (subst P h (done_staged bytes bound staged text operation made edits lines ready files o g a l n r))

@@ -25,14 +25,12 @@ use Rattle.vtd_queries.proofs.Answers.{one_list, one_operation, one_value, some_
 use Rattle.vtd_script.specs.Staging.{borrowed, operation_refusal}
 use Rattle.vtd_script.proofs.StageLemmas.{one_puts, some_puts}
 use Rattle.vtd_script.specs.Queries.{Selects, Values, selected, valued}
-use Rattle.vtd_script.specs.Commands.{read}
 use Rattle.vtd_script.specs.States.{State, Answer, skipped, printed, refused, missing, state_after, new_bytes}
-use Rattle.vtd_script.specs.Steps.{HasDocument, Lists, Tells, shown, Puts, overlaps, text_long, put, StagesMade, Stages, Binds, Does, Answers, Step, ok_line}
-use Rattle.vtd_script.specs.Steps.{with_binding, name_of}
-use Rattle.vtd_script.specs.Steps.{Takes, too_long, unfit, accepted, Opens, document_limit, document_line, refusal_of, with_document}
-use Rattle.vtd_script.specs.declared.commands.Command.{Command}
-use Rattle.vtd_script.specs.declared.commands.Command.TheVariants.{Elements, Ns, Select, Value, Remove, Replace, Before, After, First, Last, Attr, Set, Rename}
-use Rattle.vtd_script.specs.declared.commands.Command.TheVariants.{Discard, Apply, Save, Open}
+use Rattle.vtd_script.specs.Steps.{HasDocument, asks_for, Lists, Tells, shown, Puts, overlaps, text_long, put, StagesMade, Stages, Binds, Does, Answers, Step, ok_line, with_binding, name_of}
+use Rattle.vtd_script.proofs.IndexLaws.{kept_indexes, kept_takes_index, one_indexes, one_takes_index, some_indexes, some_takes_index}
+use Rattle.vtd_script.specs.Steps.{Takes, TakesIndex, too_long, unfit, accepted, Opens, document_limit, document_line, refusal_of, with_document}
+use Rattle.vtd_lines.specs.declared.commands.Command.{Command}
+use Rattle.vtd_lines.specs.declared.commands.Command.TheVariants.{Elements, Ns, Select, Value, Remove, Replace, Before, After, First, Last, Attr, Set, Rename, Discard, Apply, Save, Index, Open, Load}
 use Rattle.vtd_script.specs.declared.refusals.Refusal.{Refusal}
 use Rattle.vtd_script.specs.declared.refusals.Refusal.TheVariants as no
 
@@ -103,10 +101,11 @@ one_takes bytes s a b (accepted l nest q) (accepted m other r) =
     ap (λ (n : Forest). printed (document_line (length bytes) (length (records n (first_place bytes)))) (with_document bytes s))
     (one_document bytes nest other q.document r.document)
 
-one_opens : (staged : List Splice) (file : Option (List ℕ)) (s : State) (a b : Answer) → Opens staged file s a → Opens staged file s b → a ≡ b
-one_opens [] None s a b h k = h ∙ sym k
-one_opens [] (Some bytes) s a b h k = one_takes bytes s a b h k
-one_opens (splice ∷ staged) file s a b h k = h ∙ sym k
+one_opens : (Gives : List ℕ → State → Answer → Type 0) (staged : List Splice) (file : Option (List ℕ)) (s : State) (a b : Answer)
+    → ((bytes : List ℕ) → Gives bytes s a → Gives bytes s b → a ≡ b) → Opens Gives staged file s a → Opens Gives staged file s b → a ≡ b
+one_opens Gives [] None s a b one h k = h ∙ sym k
+one_opens Gives [] (Some bytes) s a b one h k = one bytes h k
+one_opens Gives (splice ∷ staged) file s a b one h k = h ∙ sym k
 
 one_does : (command : Command) (s : State) (a b : Answer) → Does command s a → Does command s b → a ≡ b
 one_does Elements s a b h k = one_lists s a b h k
@@ -125,7 +124,9 @@ one_does (Rename expr name) s a b h k = one_stages _ _ s a b h k
 one_does Discard s a b h k = h ∙ sym k
 one_does Apply s a b h k = one_takes (new_bytes s.work) s a b h k
 one_does (Save file) s a b h k = h ∙ sym k
-one_does (Open file) s a b h k = one_opens s.work.staged (s.files (name_of file)) s a b h k
+one_does (Index file) s a b h k = one_indexes (name_of file) s a b h k
+one_does (Open file) s a b h k = one_opens Takes s.work.staged (s.files (name_of file)) s a b (λ bytes x y. one_takes bytes s a b x y) h k
+one_does (Load file) s a b h k = one_opens TakesIndex s.work.staged (s.files (name_of file)) s a b (λ bytes x y. one_takes_index bytes s a b x y) h k
 
 one_answers : (asked : Option (Result Command Refusal)) (s : State) (a b : Answer) → Answers asked s a → Answers asked s b → a ≡ b
 one_answers None s a b h k = h ∙ sym k
@@ -134,7 +135,7 @@ one_answers (Some (Ok command)) s a b h k = one_does command s a b h k
 
 pub one_step : (s : State) (line : List ℕ) (a b : Answer) → Step s line a → Step s line b → a ≡ b
 unfolding Step
-one_step s line a b h k = one_answers (read line) s a b h k
+one_step s line a b h k = one_answers (asks_for line) s a b h k
 
 -- there is an answer
 some_binds : (can : Bool) (prefix uri : List ℕ) (s : State) → (a : Answer) × Binds can prefix uri s a
@@ -173,10 +174,11 @@ some_takes bytes s = elim (cases_lt document_limit (length bytes)) [
   ])
 ]
 
-some_opens : (staged : List Splice) (file : Option (List ℕ)) (s : State) → (a : Answer) × Opens staged file s a
-some_opens [] None s = (missing, refl)
-some_opens [] (Some bytes) s = some_takes bytes s
-some_opens (splice ∷ staged) file s = (refused no.Staged, refl)
+some_opens : (Gives : List ℕ → State → Answer → Type 0) (staged : List Splice) (file : Option (List ℕ)) (s : State)
+    → ((bytes : List ℕ) → (a : Answer) × Gives bytes s a) → (a : Answer) × Opens Gives staged file s a
+some_opens Gives [] None s some = (missing, refl)
+some_opens Gives [] (Some bytes) s some = some bytes
+some_opens Gives (splice ∷ staged) file s some = (refused no.Staged, refl)
 
 some_does : (command : Command) (s : State) → HasDocument s → (a : Answer) × Does command s a
 some_does Elements s w = (printed (listed w.0 (first_place s.work.bytes)) s, (w.0, w.1, refl))
@@ -195,7 +197,9 @@ some_does (Rename expr name) s w = some_stages (encode_utf8_all expr) (operation
 some_does Discard s w = (_, refl)
 some_does Apply s w = some_takes (new_bytes s.work) s
 some_does (Save file) s w = (_, refl)
-some_does (Open file) s w = some_opens s.work.staged (s.files (name_of file)) s
+some_does (Index file) s w = some_indexes (name_of file) s w
+some_does (Open file) s w = some_opens Takes s.work.staged (s.files (name_of file)) s (λ bytes. some_takes bytes s)
+some_does (Load file) s w = some_opens TakesIndex s.work.staged (s.files (name_of file)) s (λ bytes. some_takes_index bytes s)
 
 some_answers : (asked : Option (Result Command Refusal)) (s : State) → HasDocument s → (a : Answer) × Answers asked s a
 some_answers None s w = (skipped, refl)
@@ -204,7 +208,7 @@ some_answers (Some (Ok command)) s w = some_does command s w
 
 pub some_step : (s : State) (line : List ℕ) → HasDocument s → (a : Answer) × Step s line a
 unfolding Step
-some_step s line w = some_answers (read line) s w
+some_step s line w = some_answers (asks_for line) s w
 
 -- the state after an answer has a document too
 kept_by : (s : State) (a b : Answer) → a ≡ b → HasDocument (state_after s b) → HasDocument (state_after s a)
@@ -235,10 +239,11 @@ kept_takes bytes s a (too_long l) w = w
 kept_takes bytes s a (unfit l fault r) w = w
 kept_takes bytes s a (accepted l nest r) w = (nest, r)
 
-kept_opens : (staged : List Splice) (file : Option (List ℕ)) (s : State) (a : Answer) → Opens staged file s a → HasDocument s → HasDocument (state_after s a)
-kept_opens [] None s a h w = kept_by s a _ h w
-kept_opens [] (Some bytes) s a h w = kept_takes bytes s a h w
-kept_opens (splice ∷ staged) file s a h w = kept_by s a _ h w
+kept_opens : (Gives : List ℕ → State → Answer → Type 0) (staged : List Splice) (file : Option (List ℕ)) (s : State) (a : Answer)
+    → ((bytes : List ℕ) → Gives bytes s a → HasDocument (state_after s a)) → Opens Gives staged file s a → HasDocument s → HasDocument (state_after s a)
+kept_opens Gives [] None s a kept h w = kept_by s a _ h w
+kept_opens Gives [] (Some bytes) s a kept h w = kept bytes h
+kept_opens Gives (splice ∷ staged) file s a kept h w = kept_by s a _ h w
 
 kept_does : (command : Command) (s : State) (a : Answer) → Does command s a → HasDocument s → HasDocument (state_after s a)
 kept_does Elements s a h w = kept_by s a _ h.2 w
@@ -257,7 +262,9 @@ kept_does (Rename expr name) s a h w = kept_made h.found s a h.stages w
 kept_does Discard s a h w = kept_by s a _ h w
 kept_does Apply s a h w = kept_takes (new_bytes s.work) s a h w
 kept_does (Save file) s a h w = kept_by s a _ h w
-kept_does (Open file) s a h w = kept_opens s.work.staged (s.files (name_of file)) s a h w
+kept_does (Index file) s a h w = kept_indexes (name_of file) s a h w
+kept_does (Open file) s a h w = kept_opens Takes s.work.staged (s.files (name_of file)) s a (λ bytes t. kept_takes bytes s a t w) h w
+kept_does (Load file) s a h w = kept_opens TakesIndex s.work.staged (s.files (name_of file)) s a (λ bytes t. kept_takes_index bytes s a t w) h w
 
 kept_answers : (asked : Option (Result Command Refusal)) (s : State) (a : Answer) → Answers asked s a → HasDocument s → HasDocument (state_after s a)
 kept_answers None s a h w = kept_by s a _ h w
@@ -266,4 +273,4 @@ kept_answers (Some (Ok command)) s a h w = kept_does command s a h w
 
 pub kept_step : (s : State) (line : List ℕ) (a : Answer) → Step s line a → HasDocument s → HasDocument (state_after s a)
 unfolding Step
-kept_step s line a h w = kept_answers (read line) s a h w
+kept_step s line a h w = kept_answers (asks_for line) s a h w

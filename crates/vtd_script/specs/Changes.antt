@@ -2,8 +2,8 @@
 --
 -- The first part reads and builds all that a command needs, takes all its memory, and changes the session by its last
 -- call alone. The second takes no memory: it makes the change that is left, which is a file, and sends the lines.
-use Rattle.std.specs.Prelude.{◌⊎◌, ◌≡◌, ℕ, Bool, true, false, List, [], ◌++◌, length, Option, Some, None, Result, Ok}
-use Rattle.std.specs.Prelude.{Err}
+use Rattle.std.specs.Prelude.{◌⊎◌, ◌≡◌, ℕ, ◌<◌, ◌≤◌, Bool, true, false, List, [], ◌++◌, length, Option, Some, None}
+use Rattle.std.specs.Prelude.{Result, Ok, Err}
 use Rattle.xml_model.specs.Items.{first_place}
 use Rattle.xml_model.specs.Nest.{Forest}
 use Rattle.xml_model.specs.Records.{records}
@@ -12,6 +12,9 @@ use Rattle.xml_model.specs.declared.DocFault.{DocFault}
 use Rattle.vtd_outside.specs.Causes.{Rose, RoseAlone}
 use Rattle.vtd_outside.specs.Known.{NameMap, put_into}
 use Rattle.vtd_outside.specs.Written.{LeavesPrefix}
+use Rattle.vtd_index.specs.Index.{index_of, IsFault}
+use Rattle.vtd_documents.specs.Loads.{IsFileOf}
+use Rattle.vtd_index.specs.declared.faults.IndexFault.{IndexFault}
 use Rattle.vtd_queries.specs.declared.faults.QueryFault.{QueryFault}
 use Rattle.vtd_queries.specs.declared.faults.QueryFault.TheVariants as queries
 use Rattle.vtd_queries.specs.declared.faults.OperationFault.{OperationFault}
@@ -20,10 +23,11 @@ use Rattle.vtd_edits.specs.declared.splice.StageFault.{StageFault}
 use Rattle.vtd_edits.specs.declared.splice.StageFault.TheVariants as staging
 use Rattle.vtd_script.specs.Queries.{query_refusal}
 use Rattle.vtd_script.specs.States.{Work, State, Answer, state_of, printed, refused, missing, refused_line, new_bytes}
-use Rattle.vtd_script.specs.Steps.{Does, Opens, Takes, document_line, has_file, name_of, refusal_of}
+use Rattle.vtd_script.specs.Steps.{Does, Opens, document_line, has_file, index_refusal, name_of}
+use Rattle.vtd_script.specs.Steps.{refusal_of}
 use Rattle.vtd_script.specs.Steps.{with_document, with_file}
 use Rattle.vtd_script.specs.Runs.{IsPrefix}
-use Rattle.vtd_script.specs.declared.commands.Command.{Command}
+use Rattle.vtd_lines.specs.declared.commands.Command.{Command}
 use Rattle.vtd_script.specs.declared.refusals.Refusal.{Refusal}
 use Rattle.vtd_script.specs.declared.refusals.Refusal.TheVariants as no
 use Rattle.vtd_script.specs.declared.endings.End.{End}
@@ -43,11 +47,18 @@ use Rattle.vtd_script.specs.declared.ready.Stop.TheVariants as stop
 abbrev pub writes : Change → Bool
 writes change.Nothing = false
 writes (change.File name) = true
+writes (change.Index name) = true
+
+-- a file takes the index file of the document
+abbrev pub PutsIndexOf : List ℕ → State → State → Type 0
+PutsIndexOf name s after =
+    (nest : Forest) × Accepted 8 s.work.bytes nest × (after ≡ with_file name (index_of s.work.bytes nest) s)
 
 -- where the change that is left leads
 abbrev pub Changes : Change → State → State → Type 0
 Changes change.Nothing s after = after ≡ s
 Changes (change.File name) s after = after ≡ with_file (name_of name) (new_bytes s.work) s
+Changes (change.Index name) s after = PutsIndexOf (name_of name) s after
 
 -- the lines of a command that changes nothing, or its refusal
 abbrev pub Told : (Result (List ℕ) Refusal → Type 0) → Result (List ℕ) Stop → Type 0
@@ -80,32 +91,70 @@ PreparesStaging answers s now (Err (stop.Refused refusal)) = (now ≡ s) × answ
 PreparesStaging answers s now (Err stop.File) = ⊥
 PreparesStaging answers s now (Err stop.NoMemory) = now ≡ s
 
+-- a document with its line, or there was no memory for it
+abbrev pub HasLine : List ℕ → Result Made Stop → Type 0
+HasLine bytes (Ok made) = (made.document ≡ bytes) × ((nest : Forest) × Accepted 8 bytes nest ×
+    (made.lines ≡ document_line (length bytes) (length (records nest (first_place bytes)))))
+HasLine bytes (Err fault) = fault ≡ stop.NoMemory
+
+-- The bytes of a file, where nothing is staged and they are not too many.
+pub record GivesBytes (limit : ℕ) (s : State) (file bytes : List ℕ) : Type 0 where
+  pub unstaged : s.work.staged ≡ []
+  pub there : s.files (name_of file) ≡ Some bytes
+  pub within : length bytes ≤ limit
+
+-- They are too many.
+pub record IsTooLong (limit : ℕ) (s : State) (file : List ℕ) (refusal : Refusal) : Type 0 where
+  pub unstaged : s.work.staged ≡ []
+  pub bytes : List ℕ
+  pub there : s.files (name_of file) ≡ Some bytes
+  pub long : limit < length bytes
+  pub is : refusal ≡ no.FileLong
+
+-- The bytes of a file were read, or why they were not.
+abbrev pub ReadsFile : ℕ → Type 0 → State → List ℕ → Result (List ℕ) Stop → Type 0
+ReadsFile limit file_rose s file (Ok bytes) = GivesBytes limit s file bytes
+ReadsFile limit file_rose s file (Err (stop.Refused refusal)) =
+    ((0 < length s.work.staged) × (refusal ≡ no.Staged)) ⊎ IsTooLong limit s file refusal
+ReadsFile limit file_rose s file (Err stop.File) =
+    ((s.work.staged ≡ []) × (s.files (name_of file) ≡ None)) ⊎ file_rose
+ReadsFile limit file_rose s file (Err stop.NoMemory) = Unit {0}
+
 -- Bytes that are not too many are read as a document, with its line, or refused.
 abbrev pub ReadsDocument : List ℕ → Result Made Stop → Type 0
-ReadsDocument bytes (Ok made) = (made.document.bytes ≡ bytes) × ((nest : Forest) × Accepted 8 bytes nest ×
+ReadsDocument bytes (Ok made) = (made.document ≡ bytes) × ((nest : Forest) × Accepted 8 bytes nest ×
     (made.lines ≡ document_line (length bytes) (length (records nest (first_place bytes)))))
 ReadsDocument bytes (Err (stop.Refused refusal)) =
     (fault : DocFault) × IsRefusal bytes fault × (refusal ≡ refusal_of fault)
 ReadsDocument bytes (Err stop.File) = ⊥
 ReadsDocument bytes (Err stop.NoMemory) = Unit {0}
 
--- Bytes were read as a document with its line, which become the document; or why they do not.
-abbrev pub MakesDocument : List ℕ → Result Made Stop → Type 0
-MakesDocument bytes (Ok made) =
-    (s : State) → Takes bytes s (printed made.lines (with_document made.document.bytes s))
-MakesDocument bytes (Err (stop.Refused refusal)) = (s : State) → Takes bytes s (refused refusal)
-MakesDocument bytes (Err stop.File) = ⊥
-MakesDocument bytes (Err stop.NoMemory) = Unit {0}
+-- The document of an index file that is not too long was read, with its line, or the file is refused.
+abbrev pub ReadsIndex : List ℕ → Result Made Stop → Type 0
+ReadsIndex file (Ok made) = (i : IsFileOf file made.document)
+    × (made.lines ≡ document_line (length made.document) (length (records i.nest (first_place made.document))))
+ReadsIndex file (Err (stop.Refused refusal)) =
+    (fault : IndexFault) × IsFault file fault × (refusal ≡ index_refusal fault)
+ReadsIndex file (Err stop.File) = ⊥
+ReadsIndex file (Err stop.NoMemory) = Unit {0}
 
--- A file was read as a document with its line, which becomes the document of a state; or why it does not.
-abbrev pub OpensDocument : Type 0 → State → List ℕ → Result Made Stop → Type 0
-OpensDocument file_rose s file (Ok made) = Opens s.work.staged (s.files (name_of file)) s
-    (printed made.lines (with_document made.document.bytes s))
-OpensDocument file_rose s file (Err (stop.Refused refusal)) =
-    Opens s.work.staged (s.files (name_of file)) s (refused refusal)
-OpensDocument file_rose s file (Err stop.File) =
-    Opens s.work.staged (s.files (name_of file)) s missing ⊎ file_rose
-OpensDocument file_rose s file (Err stop.NoMemory) = Unit {0}
+-- A document was made with its line, which becomes the document; or why none was.
+abbrev pub MakesDocument : (State → Answer → Type 0) → Result Made Stop → Type 0
+MakesDocument Gives (Ok made) = (s : State) → Gives s (printed made.lines (with_document made.document s))
+MakesDocument Gives (Err (stop.Refused refusal)) = (s : State) → Gives s (refused refusal)
+MakesDocument Gives (Err stop.File) = ⊥
+MakesDocument Gives (Err stop.NoMemory) = Unit {0}
+
+-- A file gave a document with its line, which becomes the document of a state; or why it does not.
+abbrev pub OpensDocument :
+    (List ℕ → State → Answer → Type 0) → Type 0 → State → List ℕ → Result Made Stop → Type 0
+OpensDocument Gives file_rose s file (Ok made) = Opens Gives s.work.staged (s.files (name_of file)) s
+    (printed made.lines (with_document made.document s))
+OpensDocument Gives file_rose s file (Err (stop.Refused refusal)) =
+    Opens Gives s.work.staged (s.files (name_of file)) s (refused refusal)
+OpensDocument Gives file_rose s file (Err stop.File) =
+    Opens Gives s.work.staged (s.files (name_of file)) s missing ⊎ file_rose
+OpensDocument Gives file_rose s file (Err stop.NoMemory) = Unit {0}
 
 -- The first part of a command, by the state before it and the state then: each state to which the change that is left
 -- leads is that after the command, and where that is a file nothing changed before. Or the command is refused, its file
@@ -192,6 +241,13 @@ stops_at_file (Ok x) = false
 stops_at_file (Err (stop.Refused refusal)) = false
 stops_at_file (Err stop.File) = true
 stops_at_file (Err stop.NoMemory) = false
+
+-- whether the first part of a command ended at a file, or leaves one to the second
+abbrev pub touches_file : Result Ready Stop → Bool
+touches_file (Ok ready) = writes ready.change
+touches_file (Err (stop.Refused refusal)) = false
+touches_file (Err stop.File) = true
+touches_file (Err stop.NoMemory) = false
 
 -- the counts of the files, by an answer that says that a file failed or not: then one of the two alone rose
 abbrev pub fails_at_file : {T : Type 0} → Result T StepFault → Bool

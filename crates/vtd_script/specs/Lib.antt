@@ -1,7 +1,3 @@
-pub mod Lines
-pub mod Fields
-pub mod Commands
-pub mod Readings
 pub mod Faults
 pub mod Queries
 pub mod Staging

@@ -5,8 +5,7 @@ use Rattle.vtd_outside.specs.Known.{NameMap, put_into}
 use Rattle.vtd_outside.specs.Written.{LeavesPrefix}
 use Rattle.vtd_script.specs.States.{Work, State, state_of, Answer, skipped, printed, refused, missing}
 use Rattle.vtd_script.specs.States.{lines_of, state_after, is_refused, goes_on, refused_line}
-use Rattle.vtd_script.specs.Steps.{Step, asks_file}
-use Rattle.vtd_script.specs.Commands.{read}
+use Rattle.vtd_script.specs.Steps.{Step, asks_for, asks_file}
 use Rattle.vtd_script.specs.declared.refusals.Refusal.{Refusal}
 use Rattle.vtd_script.specs.declared.endings.End.{End}
 use Rattle.vtd_script.specs.declared.endings.End.TheVariants.{Done, Stopped, WriteFault, FileFault, NoMemory}
@@ -70,7 +69,7 @@ pub record LeavesFile (s : State) (line : List ℕ) (files : NameMap) : Type 0 w
 -- A file of a line could not be read or written, where a count of faults rose: the files are as before, or the one that
 -- the line writes holds a prefix of its new bytes.
 pub record FailsFile (rose : Type 0) (s : State) (line : List ℕ) (files : NameMap) : Type 0 where
-  pub asks : asks_file (read line) ≡ true
+  pub asks : asks_file (asks_for line) ≡ true
   pub cause : rose
   pub left : (files ≡ s.files) ⊎ LeavesFile s line files
 

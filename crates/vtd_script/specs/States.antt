@@ -63,6 +63,7 @@ refusal_words (no.Kind at) = codes "kind " ++ decimal at
 refusal_words (no.Overlap earlier later) = codes "overlap " ++ decimal earlier ++ codes " " ++ decimal later
 refusal_words no.TextLong = codes "text-long"
 refusal_words no.FileLong = codes "file-long"
+refusal_words no.IndexLong = codes "index-long"
 refusal_words (no.Utf8 at) = codes "utf8 " ++ decimal at
 refusal_words (no.Syntax at) = codes "syntax " ++ decimal at
 refusal_words (no.Entity at) = codes "entity " ++ decimal at
@@ -72,6 +73,12 @@ refusal_words (no.Depth at) = codes "depth " ++ decimal at
 refusal_words (no.Width field at) = width_word field ++ decimal at
 refusal_words (no.Twice at) = codes "twice " ++ decimal at
 refusal_words (no.Namespace at) = codes "namespace " ++ decimal at
+refusal_words no.Short = codes "short"
+refusal_words no.Magic = codes "magic"
+refusal_words no.Size = codes "size"
+refusal_words (no.Padding at) = codes "padding " ++ decimal at
+refusal_words (no.Records at) = codes "records " ++ decimal at
+refusal_words (no.Caches level at) = codes "caches " ++ decimal level ++ codes " " ++ decimal at
 
 unfoldable pub refused_line : Refusal → List ℕ
 refused_line refusal = codes "refused " ++ refusal_words refusal ++ line_feed

@@ -2,6 +2,7 @@
 use Rattle.std.specs.Prelude.{◌≡◌, ℕ, ◌<◌, ◌≤◌, Bool, true, false, List, [], ◌∷◌, ◌++◌, length, codes, encode_utf8_all}
 use Rattle.std.specs.Prelude.{Option, Some, None, Result, Ok, Err}
 use Rattle.std.specs.Borrow.{Bor}
+use Rattle.std.specs.List.{list_any}
 use Rattle.std.specs.Fmt.{decimal}
 use Rattle.xml_model.specs.Items.{first_place}
 use Rattle.xml_model.specs.Nest.{Forest}
@@ -11,6 +12,11 @@ use Rattle.xml_model.specs.declared.DocFault.{DocFault}
 use Rattle.xml_model.specs.declared.DocFault.TheVariants as faults
 use Rattle.vtd_outside.specs.Known.{put_into}
 use Rattle.vtd_edits.specs.declared.splice.Splice.{Splice}
+use Rattle.vtd_words.specs.Numbers.{AreBytes}
+use Rattle.vtd_index.specs.Index.{index_of, IsFault}
+use Rattle.vtd_documents.specs.Loads.{IsFileOf}
+use Rattle.vtd_index.specs.declared.faults.IndexFault.{IndexFault}
+use Rattle.vtd_index.specs.declared.faults.IndexFault.TheVariants as index
 use Rattle.xpath_grammar.specs.Bindings.{can_bind, bound_in}
 use Rattle.vtd_listing.specs.Listing.{line_feed, listed}
 use Rattle.vtd_script.specs.States.{State, Answer, skipped, printed, refused, missing, new_bytes}
@@ -22,11 +28,11 @@ use Rattle.vtd_queries.specs.declared.faults.OperationFault.{OperationFault}
 use Rattle.vtd_queries.specs.declared.operating.Operated.{Operated}
 use Rattle.vtd_script.specs.Queries.{Selects, Values}
 use Rattle.vtd_script.specs.Staging.{borrowed, operation_refusal, staged_line}
-use Rattle.vtd_script.specs.Commands.{read}
-use Rattle.vtd_script.specs.declared.commands.Command.{Command}
-use Rattle.vtd_script.specs.declared.commands.Command.TheVariants.{Elements, Ns, Select, Value, Remove, Replace}
-use Rattle.vtd_script.specs.declared.commands.Command.TheVariants.{Before, After, First, Last, Attr, Set, Rename}
-use Rattle.vtd_script.specs.declared.commands.Command.TheVariants.{Discard, Apply, Save, Open}
+use Rattle.vtd_lines.specs.Commands.{Wrong, line_too_long, line_no_text, no_such_command, no_such_escape, read}
+use Rattle.vtd_lines.specs.declared.commands.Command.{Command}
+use Rattle.vtd_lines.specs.declared.commands.Command.TheVariants.{Elements, Ns, Select, Value, Remove, Replace}
+use Rattle.vtd_lines.specs.declared.commands.Command.TheVariants.{Before, After, First, Last, Attr, Set, Rename}
+use Rattle.vtd_lines.specs.declared.commands.Command.TheVariants.{Discard, Apply, Save, Index, Open, Load}
 use Rattle.vtd_script.specs.declared.refusals.Refusal.{Refusal}
 use Rattle.vtd_script.specs.declared.refusals.Refusal.TheVariants as no
 
@@ -68,6 +74,10 @@ ok_line = codes "ok" ++ line_feed
 abbrev pub saved_line : ℕ → List ℕ
 saved_line count = codes "saved " ++ decimal count ++ line_feed
 
+-- the line of an index file that was written, by how many bytes it has
+abbrev pub indexed_line : ℕ → List ℕ
+indexed_line count = codes "indexed " ++ decimal count ++ line_feed
+
 -- the line of a new document, by how many bytes and records it has
 abbrev pub document_line : ℕ → ℕ → List ℕ
 document_line count recorded = codes "document " ++ decimal count ++ codes " " ++ decimal recorded ++ line_feed
@@ -75,6 +85,10 @@ document_line count recorded = codes "document " ++ decimal count ++ codes " " +
 -- how many bytes a document has at most
 abbrev pub document_limit : ℕ
 document_limit = 1_073_741_823
+
+-- how many bytes an index file has at most
+abbrev pub index_limit : ℕ
+index_limit = 4_294_967_295
 
 -- the refusal of a command by a document that is refused
 abbrev pub refusal_of : DocFault → Refusal
@@ -87,6 +101,16 @@ refusal_of (faults.Depth at) = no.Depth at
 refusal_of (faults.Width field at) = no.Width field at
 refusal_of (faults.Twice at) = no.Twice at
 refusal_of (faults.Namespace at) = no.Namespace at
+
+-- the refusal of a command by a file that is no index file
+abbrev pub index_refusal : IndexFault → Refusal
+index_refusal index.Short = no.Short
+index_refusal index.Magic = no.Magic
+index_refusal index.Size = no.Size
+index_refusal (index.Padding at) = no.Padding at
+index_refusal (index.Doc fault) = refusal_of fault
+index_refusal (index.Records at) = no.Records at
+index_refusal (index.Caches level at) = no.Caches level at
 
 -- The elements of the document are listed.
 abbrev pub Lists : State → Answer → Type 0
@@ -140,15 +164,37 @@ pub data Takes (bytes : List ℕ) (s : State) : Answer → Type 0 where
       Takes bytes s (printed (document_line (length bytes) (length (records nest (first_place bytes))))
       (with_document bytes s))
 
--- A file is to be the document, where nothing is staged and it is there.
-abbrev pub Opens : List Splice → Option (List ℕ) → State → Answer → Type 0
-Opens (splice ∷ staged) file s a = a ≡ refused no.Staged
-Opens [] None s a = a ≡ missing
-Opens [] (Some bytes) s a = Takes bytes s a
+-- The document of an index file is to be the document: the file is too long, or has a fault, or its document becomes
+-- it. What has a number above 255 is no file.
+pub data TakesIndex (file : List ℕ) (s : State) : Answer → Type 0 where
+  index_too_long : index_limit < length file → TakesIndex file s (refused no.FileLong)
+  index_unfit : length file ≤ index_limit → AreBytes file → (fault : IndexFault) → IsFault file fault →
+      TakesIndex file s (refused (index_refusal fault))
+  index_taken : length file ≤ index_limit → AreBytes file → (bytes : List ℕ) → (i : IsFileOf file bytes) →
+      TakesIndex file s (printed (document_line (length bytes) (length (records i.nest (first_place bytes))))
+      (with_document bytes s))
+  index_no_file : length file ≤ index_limit → (AreBytes file → ⊥) → TakesIndex file s missing
+
+-- What a file gives is to be the document, where nothing is staged and the file is there.
+abbrev pub Opens : (List ℕ → State → Answer → Type 0) → List Splice → Option (List ℕ) → State → Answer → Type 0
+Opens Gives (splice ∷ staged) file s a = a ≡ refused no.Staged
+Opens Gives [] None s a = a ≡ missing
+Opens Gives [] (Some bytes) s a = Gives bytes s a
 
 -- A file takes the new bytes; document and staging stay.
 abbrev pub Saves : List ℕ → List ℕ → State → Answer → Type 0
 Saves name bytes s a = a ≡ printed (saved_line (length bytes)) (with_file name bytes s)
+
+-- A file takes an index file, if that is not too long; document and staging stay.
+pub data PutsIndex (name file : List ℕ) (s : State) : Answer → Type 0 where
+  not_put : index_limit < length file → PutsIndex name file s (refused no.IndexLong)
+  index_put : length file ≤ index_limit →
+      PutsIndex name file s (printed (indexed_line (length file)) (with_file name file s))
+
+-- A file takes the index file of the document, in which what is staged plays no part.
+abbrev pub Indexes : List ℕ → State → Answer → Type 0
+Indexes name s a =
+    (nest : Forest) × Accepted 8 s.work.bytes nest × PutsIndex name (index_of s.work.bytes nest) s a
 
 -- what a command answers
 abbrev pub Does : Command → State → Answer → Type 0
@@ -168,7 +214,25 @@ Does (Rename expr name) s a = StagesText expr (λ t. operations.Rename t) name s
 Does Discard s a = a ≡ printed ok_line (with_staged [] s)
 Does Apply s a = Takes (new_bytes s.work) s a
 Does (Save file) s a = Saves (name_of file) (new_bytes s.work) s a
-Does (Open file) s a = Opens s.work.staged (s.files (name_of file)) s a
+Does (Index file) s a = Indexes (name_of file) s a
+Does (Open file) s a = Opens Takes s.work.staged (s.files (name_of file)) s a
+Does (Load file) s a = Opens TakesIndex s.work.staged (s.files (name_of file)) s a
+
+-- the refusal of a line that asks for no command
+abbrev pub line_refusal : Wrong → Refusal
+line_refusal line_too_long = no.LineLong
+line_refusal line_no_text = no.LineUtf8
+line_refusal no_such_command = no.Command
+line_refusal no_such_escape = no.Escape
+
+abbrev pub asked_by : Option (Result Command Wrong) → Option (Result Command Refusal)
+asked_by None = None
+asked_by (Some (Ok command)) = Some (Ok command)
+asked_by (Some (Err wrong)) = Some (Err (line_refusal wrong))
+
+-- what a line asks for: nothing, a command, or a refusal
+unfoldable pub asks_for : List ℕ → Option (Result Command Refusal)
+asks_for line = asked_by (read line)
 
 abbrev pub Answers : Option (Result Command Refusal) → State → Answer → Type 0
 Answers None s a = a ≡ skipped
@@ -177,7 +241,7 @@ Answers (Some (Ok command)) s a = Does command s a
 
 -- what a line answers in a state
 unfoldable pub Step : State → List ℕ → Answer → Type 0
-Step s line a = Answers (read line) s a
+Step s line a = Answers (asks_for line) s a
 
 -- the commands that read or write a file
 abbrev pub has_file : Command → Bool
@@ -197,9 +261,15 @@ has_file (Rename expr name) = false
 has_file Discard = false
 has_file Apply = false
 has_file (Save file) = true
+has_file (Index file) = true
 has_file (Open file) = true
+has_file (Load file) = true
 
 abbrev pub asks_file : Option (Result Command Refusal) → Bool
 asks_file None = false
 asks_file (Some (Err refusal)) = false
 asks_file (Some (Ok command)) = has_file command
+
+-- whether some line asks for a file
+abbrev pub asks_any_file : List (List ℕ) → Bool
+asks_any_file lines = list_any (λ line. asks_file (asks_for line)) lines

@@ -8,10 +8,10 @@ ghost use Rattle.vtd_script.specs.Staging.{staged_line};
 use crate::ready::Stop;
 use crate::refusals::Refusal;
 use std::alloc::Global;
-use vtd_builder::Doc;
+use vtd_documents::Document;
 use vtd_edits::StageFault;
-use vtd_listing::{node_lines, push_decimal, push_text, value_lines};
-use vtd_queries::{OperationFault, QueryFault, ask_nodes, ask_text};
+use vtd_listing::{push_decimal, push_text};
+use vtd_queries::{OperationFault, QueryFault};
 use xml_model::{Bytes, NoMemory};
 use xpath_grammar::Bindings;
 
@@ -83,21 +83,15 @@ pub fn staged_lines(alloc: Global, count: u64) -> Result<Vec<u8>, NoMemory>
 /// `Refused` exactly where the expression has no nodes, with why; `NoMemory` may come in place of any other answer.
 pub fn selected_lines(
     alloc: Global,
-    doc: &Doc,
+    document: &Document,
     bindings: &Bindings,
     expr: &str,
 ) -> Result<Bytes, Stop>
-    ensures { Told (Selects doc.now.bytes bindings.now expr.now) result }
+    ensures { Told (Selects document.now bindings.now expr.now) result }
 {
-    let _ = doc.bytes();
-    let nav = doc.nav();
-    let nodes = match ask_nodes(alloc, &nav, bindings, expr) {
-        Ok(nodes) => nodes,
-        Err(fault) => return Err(query_stop(fault)),
-    };
-    match node_lines(alloc, &nav, &nodes) {
-        Ok(held) => Ok(Bytes { held }),
-        Err(_) => Err(Stop::NoMemory),
+    match document.node_lines(alloc, bindings, expr) {
+        Ok(lines) => Ok(lines),
+        Err(fault) => Err(query_stop(fault)),
     }
 }
 
@@ -107,20 +101,14 @@ pub fn selected_lines(
 /// `Refused` exactly where the expression has no value, with why; `NoMemory` may come in place of any other answer.
 pub fn valued_lines(
     alloc: Global,
-    doc: &Doc,
+    document: &Document,
     bindings: &Bindings,
     expr: &str,
 ) -> Result<Bytes, Stop>
-    ensures { Told (Values doc.now.bytes bindings.now expr.now) result }
+    ensures { Told (Values document.now bindings.now expr.now) result }
 {
-    let _ = doc.bytes();
-    let nav = doc.nav();
-    let text = match ask_text(alloc, &nav, bindings, expr) {
-        Ok(text) => text,
-        Err(fault) => return Err(query_stop(fault)),
-    };
-    match value_lines(alloc, &text) {
-        Ok(held) => Ok(Bytes { held }),
-        Err(_) => Err(Stop::NoMemory),
+    match document.value_lines(alloc, bindings, expr) {
+        Ok(lines) => Ok(lines),
+        Err(fault) => Err(query_stop(fault)),
     }
 }

@@ -2,7 +2,7 @@
 
 ghost use Rattle.std.specs.Prelude.{◌⊎◌, ◌≡◌, ℕ, List, Bool, Some};
 ghost use Rattle.vtd_listing.specs.Escapes.{escaped};
-ghost use Rattle.vtd_script.specs.Fields.{unescaped};
+ghost use Rattle.vtd_lines.specs.Fields.{unescaped};
 ghost use Rattle.vtd_outside.specs.Causes.{Rose};
 ghost use Rattle.vtd_outside.specs.Known.{NameMap};
 ghost use Rattle.vtd_script.specs.States.{State, Answer, state_after};

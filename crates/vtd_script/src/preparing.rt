@@ -5,19 +5,25 @@ ghost use Rattle.xml_model.specs.Items.{first_place};
 ghost use Rattle.xml_model.specs.Nest.{Forest};
 ghost use Rattle.xml_model.specs.Records.{records};
 ghost use Rattle.xml_model.specs.Accepted.{Accepted};
-ghost use Rattle.vtd_script.specs.Steps.{document_line, document_limit, name_of, saved_line};
-ghost use Rattle.vtd_script.specs.Changes.{ReadsDocument, stops_at_file};
+ghost use Rattle.vtd_script.specs.Steps.{document_line, document_limit, index_limit, indexed_line, name_of};
+ghost use Rattle.vtd_script.specs.Steps.{saved_line};
+ghost use Rattle.vtd_words.specs.Numbers.{AreBytes};
+ghost use Rattle.vtd_script.specs.Changes.{HasLine, ReadsDocument, ReadsIndex, stops_at_file};
 
 use crate::ready::{Made, Stop};
-use crate::refusals::{Refusal, refusal_of};
+use crate::refusals::{index_refusal, refusal_of};
 use std::alloc::Global;
-use vtd_builder::{BuildFault, Doc, build};
+use vtd_builder::{BuildFault, build};
+use vtd_documents::Document;
+use vtd_index::LoadFault;
 use vtd_listing::{push_decimal, push_text};
-use vtd_words::{Part, Words};
 use xml_model::{Bytes, NoMemory, Text};
 
 /// The longest document, in bytes.
 pub const DOCUMENT_LIMIT: u32 = 1_073_741_823;
+
+/// The longest index file, in bytes.
+pub const INDEX_LIMIT: u32 = u32::MAX;
 
 /// The name of a file, as the characters of a field.
 pub fn name_of(file: &Text) -> &str
@@ -47,18 +53,48 @@ pub fn saved_lines(alloc: Global, count: u32) -> Result<Vec<u8>, NoMemory>
     Ok(lines)
 }
 
+/// The line of an index file that was written.
+///
+/// # Errors
+/// `NoMemory` where the memory for the line was not to be had.
+pub fn indexed_lines(alloc: Global, count: u64) -> Result<Vec<u8>, NoMemory>
+    ensures { IfOk result (λ lines. lines.items ≡ indexed_line count) }
+{
+    let mut lines = Vec::new(alloc);
+    push_text(&mut lines, b"indexed ")?;
+    push_decimal(&mut lines, count)?;
+    push_text(&mut lines, b"\n")?;
+    Ok(lines)
+}
+
 /// The line of a new document.
-fn document_lines(alloc: Global, doc: &Doc) -> Result<Vec<u8>, NoMemory>
-    ensures { IfOk result (λ lines. (nest : Forest) × Accepted 8 doc.now.bytes nest ×
-        (lines.items ≡ document_line (length doc.now.bytes) (length (records nest (first_place doc.now.bytes))))) }
+fn document_lines(alloc: Global, document: &Document) -> Result<Vec<u8>, NoMemory>
+    ensures { IfOk result (λ lines. (nest : Forest) × Accepted 8 document.now nest ×
+        (lines.items ≡ document_line (length document.now) (length (records nest (first_place document.now))))) }
 {
     let mut lines = Vec::new(alloc);
     push_text(&mut lines, b"document ")?;
-    push_decimal(&mut lines, doc.bytes().len() as u64)?;
+    push_decimal(&mut lines, document.bytes().len() as u64)?;
     push_text(&mut lines, b" ")?;
-    push_decimal(&mut lines, u64::from(doc.words().len(Part::Records)))?;
+    push_decimal(&mut lines, u64::from(document.records()))?;
     push_text(&mut lines, b"\n")?;
     Ok(lines)
+}
+
+/// A document and its line.
+///
+/// # Errors
+/// `NoMemory` where the memory for the line was not to be had.
+fn with_line(alloc: Global, document: Document) -> Result<Made, Stop>
+    ensures { HasLine document result }
+{
+    match document_lines(alloc, &document) {
+        Ok(lines) => Ok(Made {
+            document,
+            lines: Bytes { held: lines },
+        }),
+        Err(_) => Err(Stop::NoMemory),
+    }
 }
 
 /// The document of bytes, and its line.
@@ -70,16 +106,27 @@ pub fn read_document(alloc: Global, bytes: Vec<u8>) -> Result<Made, Stop>
     ensures reads { ReadsDocument bytes.items result }
     ensures no_file { stops_at_file result ≡ false }
 {
-    let doc = match build(alloc, bytes) {
-        Ok(doc) => doc,
+    let document = match build(alloc, bytes) {
+        Ok(doc) => Document::built(doc),
         Err((_, BuildFault::Doc(fault))) => return Err(Stop::Refused(refusal_of(fault))),
         Err((_, BuildFault::NoMemory)) => return Err(Stop::NoMemory),
     };
-    match document_lines(alloc, &doc) {
-        Ok(lines) => Ok(Made {
-            document: doc,
-            lines: Bytes { held: lines },
-        }),
-        Err(_) => Err(Stop::NoMemory),
+    with_line(alloc, document)
+}
+
+/// The document of an index file, and its line.
+///
+/// # Errors
+/// `Refused` exactly where the file is the index file of no document, by its fault; `NoMemory`.
+pub fn read_index(alloc: Global, file: Vec<u8>) -> Result<Made, Stop>
+    requires { length file.items ≤ index_limit }
+    ensures reads { ReadsIndex file.items result }
+    ensures of_bytes { AreBytes file.items }
+    ensures no_file { stops_at_file result ≡ false }
+{
+    match Document::load(alloc, file) {
+        Ok(document) => with_line(alloc, document),
+        Err((_, LoadFault::Index(fault))) => Err(Stop::Refused(index_refusal(fault))),
+        Err((_, LoadFault::NoMemory)) => Err(Stop::NoMemory),
     }
 }

@@ -1,7 +1,7 @@
 //! What the first part of a command leaves to the second.
 
 use crate::refusals::Refusal;
-use vtd_builder::Doc;
+use vtd_documents::Document;
 use xml_model::{Bytes, Text};
 
 /// A change that is still to be made.
@@ -11,6 +11,11 @@ pub enum Change {
     Nothing,
     /// The file of this name is to take the new bytes of the session.
     File {
+        /// The name.
+        name: Text,
+    },
+    /// The file of this name is to take the index file of the document.
+    Index {
         /// The name.
         name: Text,
     },
@@ -29,7 +34,7 @@ pub struct Ready {
 #[derive(Drop)]
 pub struct Made {
     /// The document.
-    pub document: Doc,
+    pub document: Document,
     /// The line.
     pub lines: Bytes,
 }

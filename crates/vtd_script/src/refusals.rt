@@ -3,10 +3,11 @@
 ghost use Rattle.std.specs.Prelude.{◌≡◌, ◌++◌, codes, IfOk, OnOk};
 ghost use Rattle.std.specs.Fmt.{decimal};
 ghost use Rattle.vtd_script.specs.States.{refusal_words, refused_line};
-ghost use Rattle.vtd_script.specs.Steps.{refusal_of};
+ghost use Rattle.vtd_script.specs.Steps.{index_refusal, refusal_of};
 
 use crate::faults::width_word;
 use std::alloc::Global;
+use vtd_index::IndexFault;
 use vtd_listing::{push_decimal, push_text};
 use xml_model::{DocFault, Field, NoMemory};
 
@@ -21,7 +22,7 @@ pub enum Refusal {
     Command,
     /// A backslash in a field is not before `t`, `n`, `r` or another backslash.
     Escape,
-    /// A document is to be opened, and a splice is staged.
+    /// A document is to be opened or loaded, and a splice is staged.
     Staged,
     /// The expression has more than 4,096 bytes.
     ExprLong,
@@ -72,8 +73,11 @@ pub enum Refusal {
     },
     /// All staged texts would have more than 268,435,456 bytes.
     TextLong,
-    /// The bytes that are to be the document are more than 1,073,741,823.
+    /// The bytes that are to be the document are more than 1,073,741,823, or those of an index file that is to be loaded
+    /// more than 4,294,967,295.
     FileLong,
+    /// The index file of the document would have more than 4,294,967,295 bytes.
+    IndexLong,
     /// They are not UTF-8; `at` is the length of the longest prefix that is.
     Utf8 {
         /// Where.
@@ -121,6 +125,29 @@ pub enum Refusal {
         /// Where.
         at: u32,
     },
+    /// The index file has fewer than 32 bytes, or begins as one and has fewer than 40.
+    Short,
+    /// The file does not begin as an index file.
+    Magic,
+    /// The parts of the index file by their lengths do not fill it, or its document has more than 1,073,741,823 bytes.
+    Size,
+    /// The byte of the index file at `at` is the first that is to be zero and is not.
+    Padding {
+        /// Where.
+        at: u32,
+    },
+    /// The stored records are not those of the document: the first that differs, is missing or is surplus.
+    Records {
+        /// Which.
+        at: u32,
+    },
+    /// The stored levels are not those of the records.
+    Caches {
+        /// The first level that differs.
+        level: u8,
+        /// Its first entry that differs, is missing or is surplus.
+        at: u32,
+    },
 }
 
 /// The refusal of a command by a document that is refused.
@@ -140,6 +167,21 @@ pub fn refusal_of(fault: DocFault) -> Refusal
     }
 }
 
+/// The refusal of a command by a file that is no index file.
+pub fn index_refusal(fault: IndexFault) -> Refusal
+    ensures { result ≡ index_refusal fault }
+{
+    match fault {
+        IndexFault::Short => Refusal::Short,
+        IndexFault::Magic => Refusal::Magic,
+        IndexFault::Size => Refusal::Size,
+        IndexFault::Padding { at } => Refusal::Padding { at },
+        IndexFault::Doc(fault) => refusal_of(fault),
+        IndexFault::Records { at } => Refusal::Records { at },
+        IndexFault::Caches { level, at } => Refusal::Caches { level, at },
+    }
+}
+
 /// Adds a word and a place.
 fn push_at(line: &mut Vec<u8>, word: &[u8], at: u32) -> Result<(), NoMemory>
     ensures { OnOk result (line.new.items ≡ line.old.items ++ (word.now ++ decimal at)) }
@@ -155,6 +197,15 @@ fn push_overlap(line: &mut Vec<u8>, earlier: u32, later: u32) -> Result<(), NoMe
 {
     push_at(line, b"overlap ", earlier)?;
     push_at(line, b" ", later)
+}
+
+/// Adds the words of a level and an entry in it.
+fn push_caches(line: &mut Vec<u8>, level: u8, at: u32) -> Result<(), NoMemory>
+    ensures { OnOk result
+        (line.new.items ≡ line.old.items ++ (codes "caches " ++ decimal level ++ codes " " ++ decimal at)) }
+{
+    push_at(line, b"caches ", u32::from(level))?;
+    push_at(line, b" ", at)
 }
 
 /// Adds the words of a refusal.
@@ -187,6 +238,7 @@ fn push_words(line: &mut Vec<u8>, refusal: Refusal) -> Result<(), NoMemory>
         Refusal::Overlap { earlier, later } => push_overlap(line, earlier, later),
         Refusal::TextLong => push_text(line, b"text-long"),
         Refusal::FileLong => push_text(line, b"file-long"),
+        Refusal::IndexLong => push_text(line, b"index-long"),
         Refusal::Utf8 { at } => push_at(line, b"utf8 ", at),
         Refusal::Syntax { at } => push_at(line, b"syntax ", at),
         Refusal::Entity { at } => push_at(line, b"entity ", at),
@@ -196,6 +248,12 @@ fn push_words(line: &mut Vec<u8>, refusal: Refusal) -> Result<(), NoMemory>
         Refusal::Width { field, at } => push_at(line, width_word(field), at),
         Refusal::Twice { at } => push_at(line, b"twice ", at),
         Refusal::Namespace { at } => push_at(line, b"namespace ", at),
+        Refusal::Short => push_text(line, b"short"),
+        Refusal::Magic => push_text(line, b"magic"),
+        Refusal::Size => push_text(line, b"size"),
+        Refusal::Padding { at } => push_at(line, b"padding ", at),
+        Refusal::Records { at } => push_at(line, b"records ", at),
+        Refusal::Caches { level, at } => push_caches(line, level, at),
     }
 }
 
@@ -212,4 +270,14 @@ pub fn refusal_line(alloc: Global, refusal: Refusal) -> Result<Vec<u8>, NoMemory
     push_words(&mut line, refusal)?;
     push_text(&mut line, b"\n")?;
     Ok(line)
+}
+
+/// The line of a file that is no index file.
+///
+/// # Errors
+/// `NoMemory` where the memory for the line was not to be had.
+pub fn index_fault_line(alloc: Global, fault: IndexFault) -> Result<Vec<u8>, NoMemory>
+    ensures { IfOk result (λ line. line.items ≡ refused_line (index_refusal fault)) }
+{
+    refusal_line(alloc, index_refusal(fault))
 }

@@ -8,32 +8,39 @@ ghost use Rattle.xml_model.specs.Nest.{Forest};
 ghost use Rattle.xml_model.specs.declared.DocFault.{DocFault};
 ghost use Rattle.vtd_outside.specs.Causes.{Rose};
 ghost use Rattle.vtd_outside.specs.Known.{NameMap};
-ghost use Rattle.vtd_script.specs.Commands.{read};
 ghost use Rattle.vtd_script.specs.States.{new_bytes, state_of};
-ghost use Rattle.vtd_script.specs.Steps.{Stages};
+ghost use Rattle.vtd_script.specs.Steps.{asks_file, asks_for, has_file, Stages, Takes, TakesIndex};
+ghost use Rattle.vtd_words.specs.Numbers.{AreBytes};
+ghost use Rattle.vtd_documents.specs.Loads.{IsFileOf};
+ghost use Rattle.vtd_index.specs.Opening.{IsLoadFault};
 ghost use Rattle.vtd_script.specs.Runs.{StepsKnown};
 ghost use Rattle.vtd_script.specs.Changes.{Asks, ChangesKnown, CompletesKnown, MakesDocument, OpensDocument, Prepares};
+ghost use Rattle.vtd_script.specs.Changes.{ReadsFile};
 ghost use Rattle.vtd_script.specs.Changes.{PreparesStaging};
 ghost use Rattle.vtd_script.specs.Changes.{RefusesKnown};
 ghost use Rattle.vtd_script.specs.Changes.{FileCounts, SendCounts, StaysUnlessDone, StaysUnlessReady, fails_at_file};
-ghost use Rattle.vtd_script.specs.Changes.{stops_at_file, writes};
-ghost use Rattle.vtd_script.specs.declared.commands.Command.TheVariants.{Apply, Discard, Elements, Ns, Open, Save};
-ghost use Rattle.vtd_script.specs.declared.commands.Command.TheVariants.{Select};
+ghost use Rattle.vtd_script.specs.Changes.{stops_at_file, touches_file, writes};
+ghost use Rattle.vtd_lines.specs.declared.commands.Command.TheVariants.{Apply, Discard, Elements, Index, Load, Ns};
+ghost use Rattle.vtd_lines.specs.declared.commands.Command.TheVariants.{Open, Save, Select};
 
 use crate::asking::{operation_stop, selected_lines, stage_stop, staged_lines, valued_lines};
-use crate::commands::{Command, LineFault, read_line};
 use crate::endings::{Ending, StepFault};
-use crate::listing::{listed_lines, ok_lines};
-use crate::preparing::{DOCUMENT_LIMIT, name_of, read_document, saved_lines, utf8_of};
+use crate::listing::ok_lines;
+use crate::preparing::{
+    DOCUMENT_LIMIT, INDEX_LIMIT, indexed_lines, name_of, read_document, read_index, saved_lines,
+    utf8_of,
+};
 use crate::ready::{Change, Made, Ready, Stop};
 use crate::refusals::{Refusal, refusal_line};
 use std::alloc::Global;
 use std::marker::Model;
-use vtd_builder::{BuildFault, Doc, build};
+use vtd_builder::{BuildFault, build};
+use vtd_documents::Document;
 use vtd_edits::{Edits, spliced};
+use vtd_index::LoadFault;
+use vtd_lines::{Command, LineFault, read_line};
 use vtd_modifier::Operation;
 use vtd_outside::{Failed, Files, GatherFault, Sink, gather_file, send};
-use vtd_queries::operate;
 use vtd_writing::write;
 use xml_model::texts::as_str;
 use xml_model::{Bytes, Text};
@@ -44,7 +51,7 @@ use xpath_grammar::{BindFault, Bindings};
 #[derive(Drop)]
 pub struct Session {
     alloc: Global,
-    document: Doc,
+    document: Document,
     bindings: Bindings,
     edits: Edits,
 }
@@ -55,9 +62,9 @@ impl Model for Session {
 
     ghost Value = { Work };
 
-    ghost view = { λ s. record { bytes = s.document.bytes; bound = s.bindings; staged = s.edits.splices } };
+    ghost view = { λ s. record { bytes = s.document; bound = s.bindings; staged = s.edits.splices } };
 
-    ghost invariant = { λ s. s.edits.len ≡ length s.document.bytes };
+    ghost invariant = { λ s. s.edits.len ≡ length s.document };
 }
 
 /// A command whose first part is over.
@@ -73,7 +80,7 @@ fn ready(change: Change, lines: Vec<u8>) -> Ready
 
 /// What a line asks for.
 fn read_command(alloc: Global, line: &[u8]) -> Result<Option<Command>, Stop>
-    ensures { Asks result (read line.now) }
+    ensures { Asks result (asks_for line.now) }
 {
     match read_line(alloc, line) {
         Ok(None) => Ok(None),
@@ -88,8 +95,8 @@ fn read_command(alloc: Global, line: &[u8]) -> Result<Option<Command>, Stop>
 
 impl Session {
     /// A session over a document.
-    fn over(alloc: Global, document: Doc) -> Session
-        ensures { result ≡ record { bytes = document.bytes; bound = []; staged = [] } }
+    fn over(alloc: Global, document: Document) -> Session
+        ensures { result ≡ record { bytes = document; bound = []; staged = [] } }
     {
         let length = document.bytes().len() as u32;
         Session {
@@ -116,6 +123,25 @@ impl Session {
             (nest : Forest) × Accepted 6 bytes.items nest) }
     {
         match build(alloc, bytes) {
+            Ok(doc) => Ok(Session::over(alloc, Document::built(doc))),
+            Err(fault) => Err(fault),
+        }
+    }
+
+    /// A session over the document of an index file, with the prefix `xml` alone bound and nothing staged. The document
+    /// and its words stay where they lie in a file of the second version, for which no memory is taken.
+    ///
+    /// # Errors
+    /// Those of `Document::load`, exactly. The file comes back.
+    pub fn start_index(alloc: Global, file: Vec<u8>) -> Result<Session, (Vec<u8>, LoadFault)>
+        requires { vec_len file < 2 ^ 32 }
+        ensures of_bytes { AreBytes file.items }
+        ensures index { IfOk result (λ s. IsFileOf file.items s.bytes) }
+        ensures started { IfOk result (λ s. s ≡ record { bytes = s.bytes; bound = []; staged = [] }) }
+        ensures given_back { IfErr result (λ e. e.0 ≡ file) }
+        ensures fault { IfErr result (λ e. IsLoadFault file.items e.1) }
+    {
+        match Document::load(alloc, file) {
             Ok(document) => Ok(Session::over(alloc, document)),
             Err(fault) => Err(fault),
         }
@@ -127,7 +153,7 @@ impl Session {
             Prepares ⊥ Elements (state_of self.now files) (state_of self.now files) result }
         ensures no_file { stops_at_file result ≡ false }
     {
-        match listed_lines(self.alloc, &self.document) {
+        match self.document.element_lines(self.alloc) {
             Ok(lines) => Ok(ready(Change::Nothing, lines)),
             Err(_) => Err(Stop::NoMemory),
         }
@@ -187,9 +213,11 @@ impl Session {
             (state_of self.old files) (state_of self.new files) result }
         ensures no_file { stops_at_file result ≡ false }
     {
-        let _ = self.document.bytes();
-        let nav = self.document.nav();
-        let made = match operate(self.alloc, &nav, &self.bindings, utf8_of(expr), operation) {
+        let expr = utf8_of(expr);
+        let made = match self
+            .document
+            .operate(self.alloc, &self.bindings, expr, operation)
+        {
             Ok(made) => made,
             Err(fault) => return Err(operation_stop(fault)),
         };
@@ -217,7 +245,7 @@ impl Session {
 
     /// Makes a document that was read the session's, for which nothing is staged; what is bound stays.
     fn take(&mut self, made: Made) -> Ready
-        ensures work { self.new ≡ record { bytes = made.document.bytes; bound = self.old.bound; staged = [] } }
+        ensures work { self.new ≡ record { bytes = made.document; bound = self.old.bound; staged = [] } }
         ensures change { result.change ≡ Change.Nothing }
         ensures lines { result.lines ≡ made.lines }
     {
@@ -233,7 +261,7 @@ impl Session {
 
     /// The document of the new bytes.
     fn new_document(&self) -> Result<Made, Stop>
-        ensures { MakesDocument (new_bytes self.now) result }
+        ensures { MakesDocument (Takes (new_bytes self.now)) result }
     {
         if self.edits.length() > DOCUMENT_LIMIT {
             return Err(Stop::Refused(Refusal::FileLong));
@@ -268,12 +296,29 @@ impl Session {
         }
     }
 
-    /// The document of a file, where nothing is staged.
-    fn file_document<F: Files>(&self, file: &Text, files: &mut F) -> Result<Made, Stop>
+    /// The first part of `index`: its line. The file is left to the second part.
+    fn index(&self, file: Text) -> Result<Ready, Stop>
+        ensures known { (files : NameMap) →
+            Prepares ⊥ (Index file) (state_of self.now files) (state_of self.now files) result }
+        ensures no_file { stops_at_file result ≡ false }
+    {
+        let length = self.document.index_length();
+        if length > u64::from(INDEX_LIMIT) {
+            return Err(Stop::Refused(Refusal::IndexLong));
+        }
+        match indexed_lines(self.alloc, length) {
+            Ok(lines) => Ok(ready(Change::Index { name: file }, lines)),
+            Err(_) => Err(Stop::NoMemory),
+        }
+    }
+
+    /// The bytes of a file, where nothing is staged and they are not too many.
+    fn file_bytes<F: Files>(&self, file: &Text, limit: u32, files: &mut F) -> Result<Bytes, Stop>
         requires { (F.seen files.old).is_writing ≡ false }
         ensures known { (map : NameMap) → (F.seen files.old).contents ≡ Some map
-            → OpensDocument (Rose (F.seen files.old).proper (F.seen files.new).proper) (state_of self.now map) file.now
-            result }
+            → ReadsFile limit (Rose (F.seen files.old).proper (F.seen files.new).proper) (state_of self.now map)
+            file.now result }
+        ensures within { IfOk result (λ bytes. length bytes ≤ limit) }
         ensures files_stay { (F.seen files.new).contents ≡ (F.seen files.old).contents }
         ensures writing_stays { (F.seen files.new).is_writing ≡ false }
         ensures counts { FileCounts (stops_at_file result)
@@ -282,11 +327,63 @@ impl Session {
         if self.edits.count() > 0 {
             return Err(Stop::Refused(Refusal::Staged));
         }
-        match gather_file(self.alloc, files, name_of(file), DOCUMENT_LIMIT) {
-            Ok(bytes) => read_document(self.alloc, bytes),
+        match gather_file(self.alloc, files, name_of(file), limit) {
+            Ok(held) => Ok(Bytes { held }),
             Err(GatherFault::Failed) => Err(Stop::File),
             Err(GatherFault::Long) => Err(Stop::Refused(Refusal::FileLong)),
             Err(GatherFault::NoMemory) => Err(Stop::NoMemory),
+        }
+    }
+
+    /// The document of a file, where nothing is staged.
+    fn file_document<F: Files>(&self, file: &Text, files: &mut F) -> Result<Made, Stop>
+        requires { (F.seen files.old).is_writing ≡ false }
+        ensures known { (map : NameMap) → (F.seen files.old).contents ≡ Some map
+            → OpensDocument Takes (Rose (F.seen files.old).proper (F.seen files.new).proper) (state_of self.now map)
+            file.now result }
+        ensures files_stay { (F.seen files.new).contents ≡ (F.seen files.old).contents }
+        ensures writing_stays { (F.seen files.new).is_writing ≡ false }
+        ensures counts { FileCounts (stops_at_file result)
+            (F.seen files.old).missed (F.seen files.new).missed (F.seen files.old).proper (F.seen files.new).proper }
+    {
+        match self.file_bytes(file, DOCUMENT_LIMIT, files) {
+            Ok(bytes) => read_document(self.alloc, bytes.held),
+            Err(stop) => Err(stop),
+        }
+    }
+
+    /// The document of an index file, where nothing is staged.
+    fn file_index<F: Files>(&self, file: &Text, files: &mut F) -> Result<Made, Stop>
+        requires { (F.seen files.old).is_writing ≡ false }
+        ensures known { (map : NameMap) → (F.seen files.old).contents ≡ Some map
+            → OpensDocument TakesIndex (Rose (F.seen files.old).proper (F.seen files.new).proper)
+            (state_of self.now map) file.now result }
+        ensures files_stay { (F.seen files.new).contents ≡ (F.seen files.old).contents }
+        ensures writing_stays { (F.seen files.new).is_writing ≡ false }
+        ensures counts { FileCounts (stops_at_file result)
+            (F.seen files.old).missed (F.seen files.new).missed (F.seen files.old).proper (F.seen files.new).proper }
+    {
+        match self.file_bytes(file, INDEX_LIMIT, files) {
+            Ok(bytes) => read_index(self.alloc, bytes.held),
+            Err(stop) => Err(stop),
+        }
+    }
+
+    /// The first part of `load`: the document of the index file, and then it is the session's.
+    fn load<F: Files>(&mut self, file: &Text, files: &mut F) -> Result<Ready, Stop>
+        requires { (F.seen files.old).is_writing ≡ false }
+        ensures known { (map : NameMap) → (F.seen files.old).contents ≡ Some map
+            → Prepares (Rose (F.seen files.old).proper (F.seen files.new).proper) (Load file.now)
+            (state_of self.old map) (state_of self.new map) result }
+        ensures stays { StaysUnlessReady result self.old self.new }
+        ensures files_stay { (F.seen files.new).contents ≡ (F.seen files.old).contents }
+        ensures writing_stays { (F.seen files.new).is_writing ≡ false }
+        ensures counts { FileCounts (stops_at_file result)
+            (F.seen files.old).missed (F.seen files.new).missed (F.seen files.old).proper (F.seen files.new).proper }
+    {
+        match self.file_index(file, files) {
+            Ok(made) => Ok(self.take(made)),
+            Err(stop) => Err(stop),
         }
     }
 
@@ -315,6 +412,7 @@ impl Session {
         ensures known { (map : NameMap) → (F.seen files.old).contents ≡ Some map
             → Prepares (Rose (F.seen files.old).proper (F.seen files.new).proper) command
             (state_of self.old map) (state_of self.new map) result }
+        ensures asks { touches_file result ≡ true → has_file command ≡ true }
         ensures stays { StaysUnlessReady result self.old self.new }
         ensures files_stay { (F.seen files.new).contents ≡ (F.seen files.old).contents }
         ensures writing_stays { (F.seen files.new).is_writing ≡ false }
@@ -343,7 +441,9 @@ impl Session {
             Command::Discard => self.discard(),
             Command::Apply => self.apply(),
             Command::Save { file } => self.save(file),
+            Command::Index { file } => self.index(file),
             Command::Open { file } => self.open(&file, files),
+            Command::Load { file } => self.load(&file, files),
         }
     }
 
@@ -368,6 +468,7 @@ impl Session {
                 &self.edits,
                 files,
             ),
+            Change::Index { name } => self.document.write_index(name_of(&name), files),
         }
     }
 
@@ -426,8 +527,8 @@ impl Session {
     /// bytes or not. What a line means, `Step` of `specs/Steps.antt` says.
     ///
     /// # Errors
-    /// `File` where a file that the line names is not there, or could not be read or written; the session is then as
-    /// before. `Write` only where the count of faults of `out` rose: a prefix of the lines was sent, and session and
+    /// `File` where a file that the line names is not there, or could not be read or written; it comes only at a line
+    /// that names one, and the session is then as before. `Write` only where the count of faults of `out` rose: a prefix of the lines was sent, and session and
     /// files are those after the line. `NoMemory` may come at any line: nothing was sent, and nothing changed.
     pub fn step<F: Files, K: Sink>(
         &mut self,
@@ -441,6 +542,7 @@ impl Session {
             (Rose (K.faults out.old) (K.faults out.new))
             (state_of self.old map) line.now result self.new (F.seen files.new).contents sent (K.taken out.new) }
         ensures session_stays { StaysUnlessDone result self.old self.new }
+        ensures asked { fails_at_file result ≡ true → asks_file (asks_for line.now) ≡ true }
         ensures writing_stays { (F.seen files.new).is_writing ≡ false }
         ensures counts { FileCounts (fails_at_file result)
             (F.seen files.old).missed (F.seen files.new).missed (F.seen files.old).proper (F.seen files.new).proper }

@@ -52,10 +52,10 @@ take_one rs at past l m =
 row_by : (rs : List Record) (at : ℕ) (end : RowEnd) (r : Record) → at < end.past → end.past ≤ length rs → r ≡ record_at at rs → row at end rs ≡ cond (is_within end.least r) (r ∷ row (at + 1) end rs) []
 row_by rs at end r l m e = ap (within end.least) (take_one rs at end.past l m) ∙ ap (λ (x : Record). cond (is_within end.least x) (x ∷ row (at + 1) end rs) []) (sym e)
 
-row_in : (rs : List Record) (at : ℕ) (end : RowEnd) (r : Record) → at < end.past → end.past ≤ length rs → r ≡ record_at at rs → is_within end.least r ≡ true → row at end rs ≡ r ∷ row (at + 1) end rs
+pub row_in : (rs : List Record) (at : ℕ) (end : RowEnd) (r : Record) → at < end.past → end.past ≤ length rs → r ≡ record_at at rs → is_within end.least r ≡ true → row at end rs ≡ r ∷ row (at + 1) end rs
 row_in rs at end r l m e b = row_by rs at end r l m e ∙ ap (λ (c : Bool). cond c (r ∷ row (at + 1) end rs) []) b
 
-row_out : (rs : List Record) (at : ℕ) (end : RowEnd) (r : Record) → at < end.past → end.past ≤ length rs → r ≡ record_at at rs → is_within end.least r ≡ false → row at end rs ≡ []
+pub row_out : (rs : List Record) (at : ℕ) (end : RowEnd) (r : Record) → at < end.past → end.past ≤ length rs → r ≡ record_at at rs → is_within end.least r ≡ false → row at end rs ≡ []
 row_out rs at end r l m e b = row_by rs at end r l m e ∙ ap (λ (c : Bool). cond c (r ∷ row (at + 1) end rs) []) b
 
 pub row_none : (rs : List Record) (at : ℕ) (end : RowEnd) → end.past ≤ at → row at end rs ≡ []

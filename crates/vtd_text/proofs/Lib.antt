@@ -13,4 +13,5 @@ mod CharsLemmas
 mod TextsLemmas
 mod AppendLemmas
 mod RawFacts
+mod PlainLemmas
 pub mod FingerprintLemmas

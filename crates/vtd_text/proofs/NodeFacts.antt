@@ -139,7 +139,7 @@ abbrev pub RowOf : List ℕ → Lists → Kind → ℕ → RowEnd → Forest →
 RowOf bytes lists kind at end nest e = RowBy kind (length e.holders) e.index e.past (length lists.records) at end
 
 -- the content of a node with a row of records
-row_told : (bytes : List ℕ) (lists : Lists) → length bytes < 2 ^ 30 → (nest : Forest) → IsNestOf bytes lists nest → (kind : Kind) (index at : ℕ) (end : RowEnd) → (e : Entry) → Identifies kind index e (nodes_of bytes nest) → RowOf bytes lists kind at end nest e →
+pub row_told : (bytes : List ℕ) (lists : Lists) → length bytes < 2 ^ 30 → (nest : Forest) → IsNestOf bytes lists nest → (kind : Kind) (index at : ℕ) (end : RowEnd) → (e : Entry) → Identifies kind index e (nodes_of bytes nest) → RowOf bytes lists kind at end nest e →
     Told bytes (wholes (row at end (records nest (first_place bytes)))) (content e.what)
 row_told bytes lists few nest s kind index at end e w k =
     let d = holding bytes lists nest s kind index e w in

@@ -1,6 +1,7 @@
 -- A node's content where it is in the document as it is (this project's own).
-use Rattle.std.specs.Prelude.{◌≡◌, ℕ, cond, List, [], ◌∷◌, encode_utf8_all, bytes_eq, Option, Some, None}
-use Rattle.std.specs.Prelude.{option_and_then}
+use Rattle.std.specs.Prelude.{◌≡◌, ℕ, Bool, cond, not, ◌==◌, ◌||◌, List, [], ◌∷◌, encode_utf8_all, bytes_eq, Option}
+use Rattle.std.specs.Prelude.{Some, None, option_and_then}
+use Rattle.std.specs.List.{list_all}
 use Rattle.xml_model.specs.Items.{Leaf, written_pieces}
 use Rattle.xml_model.specs.Records.{Record}
 use Rattle.xml_model.specs.Tree.{Thing}
@@ -28,3 +29,8 @@ pub record IsWritten (bytes : List ℕ) (r : Record) (content : Option (List ℕ
   pub is : content ≡ Some written
   pub text : IsText bytes r
   pub slice : slice_of bytes r ≡ encode_utf8_all written
+
+-- whether no character of a text may stand for another one, or begin a reference: none is a tab, a line feed, a carriage
+-- return or an ampersand (XML 1.0, sections 2.11, 3.3.3 and 4.1)
+abbrev pub are_plain : List ℕ → Bool
+are_plain cs = list_all (λ c. not (c == 9 || c == 10 || c == 13 || c == 38)) cs

@@ -15,5 +15,5 @@ mod token;
 pub use append::append_to;
 pub use chars::Chars;
 pub use fingerprints::{FingerprintFilter, mix_bytes, mix_chars};
-pub use slices::raw;
+pub use slices::{as_written, raw};
 pub use texts::{equals, equals_str};

@@ -64,7 +64,7 @@ fn record_of(bytes: &[u8], parts: Parts) -> TokenChars<'_>
 }
 
 /// Whether a record is of a text or a CDATA section.
-fn is_text(parts: Parts) -> bool
+pub(crate) fn is_text(parts: Parts) -> bool
     ensures { result ≡ is_text_token (record_of parts).token }
 {
     matches!(parts.token, TEXT | CDATA)

@@ -13,8 +13,9 @@ ghost use Rattle.xml_acceptance.specs.Verdicts.{CountsLevelsOf};
 
 use crate::findings::Findings;
 use crate::nest_so_far::NestSoFar;
-use xml_items::{Counted, first_place, next_counted};
+use xml_items::{Counted, first_place};
 use xml_model::{Counts, DocFault};
+use xml_swift::next_counted_swiftly;
 
 /// What a pass over the items has found.
 #[derive(Drop)]
@@ -113,7 +114,7 @@ fn pass_over(bytes: &[u8]) -> Result<Pass, DocFault>
     let mut at = first_place(bytes);
     let mut pass = Pass::new(bytes, at);
     'items: loop {
-        match next_counted(bytes, at) {
+        match next_counted_swiftly(bytes, at) {
             Ok(Some(counted)) => {
                 pass.take(bytes, counted);
                 at = counted.item.span.end;

@@ -27,6 +27,7 @@ pub use attributes::Attributes;
 use declarations::{declaration_at, is_same};
 use doctypes::doctype_at;
 use marks::{cdata_at, comment_at, instruction_at};
+pub use tags::after_attribute;
 use tags::{end_tag_at, tag_at};
 use texts::text_item_at;
 use xml_chars::names::name_of;

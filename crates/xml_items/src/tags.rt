@@ -98,6 +98,19 @@ pub fn attribute_of(text: &str) -> Option<AttributeText<'_>>
     bare_attribute_of(after_space)
 }
 
+/// What follows the attribute at the start, with the white space before it; None where none begins the text. It serves
+/// readers that know most attributes by themselves.
+#[inline(never)]
+pub fn after_attribute(text: &str) -> Option<&str>
+    ensures read { option_map chars (option_copied result) ≡ skip read_attribute (chars text.now) }
+    ensures shorter { IfSome result (λ r. length r.now ≤ length text.now) }
+{
+    match attribute_of(text) {
+        Some(parts) => Some(parts.rest),
+        None => None,
+    }
+}
+
 /// How many attributes are at the start, and what follows them and the white space after them; None where one of
 /// them is wrong.
 #[inline(always)]

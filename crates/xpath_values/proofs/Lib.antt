@@ -1,4 +1,5 @@
 pub mod BytewiseLemmas
+pub mod DigitLemmas
 pub mod FitLemmas
 pub mod KeptLemmas
 pub mod LanguageLemmas

@@ -50,7 +50,7 @@ after_from b s (c ∷ cs) = this (after_from b s cs) (is_space c)
     this i false = bad_from b s cs
 
 -- a character that passes a test is none of those that do not
-outside : (p : ℕ → Bool) (xs : List ℕ) → list_any p xs ≡ false → (c : ℕ) → p c ≡ true → list_any (λ s. s == c) xs ≡ false
+pub outside : (p : ℕ → Bool) (xs : List ℕ) → list_any p xs ≡ false → (c : ℕ) → p c ≡ true → list_any (λ s. s == c) xs ≡ false
 outside p [] h c k = refl
 outside p (x ∷ xs) h c k = this (λ l. outside p xs l c k) (p x) (x == c) refl refl h
   where

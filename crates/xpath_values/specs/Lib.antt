@@ -1,4 +1,5 @@
 pub mod Answers
+pub mod Digits
 pub mod Normal
 pub mod Numbers
 pub mod Products

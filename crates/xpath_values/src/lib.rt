@@ -4,6 +4,7 @@
 
 mod building;
 mod bytewise;
+mod digits;
 mod languages;
 pub mod laws;
 mod normal;

@@ -1,6 +1,6 @@
 //! Arithmetic, whole numbers and comparisons: XPath 1.0, sections 3.4, 3.5 and 4.4. Each call takes constant time.
 
-ghost use Rattle.std.specs.Prelude.{◌≡◌, ◌≢◌, ◌≤◌, ◌+◌, ◌*◌, ◌*ℤ◌, IfOk, nat_abs, pos};
+ghost use Rattle.std.specs.Prelude.{◌≡◌, ◌≢◌, ◌≤◌, ◌+◌, ◌*◌, ◌*ℤ◌, IfOk, nat_abs, nat_le, pos};
 ghost use Rattle.xpath_tokens.specs.Numbers.{greatest};
 ghost use Rattle.xpath_values.specs.Numbers.{IsNumber, arithmetic, ceiling, compare_millionths, compare_numbers, floor};
 ghost use Rattle.xpath_values.specs.Numbers.{exactly, in_range, negative, one, operate, quotient, remainder, round};
@@ -13,11 +13,23 @@ use xpath_tokens::{Comparison, GREATEST, Operator};
 /// How many millionths make 1.
 pub const ONE: i128 = 1_000_000;
 
+/// The greatest number, in millionths, with a sign.
+const MOST: i128 = GREATEST as i128;
+
+/// Whether so many millionths are in range.
+#[inline(always)]
+fn is_in_range(millionths: i128) -> bool
+    ensures { result ≡ nat_le (nat_abs millionths) greatest }
+{
+    -MOST <= millionths && millionths <= MOST
+}
+
 /// A number of millionths, where it is in range.
+#[inline(always)]
 fn in_range(millionths: i128) -> Result<Number, ValueFault>
     ensures { result ≡ in_range millionths }
 {
-    if millionths.unsigned_abs() <= GREATEST {
+    if is_in_range(millionths) {
         Ok(Number::Millionths(millionths))
     } else {
         Err(ValueFault::Range)
@@ -69,6 +81,23 @@ fn remainder(x: i128, y: i128) -> Result<Number, ValueFault>
         Ok(Number::Nan)
     } else {
         Ok(Number::Millionths(x % y))
+    }
+}
+
+/// The sum of two numbers; with NaN it is NaN.
+///
+/// # Errors
+/// `Range` where it is out of range.
+#[inline(always)]
+pub fn added(left: Number, right: Number) -> Result<Number, ValueFault>
+    requires left { IsNumber left }
+    requires right { IsNumber right }
+    ensures value { result ≡ arithmetic Operator.Add left right }
+    ensures fits { IfOk result IsNumber }
+{
+    match (left, right) {
+        (Number::Millionths(x), Number::Millionths(y)) => in_range(x + y),
+        _ => Ok(Number::Nan),
     }
 }
 

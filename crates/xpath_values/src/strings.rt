@@ -29,6 +29,7 @@ pub fn chars_at<'a, W: Words>(table: &Table<'a, W>, node: Node) -> Chars<'a, W>
 }
 
 /// The number of a node's string-value.
+#[inline(always)]
 pub fn number_seen<W: Words>(table: &Table<'_, W>, node: Node) -> Result<Number, ValueFault>
     requires { IsNodeOf table.now.bytes (W.lists table.now.words) node }
     ensures { (t : List ℕ) → HasString table.now.bytes (W.lists table.now.words) node t →

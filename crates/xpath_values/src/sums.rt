@@ -4,9 +4,8 @@ ghost use Rattle.std.specs.Prelude.{◌≡◌, IfOk};
 ghost use Rattle.xpath_values.specs.Numbers.{IsNumber, is_nan, plus};
 ghost use Rattle.xpath_values.specs.Sums.{sum_next, sum_start, sum_value};
 
-use crate::numbers::arithmetic;
+use crate::numbers::added;
 use crate::{Number, ValueFault};
-use xpath_tokens::Operator;
 
 /// What is known of a sum after its first numbers.
 #[derive(Clone, Copy)]
@@ -25,6 +24,7 @@ fn is_nan(number: Number) -> bool
 }
 
 /// A number added to what is there so far.
+#[inline(always)]
 fn plus(total: Result<Number, ValueFault>, number: Number) -> Result<Number, ValueFault>
     requires total { IfOk total IsNumber }
     requires number { IsNumber number }
@@ -32,7 +32,7 @@ fn plus(total: Result<Number, ValueFault>, number: Number) -> Result<Number, Val
     ensures fits { IfOk result IsNumber }
 {
     match total {
-        Ok(total) => arithmetic(Operator::Add, total, number),
+        Ok(total) => added(total, number),
         Err(fault) => Err(fault),
     }
 }
@@ -49,6 +49,7 @@ pub fn sum_start() -> Sum
 }
 
 /// The sum with one more number.
+#[inline(always)]
 pub fn sum_next(sum: Sum, number: Number) -> Sum
     requires total { IfOk sum.total IsNumber }
     requires number { IsNumber number }

@@ -3,6 +3,9 @@ use Rattle.vtd_words.specs.View.{CanView}
 use Rattle.vtd_index.proofs.Heads.{is_head, can_view}
 use Rattle.vtd_index.proofs.head.words.Goals as goal
 
+pub part-requires-4 : goal.part-requires-4
+part-requires-4 c = let h = is_head c.args.file.now c.args.head.now c.requires.head in omega (arith, h.fills, c.records_start-records.ensures)
+
 pub part-requires-5 : goal.part-requires-5
 part-requires-5 c = let h = is_head c.args.file.now c.args.head.now c.requires.head in omega (arith, h.fills, c.records_start-records.ensures)
 

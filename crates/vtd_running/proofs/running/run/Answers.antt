@@ -2,6 +2,7 @@ use Rattle.std.proofs.Common.{◌∙◌, sym, ap}
 use Rattle.vtd_running.specs.Seen.{form_seen}
 use Rattle.vtd_running.proofs.Endings.{ran_document, ran_usage, ran_no_memory}
 use Rattle.vtd_running.proofs.Generations.{ran_generated}
+use Rattle.vtd_running.proofs.IndexEndings.{ran_index}
 use Rattle.vtd_running.proofs.Outcomes.{exact_ran}
 use Rattle.vtd_running.proofs.running.run.Goals as goal
 
@@ -38,3 +39,13 @@ pub returns-in-Ok-NoForm-clause-exact : goal.returns-in-Ok-NoForm-clause-exact
 returns-in-Ok-NoForm-clause-exact g c = λ contents left taken known files from to errs noread nofile nowrite noerr.
     exact_ran _ _ _ _ _ contents left _ _ taken _ known _ c.say_usage.result noread nofile nowrite noerr
     (returns-in-Ok-NoForm-clause-ends g c contents left taken known files from to errs)
+
+pub returns-in-Ok-IndexFile-clause-ends : goal.returns-in-Ok-IndexFile-clause-ends
+returns-in-Ok-IndexFile-clause-ends g c = λ contents left taken known files from to errs.
+    ran_index _ _ _ _ _ c.in-Ok-IndexFile.name.now c.in-Ok-IndexFile.keep contents left _ _ taken _ known _ c.run_index.result
+    (sym (ap form_seen c.in-Ok-IndexFile.field-0-is) ∙ c.in-Ok-IndexFile.ensures) (c.run_index.ensures.known contents left taken files from to) errs
+
+pub returns-in-Ok-IndexFile-clause-exact : goal.returns-in-Ok-IndexFile-clause-exact
+returns-in-Ok-IndexFile-clause-exact g c = λ contents left taken known files from to errs noread nofile nowrite noerr.
+    exact_ran _ _ _ _ _ contents left _ _ taken _ known _ c.run_index.result noread nofile nowrite noerr
+    (returns-in-Ok-IndexFile-clause-ends g c contents left taken known files from to errs)

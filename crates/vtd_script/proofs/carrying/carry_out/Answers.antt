@@ -1,6 +1,7 @@
-use Rattle.std.proofs.Common.{refl, sym, ap, ◌∙◌}
+use Rattle.std.proofs.Common.{Err, refl, sym, ap, ◌∙◌}
+use Rattle.vtd_script.specs.declared.endings.End.{End}
 use Rattle.vtd_script.specs.Runs.{end_of}
-use Rattle.vtd_script.proofs.Loop.{known_from, loop_on, loop_end, loop_done}
+use Rattle.vtd_script.proofs.Loop.{asked_here, asked_later, known_from, loop_on, loop_end, loop_done}
 use Rattle.vtd_script.proofs.carrying.carry_out.Goals as goal
 
 pub returns-in-Err-clause-known : goal.returns-in-Err-clause-known
@@ -20,6 +21,7 @@ loop-line-preserved g c = record {
   missed_kept = c.in-Ok.ensures.counts.0 ∙ c.loop-line.invariant.missed_kept;
   proper_kept = c.in-Ok.ensures.counts.1 ∙ c.loop-line.invariant.proper_kept;
   faults_kept = c.in-Ok.ensures.sends ∙ c.loop-line.invariant.faults_kept;
+  asked = λ t. c.loop-line.invariant.asked (asked_later c.args.script.now c.loop-line.at c.in-Some.line c.in-Some.ensures.line t);
 }
 
 pub returns-then-refused-clause-known : goal.returns-then-refused-clause-known
@@ -31,3 +33,8 @@ pub returns-clause-known : goal.returns-clause-known
 returns-clause-known g c = λ map sent files to.
     loop_done _ _ c.args.keep _ c.args.script.now c.loop-line.at _ _ sent _ c.loop-line.refused _ (c.in_default.ensures.end.0 refl) (sym
     (ap end_of c.if-refused.false)) (c.loop-line.invariant.so_far map sent files to)
+
+pub returns-in-Err-clause-asked : goal.returns-in-Err-clause-asked
+returns-in-Err-clause-asked g c = λ e. c.loop-line.invariant.asked
+    (asked_here c.args.script.now c.loop-line.at c.in-Some.line c.in-Some.ensures.line
+    (c.in-Err.ensures.asked (ap (λ (x : End). Err x) e)))

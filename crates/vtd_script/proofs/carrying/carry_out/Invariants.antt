@@ -1,7 +1,8 @@
-use Rattle.std.proofs.Common.{◌≡◌, ◌-◌, ◌≤◌, length, drop, List, ℕ, Some, false}
+use Rattle.std.proofs.Common.{◌≡◌, ◌-◌, ◌≤◌, length, drop, List, ℕ, Some, true, false}
 use Rattle.vtd_outside.specs.Known.{NameMap}
-use Rattle.vtd_script.specs.Lines.{lines}
+use Rattle.vtd_lines.specs.Lines.{lines}
 use Rattle.vtd_script.specs.States.{state_of}
+use Rattle.vtd_script.specs.Steps.{asks_any_file}
 use Rattle.vtd_script.specs.Runs.{Carrying}
 use Rattle.vtd_script.proofs.carrying.carry_out.Given as goal
 
@@ -14,6 +15,7 @@ invariant-loop-line g l = record {
   not_writing : (g.F.Files.seen l.files).is_writing ≡ false;
   missed_kept : (g.F.Files.seen l.files).missed ≡ (g.F.Files.seen l.fn.files).missed;
   proper_kept : (g.F.Files.seen l.files).proper ≡ (g.F.Files.seen l.fn.files).proper;
+  asked : asks_any_file (lines (drop l.at l.script)) ≡ true → asks_any_file (lines l.script) ≡ true;
   faults_kept : g.K.Sink.faults l.out ≡ g.K.Sink.faults l.fn.out;
 }
 

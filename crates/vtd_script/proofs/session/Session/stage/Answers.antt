@@ -5,20 +5,17 @@ use Rattle.vtd_script.proofs.session.Session.stage.Goals as goal
 
 pub returns-in-Err-clause-known : goal.returns-in-Err-clause-known
 returns-in-Err-clause-known c = λ files.
-    stage_fault c.self.inside.document.bytes _ c.self.inside.document.words _ c.self.inside.bindings c.self.inside.edits.splices c.utf8_of.result.now
-    c.args.expr.now c.args.operation c.in-Err.fault _ c.operation_stop.result files c.bytes.ensures.document c.nav-nav.ensures.bytes
-    c.nav-nav.ensures.words c.in-Err.ensures.answers c.self.view_is c.utf8_of.ensures c.operation_stop.ensures
+    stage_fault c.self.inside.document c.self.inside.bindings c.self.inside.edits.splices c.utf8_of-expr.result.now c.args.expr.now c.args.operation
+    c.in-Err.fault _ c.operation_stop.result files c.in-Err.ensures.answers c.self.view_is c.utf8_of-expr.ensures c.operation_stop.ensures
 
 pub returns-in-Err-stage-clause-known : goal.returns-in-Err-stage-clause-known
 returns-in-Err-stage-clause-known c = λ files.
-    stage_refused c.self.inside.document.bytes _ c.self.inside.document.words _ c.self.inside.bindings c.self.inside.edits.splices c.utf8_of.result.now
-    c.args.expr.now c.args.operation c.in-Ok.made c.in-Err-stage.fault c.stage.new.self.splices _ c.stage_stop.result files c.bytes.ensures.document
-    c.nav-nav.ensures.bytes c.nav-nav.ensures.words c.in-Ok.ensures.answers c.in-Err-stage.ensures.refused c.self.view_is c.utf8_of.ensures
-    c.stage_stop.ensures (ap (λ (x : Staged). x.splices) c.in-Err-stage.ensures.unchanged)
+    stage_refused c.self.inside.document c.self.inside.bindings c.self.inside.edits.splices c.utf8_of-expr.result.now c.args.expr.now c.args.operation
+    c.in-Ok.made c.in-Err-stage.fault c.stage.new.self.splices _ c.stage_stop.result files c.in-Ok.ensures.answers c.in-Err-stage.ensures.refused
+    c.self.view_is c.utf8_of-expr.ensures c.stage_stop.ensures (ap (λ (x : Staged). x.splices) c.in-Err-stage.ensures.unchanged)
 
 pub returns-clause-known : goal.returns-clause-known
 returns-clause-known c = λ files.
-    stage_done c.self.inside.document.bytes _ c.self.inside.document.words _ c.self.inside.bindings c.self.inside.edits.splices c.utf8_of.result.now
-    c.args.expr.now c.args.operation c.in-Ok.made c.stage.new.self _ c.ready.result _ files c.bytes.ensures.document c.nav-nav.ensures.bytes
-    c.nav-nav.ensures.words c.in-Ok.ensures.answers (ap (λ (x : Staged). x.splices) c.in_default-stage.ensures.staged)
-    c.in_default-stage.ensures.edits c.in-Ok-staged_lines.ensures c.ready.ensures.change c.ready.ensures.lines c.self.view_is c.utf8_of.ensures
+    stage_done c.self.inside.document c.self.inside.bindings c.self.inside.edits.splices c.utf8_of-expr.result.now c.args.expr.now c.args.operation
+    c.in-Ok.made c.stage.new.self _ c.ready.result _ files c.in-Ok.ensures.answers (ap (λ (x : Staged). x.splices) c.in_default-stage.ensures.staged)
+    c.in_default-stage.ensures.edits c.in-Ok-staged_lines.ensures c.ready.ensures.change c.ready.ensures.lines c.self.view_is c.utf8_of-expr.ensures

@@ -1,6 +1,8 @@
-use Rattle.std.proofs.Common.{refl, ◌∙◌}
+use Rattle.std.proofs.Common.{Err, ap, refl, ◌∙◌}
+use Rattle.vtd_script.specs.Changes.{touches_file}
+use Rattle.vtd_script.specs.declared.ready.Stop.{Stop}
 use Rattle.vtd_script.specs.declared.ready.Stop.TheVariants as stop
-use Rattle.vtd_script.proofs.Parts.{step_skipped, step_unread, step_refused, step_unopened, step_done, step_undone, step_no_memory}
+use Rattle.vtd_script.proofs.Parts.{asked_as, step_skipped, step_unread, step_refused, step_unopened, step_done, step_undone, step_no_memory}
 use Rattle.vtd_script.proofs.Parts.{read_none, read_some, read_refused, prepares_stop, rose_from, counts_from, stays, stays_undone}
 use Rattle.vtd_script.proofs.session.Session.step.Goals as goal
 
@@ -59,3 +61,11 @@ returns-in-Err-Refused-prepare-clause-session_stays g c = stays c.refuse-in-Err-
 pub returns-in-Err-complete-clause-counts : goal.returns-in-Err-complete-clause-counts
 returns-in-Err-complete-clause-counts g c =
     counts_from _ _ _ _ _ _ _ c.in-Ok.ensures.counts.0 c.in-Ok.ensures.counts.1 c.in-Err-complete.ensures.counts
+
+pub returns-in-Err-complete-clause-asked : goal.returns-in-Err-complete-clause-asked
+returns-in-Err-complete-clause-asked g c = λ t. asked_as c.args.line.now c.in-Ok-Some.field-0 c.in-Ok-Some.command c.in-Ok-Some.field-0-is
+    c.in-Ok-Some.ensures (c.in-Ok.ensures.asks (c.in-Err-complete.ensures.file t))
+
+pub returns-in-Err-File-clause-asked : goal.returns-in-Err-File-clause-asked
+returns-in-Err-File-clause-asked g c = λ t. asked_as c.args.line.now c.in-Ok-Some.field-0 c.in-Ok-Some.command c.in-Ok-Some.field-0-is
+    c.in-Ok-Some.ensures (c.in-Err-File.ensures.asks (ap touches_file (ap (λ (x : Stop). Err x) c.in-Err-File.field-0-is)))

@@ -1,0 +1,5 @@
+pub mod Backs
+pub mod Exact
+pub mod Following
+pub mod Making
+pub mod Rings

@@ -1,0 +1,5 @@
+pub mod Versions
+pub mod Steps
+pub mod Chains
+pub mod Kept
+pub mod Laws

@@ -1,0 +1,17 @@
+pub mod ShownNodes
+pub mod NamesSame
+pub mod Needed
+pub mod CutShown
+pub mod CutNames
+pub mod CutNode
+pub mod CutFits
+pub mod CutWidths
+pub mod CutOnce
+pub mod CutDocument
+pub mod CutEmpty
+pub mod CutExamples
+pub mod Subtree
+pub mod NeededBy
+pub mod CutBytes
+pub mod CutLength
+pub mod CutWhole

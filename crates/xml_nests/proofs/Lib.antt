@@ -1,0 +1,11 @@
+pub mod Lists
+pub mod Written
+pub mod Walks
+pub mod Shift
+pub mod Around
+pub mod Exchange
+pub mod Apart
+pub mod Back
+pub mod Bytes
+pub mod Law
+pub mod Stands
