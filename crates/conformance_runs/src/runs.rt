@@ -84,7 +84,8 @@ fn sink_of(alloc: Global, plan: Plan, object: Object) -> Result<MemorySink, Allo
 
 /// The file `doc` with these bytes, the files `g` and `bad`, and room for a file `f`.
 fn files_of(alloc: Global, doc: &[u8], plan: Plan) -> Result<MemoryFiles, AllocError>
-    ensures { IfOk result (λ files. files.writing ≡ None) }
+    ensures not_read { IfOk result (λ files. files.opened ≡ None) }
+    ensures not_written { IfOk result (λ files. files.writing ≡ None) }
 {
     let failing = failing_of(alloc, plan, Object::Files)?;
     let mut files = MemoryFiles::new(alloc, failing, plan.piece);
