@@ -16,6 +16,7 @@ use std::mem::replace;
 use vtd_builder::{BuildFault, Doc, build};
 use vtd_edits::{Edits, Splices, StageFault};
 use vtd_history::{History, RedoFault, Segment, Step, UndoFault, try_exchange};
+use xml_model::NoMemory;
 
 /// A document with what is staged for it. Contracts see its bytes, the staged splices, and the revisions of both that
 /// `undo` and `redo` give. Each call that changes the document or what is staged is one change, also where it leaves
@@ -67,6 +68,25 @@ impl Revisions {
         let Ok(history) = History::new(alloc) else {
             let (bytes, _) = document.into_parts();
             return Err((bytes, BuildFault::NoMemory));
+        };
+        let edits = Edits::new(alloc, document.bytes().len() as u32);
+        Ok(Revisions {
+            alloc,
+            document,
+            edits,
+            history,
+        })
+    }
+
+    /// A document with nothing staged and nothing to undo.
+    ///
+    /// # Errors
+    /// `NoMemory` where there was none for the history.
+    pub fn of(alloc: Global, document: Doc) -> Result<Revisions, NoMemory>
+        ensures { IfOk result (λ r. r ≡ opened document.bytes) }
+    {
+        let Ok(history) = History::new(alloc) else {
+            return Err(NoMemory);
         };
         let edits = Edits::new(alloc, document.bytes().len() as u32);
         Ok(Revisions {
