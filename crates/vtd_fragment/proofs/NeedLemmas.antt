@@ -3,7 +3,7 @@ use Rattle.std.proofs.Common.{◌≡◌, ℕ, ◌+◌, ◌*◌, Bool, true, fals
 use Rattle.std.specs.Prelude.{encode_utf8_all, Contains, find, is_some, Some}
 use Rattle.std.specs.List.{list_all, list_any}
 use Rattle.std.proofs.Math.Utf8.{encode}
-use Rattle.std.proofs.lemmas.Bool.{and_parts, false≢true}
+use Rattle.std.proofs.lemmas.Bool.{and_parts, false≢true, false_from_ne_true}
 use Rattle.std.proofs.lemmas.List.Folds.{list_all-append}
 use Rattle.std.proofs.lemmas.Slice.Eq.{bytes_eq-Decides}
 use Rattle.xml_model.specs.declared.Kind.TheVariants as kinds
@@ -21,8 +21,6 @@ use Rattle.xml_model.proofs.Things.{element_of}
 use Rattle.vtd_words.specs.Lists.{Lists}
 use Rattle.vtd_words.specs.Packed.{record_of}
 use Rattle.vtd_words.specs.Table.{nodes_of}
-use Rattle.vtd_text.specs.Joined.{slice_of}
-use Rattle.xml_model.specs.Scan.{record_at}
 use Rattle.vtd_words.specs.declared.packing.Parts.{Parts}
 use Rattle.vtd_namespaces.specs.Scope.{HolderIn, Chain}
 use Rattle.vtd_namespaces.proofs.ChainLemmas.{document_chain}
@@ -36,8 +34,8 @@ use Rattle.xml_fragments.specs.Fragment.{needs}
 use Rattle.xml_fragments.proofs.CutNames.{is_sound, all_sound}
 use Rattle.xml_fragments.proofs.CutNode.{clean_in}
 use Rattle.xml_fragments.proofs.CutOnce.{declared_name, sound_name}
-use Rattle.vtd_fragment.specs.Round.{AtLevel, Round, is_hit}
-use Rattle.vtd_fragment.proofs.AttributeLemmas.{AttributeAt, attribute_of_holder, name_slice}
+use Rattle.vtd_fragment.specs.Round.{AtLevel, is_hit}
+use Rattle.vtd_fragment.proofs.AttributeLemmas.{AttributeAt, attribute_of_holder}
 use Rattle.vtd_fragment.proofs.UsedLemmas.{nil_encoded}
 
 -- ---- the holders of a node
@@ -181,25 +179,6 @@ xml_encoded = refl
 pub fixed_prefix : (prefix p : List ℕ) → prefix ≡ encode_utf8_all p → bytes_eq prefix (codes "xml") ≡ bytes_eq p (codes "xml")
 fixed_prefix prefix p e = ap₂ bytes_eq e (sym xml_encoded) ∙ eq_encoded p (codes "xml")
 
--- ---- an element round another one, with a prefix that it declares
-
-abbrev pub round_at : (bytes : List ℕ) (lists : Lists) (node : Node) (level : ℕ) → node.kind ≡ kinds.Element → (r : AtLevel bytes lists node level) → (before after : List Attribute) (a : Attribute) →
-    r.holder.tag.attributes ≡ before ++ a ∷ after → declares a.name ≡ true → (prefix : List ℕ) → prefix ≡ encode_utf8_all (after_colon a.name) → Round bytes lists node level prefix
-round_at bytes lists node level k r before after a is d prefix e = record {
-  nest = r.nest;
-  shown = r.shown;
-  entry = r.entry;
-  holds = r.holds;
-  near = r.near;
-  far = r.far;
-  holder = r.holder;
-  split = r.split;
-  many = r.many;
-  characters = after_colon a.name;
-  written = e;
-  declares = declaration_there r.holder.tag before after a (after_colon a.name) is (declaring_name bytes lists node level k r before after a is d);
-}
-
 -- ---- the tests of a declaration, by its records
 
 pub needs_undeclared : (es : List Entry) (x : Holder) (a : Attribute) → declares a.name ≡ false → false ≡ needs es x a
@@ -221,13 +200,18 @@ value_empty value a r e l z = sym (value_nil a.value) ∙ eq-eqb (size (written_
 pub value_full : (value : Parts) (a : Attribute) (r : Record) → record_of value ≡ r → r.len ≡ size (written_pieces a.value) → (value.length ≡ 0 → ⊥) → is_nil (value_content a.value) ≡ false
 value_full value a r e l z = sym (value_nil a.value) ∙ ne_eqb (size (written_pieces a.value)) 0 (λ k. z (ap (λ x. x.len) e ∙ l ∙ k))
 
--- the prefix that is read of a declaration's name
-pub prefix_there : (bytes : List ℕ) (lists : Lists) (node : Node) (level : ℕ) → node.kind ≡ kinds.Element → (r : AtLevel bytes lists node level) → (before after : List Attribute) (a : Attribute) →
-    r.holder.tag.attributes ≡ before ++ a ∷ after → (at : ℕ) → at ≡ r.holder.index + 1 + 2 * length before → declares a.name ≡ true → (name : Record) → name ≡ record_at at (records r.nest (first_place bytes)) → (slice prefix : List ℕ) → slice ≡ slice_of bytes name →
-    ((p : List ℕ) → slice ≡ encode_utf8_all (declaring p) → prefix ≡ encode_utf8_all p) → prefix ≡ encode_utf8_all (after_colon a.name)
-prefix_there bytes lists node level k r before after a is at i d name e slice prefix s known =
-    let h = attribute_at_level bytes lists node level r before after a is at i in
-    known (after_colon a.name) (s ∙ name_slice bytes (records r.nest (first_place bytes)) at a h name e ∙ ap encode_utf8_all (declaring_name bytes lists node level k r before after a is d))
+-- a name that declares no prefix is no sound declaration's
+pub declares_nothing : (bytes : List ℕ) (lists : Lists) (node : Node) (level : ℕ) → node.kind ≡ kinds.Element → (r : AtLevel bytes lists node level) → (before after : List Attribute) (a : Attribute) →
+    r.holder.tag.attributes ≡ before ++ a ∷ after → ((p : List ℕ) → bytes_eq a.name (declaring p) ≡ false) → declares a.name ≡ false
+declares_nothing bytes lists node level k r before after a is h =
+    false_from_ne_true (declares a.name) (λ d. false≢true (sym (h (after_colon a.name)) ∙ (bytes_eq-Decides a.name (declaring (after_colon a.name))).1 (declaring_name bytes lists node level k r before after a is d)))
+
+-- a prefix that is declared is the part after the colon
+pub declares_this : (bytes : List ℕ) (lists : Lists) (node : Node) (level : ℕ) → node.kind ≡ kinds.Element → (r : AtLevel bytes lists node level) → (before after : List Attribute) (a : Attribute) →
+    r.holder.tag.attributes ≡ before ++ a ∷ after → (prefix : List ℕ) → ((p : List ℕ) → bytes_eq prefix (encode_utf8_all p) ≡ bytes_eq a.name (declaring p)) → declares a.name ≡ true → prefix ≡ encode_utf8_all (after_colon a.name)
+declares_this bytes lists node level k r before after a is prefix own d =
+    let p = after_colon a.name in
+    (bytes_eq-Decides prefix (encode_utf8_all p)).0 (own p ∙ (bytes_eq-Decides a.name (declaring p)).1 (declaring_name bytes lists node level k r before after a is d))
 
 pub on_ok : {T E : Type 0} (r : Result T E) (P Q : Type 0) → (P → Q) → OnOk r P → OnOk r Q
 on_ok (Ok x) P Q f h = f h

@@ -1,39 +1,22 @@
--- The search for a name that a declaration outside binds: what was passed, and what is found.
-use Rattle.std.proofs.Common.{◌≡◌, ℕ, suc, ◌+◌, ◌<◌, ◌≤◌, Bool, true, false, cond, inl, inr, List, [], ◌∷◌, ◌++◌, length, refl, ap, ap₂, sym, ◌∙◌, subst, arith, append_assoc, Some, None, IfSome, ◌==◌, ◌&&◌, ◌||◌, not, eq-eqb, eqb-true}
-use Rattle.std.specs.Prelude.{Contains, is_some, filter, map, encode_utf8_all}
+-- The elements that hold nodes: their indexes fall, and what holds an element holds what is in it.
+use Rattle.std.proofs.Common.{◌≡◌, ℕ, suc, ◌+◌, ◌≤◌, Bool, true, false, cond, List, [], ◌∷◌, ◌++◌, refl, ap, ap₂, sym, ◌∙◌, subst, arith, Some, None, IfSome, ◌&&◌, ◌||◌, not}
+use Rattle.std.specs.Prelude.{Contains, is_some, filter, map}
 use Rattle.std.specs.List.{list_any, AllByRecursion as Each}
-use Rattle.std.proofs.lemmas.Bool.{false≢true, or_cases, or_left, or_right, and_from, cases_lt}
-use Rattle.xml_model.specs.declared.Node.{Node}
+use Rattle.std.proofs.lemmas.Bool.{false≢true}
 use Rattle.xml_model.specs.Chars.{size}
-use Rattle.xml_model.specs.Items.{Attribute, Tag, Leaf, text, cdata, declaration, doctype, first_place, written_attribute}
+use Rattle.xml_model.specs.Items.{Attribute, Tag, Leaf, text, cdata, declaration, doctype, written_attribute}
 use Rattle.xml_model.specs.Nest.{Forest, done, single, empty, element}
 use Rattle.xml_model.specs.Records.{declares, attributes_place, past_empty, past_element}
-use Rattle.xml_model.specs.Tree.{Step, Thing, Entry, Holder, Here, Identifies, attributes, attribute_entry, nodes, all, at_first, leaf_node, begins_run, run, after_leaf}
+use Rattle.xml_model.specs.Tree.{Step, Thing, Entry, Holder, Here, attributes, attribute_entry, nodes, all, at_first, leaf_node, begins_run, run, after_leaf}
 use Rattle.xml_model.specs.Tree.{inside_of, after_element, element_entry, tag_attributes, under, held, one_if, steps}
 use Rattle.xml_model.proofs.Each.{each_append, each_option, each_map, each_at, if_some_cond}
-use Rattle.xml_model.proofs.Filters.{any_in, any_same}
-use Rattle.xml_model.specs.declared.Kind.TheVariants as kinds
-use Rattle.xml_model.specs.Laws.{is_under}
-use Rattle.xml_model.proofs.TreeOrder.{under_is, under_within}
-use Rattle.xml_model.proofs.Intervals.{all_some}
-use Rattle.xml_model.proofs.Things.{element_of}
-use Rattle.xml_model.proofs.Indexes.{one_kind}
-use Rattle.xml_model.proofs.NodeLaws.{places_of_two}
-use Rattle.vtd_words.specs.Lists.{Lists}
-use Rattle.vtd_words.specs.Found.{NodeAt, IsNodeAt}
-use Rattle.vtd_words.specs.Table.{nodes_of}
-use Rattle.vtd_namespaces.specs.Scope.{tags_in}
-use Rattle.xml_fragments.specs.Cut.{has_declaration}
-use Rattle.xml_fragments.specs.Fragment.{binds, is_written, reaching, subtree}
+use Rattle.xml_fragments.specs.Fragment.{reaching, subtree}
 use Rattle.xml_fragments.specs.Cut.{whole_nodes}
-use Rattle.xml_fragments.proofs.Subtree.{Falls, steps_are, pathless, nodes_of as subtree_nodes}
-use Rattle.xml_fragments.proofs.NeededBy.{binds_far}
-use Rattle.vtd_fragment.specs.Named.{is_named}
-use Rattle.vtd_fragment.specs.Round.{Round, is_hit}
+use Rattle.xml_fragments.proofs.Subtree.{Falls, pathless, nodes_of as subtree_nodes}
 
 -- ---- the holders of each node fall
 
-abbrev OwnFalls : Entry → Type 0
+abbrev pub OwnFalls : Entry → Type 0
 OwnFalls x = Falls x.index x.holders
 
 falls_more : (n m : ℕ) (hs : List Holder) → n ≤ m → Falls n hs → Falls m hs
@@ -83,11 +66,11 @@ nodes_fall (element t inside space f) h s =
     ))
     (nodes_fall f b (falls_more h.index b.index h.holders (omega arith) s))
 
-all_fall : (nest : Forest) (first : ℕ) → Each OwnFalls (all nest first)
+pub all_fall : (nest : Forest) (first : ℕ) → Each OwnFalls (all nest first)
 unfolding all
 all_fall nest first = (tt, nodes_fall nest (at_first first) tt)
 
-reaching_falls : (x : Entry) → OwnFalls x → Falls (suc x.index) (reaching x)
+pub reaching_falls : (x : Entry) → OwnFalls x → Falls (suc x.index) (reaching x)
 reaching_falls x s = by x.what
   where
     by : (what : Thing) → Falls (suc x.index) (reaching (record x { what = what }))
@@ -100,7 +83,7 @@ reaching_falls x s = by x.what
 
 -- ---- the nodes of an element are held by what holds it
 
-abbrev Extends : List Holder → Entry → Type 0
+abbrev pub Extends : List Holder → Entry → Type 0
 Extends hs x = (near : List Holder) × (x.holders ≡ near ++ hs)
 
 some_extends : (hs : List Holder) (b : Bool) (e : Entry) → Extends hs e → IfSome (cond b None (Some e)) (Extends hs)
@@ -169,7 +152,7 @@ subtree_extends nest first e t inside there is =
     each_unmap (Extends e.holders) (subtree e.path (all nest first))
     (subst (λ (es : List Entry). Each (Extends e.holders) es) (sym n.are) (each_map (Extends e.holders) pathless w one))
 
-reaching_extends : (x : Entry) (hs : List Holder) → Extends hs x → (near : List Holder) × (reaching x ≡ near ++ hs)
+pub reaching_extends : (x : Entry) (hs : List Holder) → Extends hs x → (near : List Holder) × (reaching x ≡ near ++ hs)
 reaching_extends x hs s = by x.what
   where
     by : (what : Thing) → (near : List Holder) × (reaching (record x { what = what }) ≡ near ++ hs)
@@ -182,7 +165,7 @@ reaching_extends x hs s = by x.what
 
 -- ---- nodes of an element
 
-any_filter : (q p : Entry → Bool) (xs : List Entry) → list_any p (filter q xs) ≡ list_any (λ x. q x && p x) xs
+pub any_filter : (q p : Entry → Bool) (xs : List Entry) → list_any p (filter q xs) ≡ list_any (λ x. q x && p x) xs
 any_filter q p [] = refl
 any_filter q p (x ∷ xs) = by (q x) (p x) x (filter q xs) (list_any (λ y. q y && p y) xs) refl (any_filter q p xs)
   where
@@ -198,7 +181,7 @@ each_unfilter P q (x ∷ xs) h = by (q x) refl h (each_unfilter P q xs)
     by true e h more = ((λ k. h.0), more h.1)
     by false e h more = ((λ k. absurd (false≢true (sym e ∙ k))), more h)
 
-any_false : (xs : List Entry) → list_any (λ x. false) xs ≡ false
+pub any_false : (xs : List Entry) → list_any (λ x. false) xs ≡ false
 any_false [] = refl
 any_false (x ∷ xs) = any_false xs
 
@@ -206,126 +189,6 @@ any_false (x ∷ xs) = any_false xs
 abbrev pub is_inside : Entry → Entry → Bool
 is_inside e x = is_some (steps e.path x.path)
 
-module _ (bytes : List ℕ) (lists : Lists) (node : Node) (level : ℕ) (prefix : List ℕ) (element_kind : node.kind ≡ kinds.Element) where
-  abbrev Here' : Type 0
-  Here' = Round bytes lists node level prefix
-
-  -- no name with an index below a number is bound
-  abbrev pub NoneTo : Here' → ℕ → Type 0
-  NoneTo r at = (x : Entry) → Contains (nodes_of bytes r.nest) x → is_inside r.entry x ≡ true → x.index < at → is_hit r.characters r.holder x ≡ false
-
-  inside_from : (r : Here') (x : Entry) → Contains (nodes_of bytes r.nest) x → is_inside r.entry x ≡ true → (node.at ≤ x.index) × (x.index < r.entry.past)
-  inside_from r x c h =
-      let d = places_of_two r.nest (first_place bytes) r.entry x r.holds.0 c in
-      let some = each_at (λ (y : Entry). y.index < y.past) (nodes_of bytes r.nest) r.entry (all_some r.nest (first_place bytes)) r.holds.0 in
-      elim (or_cases (r.entry.index == x.index) (is_under r.entry x) (ap₂ (λ (a b : Bool). a || b) (sym d.same) (sym d.under) ∙ sym (steps_are (steps r.entry.path x.path)) ∙ h)) [
-        | inl t ↦ let e = eqb-true r.entry.index x.index t in (omega (arith, e, r.holds.2), omega (arith, e, some))
-        | inr t ↦ let w = under_within r.entry x t in (omega (arith, w.0, r.holds.2), w.1)
-      ]
-
-  inside_back : (r : Here') (x : Entry) → Contains (nodes_of bytes r.nest) x → node.at ≤ x.index → x.index < r.entry.past → is_inside r.entry x ≡ true
-  inside_back r x c low high =
-      let d = places_of_two r.nest (first_place bytes) r.entry x r.holds.0 c in
-      steps_are (steps r.entry.path x.path) ∙ ap₂ (λ (a b : Bool). a || b) d.same d.under ∙ elim (cases_lt r.entry.index x.index) [
-        | inl lt ↦ or_right (r.entry.index == x.index) _ (under_is r.entry x lt high)
-        | inr ge ↦ or_left (r.entry.index == x.index) _ (eq-eqb r.entry.index x.index (omega (arith, ge, low, r.holds.2)))
-      ]
-
-  pub none_before : (r : Here') → NoneTo r node.at
-  none_before r x c h l = absurd (omega (arith, l, (inside_from r x c h).0))
-
-  -- what reaches a node of the element, and whether its name is bound
-  record Reached (r : Here') (x : Entry) : Type 0 where
-    near : List Holder
-    is : reaching x ≡ near ++ r.holder ∷ r.far
-    hit : is_hit r.characters r.holder x ≡ (is_written r.characters x.what && not (list_any (has_declaration r.characters) (tags_in near)))
-
-  swap : (b w h : Bool) → b ≡ h → (b && w) ≡ (w && h)
-  swap true w h e = by w ∙ ap (λ (y : Bool). w && y) e
-    where
-      by : (w : Bool) → w ≡ (w && true)
-      by true = refl
-      by false = refl
-  swap false w h e = by w ∙ ap (λ (y : Bool). w && y) e
-    where
-      by : (w : Bool) → false ≡ (w && false)
-      by true = refl
-      by false = refl
-
-  reached : (r : Here') (x : Entry) → Contains (nodes_of bytes r.nest) x → is_inside r.entry x ≡ true → Reached r x
-  reached r x c h =
-      let w = element_of r.entry.what (r.holds.1 ∙ element_kind) in
-      let es = nodes_of bytes r.nest in
-      let ext = each_at (λ (y : Entry). is_inside r.entry y ≡ true → Extends r.entry.holders y) es x
-      (each_unfilter (Extends r.entry.holders) (is_inside r.entry) es (subtree_extends r.nest (first_place bytes) r.entry w.0 w.1 r.holds.0 w.2)) c h in
-      let fall = reaching_falls x (each_at OwnFalls es x (all_fall r.nest (first_place bytes)) c) in
-      let n = reaching_extends x r.entry.holders ext in
-      let is : reaching x ≡ (n.0 ++ r.near) ++ r.holder ∷ r.far = n.1 ∙ ap (λ (l : List Holder). n.0 ++ l) r.split ∙ sym (append_assoc n.0 r.near (r.holder ∷ r.far)) in
-      record {
-        near = n.0 ++ r.near;
-        is = is;
-        hit = swap (binds r.characters r.holder (reaching x)) (is_written r.characters x.what) (not (list_any (has_declaration r.characters) (tags_in (n.0 ++ r.near))))
-            (ap (binds r.characters r.holder) is ∙ binds_far (n.0 ++ r.near) r.far r.holder r.characters (suc x.index) (subst (Falls (suc x.index)) is fall) r.declares);
-      }
-
-  pub none_there : (r : Here') (at : ℕ) → NoneTo r at → NodeAt is_named (nodes_of bytes r.nest) at None → NoneTo r (at + 1)
-  none_there r at none n x c h l = elim (cases_lt x.index at) [
-    | inl lt ↦ none x c h lt
-    | inr ge ↦ unnamed r.characters r.holder x (is_named x.what) refl (λ t. n x c t (omega (arith, ge, l)))
-  ]
-    where
-      unnamed : (p : List ℕ) (u : Holder) (x : Entry) (b : Bool) → is_named x.what ≡ b → (b ≡ true → ⊥) → is_hit p u x ≡ false
-      unnamed p u x true e k = absurd (k refl)
-      unnamed p u x false e k = by (binds p u (reaching x)) (is_written p x.what) (not_written p x.what e)
-        where
-          by : (a b : Bool) → b ≡ false → (a && b) ≡ false
-          by true b e = e
-          by false b e = refl
-
-          not_written : (p : List ℕ) (what : Thing) → is_named what ≡ false → is_written p what ≡ false
-          not_written p (Thing.element t inside) e = absurd (false≢true (sym e))
-          not_written p (Thing.attribute a) e = absurd (false≢true (sym e))
-          not_written p (Thing.root first f) e = refl
-          not_written p (Thing.text xs) e = refl
-          not_written p (Thing.comment cs) e = refl
-          not_written p (Thing.instruction i) e = refl
-
-  -- what the test of a name says of each node at its record
-  abbrev Told : Here' → Node → Bool → Type 0
-  Told r name b = (x : Entry) → Identifies name.kind name.at x (nodes_of bytes r.nest) → (near far : List Holder) (u : Holder) → reaching x ≡ near ++ u ∷ far → length far ≡ level →
-      (p : List ℕ) → prefix ≡ encode_utf8_all p → b ≡ (is_written p x.what && not (list_any (has_declaration p) (tags_in near)))
-
-  told_hit : (r : Here') (name : Node) (b : Bool) → Told r name b → (x : Entry) → Contains (nodes_of bytes r.nest) x → is_inside r.entry x ≡ true → Identifies name.kind name.at x (nodes_of bytes r.nest) →
-      is_hit r.characters r.holder x ≡ b
-  told_hit r name b t x c h i = let k = reached r x c h in k.hit ∙ sym (t x i k.near r.far r.holder k.is r.many r.characters r.written)
-
-  same_node : (r : Here') (at : ℕ) (name : Node) → IsNodeAt is_named (nodes_of bytes r.nest) at name → (x : Entry) → Contains (nodes_of bytes r.nest) x → x.index ≡ at → Identifies name.kind name.at x (nodes_of bytes r.nest)
-  same_node r at name n x c e =
-      (c, one_kind r.nest (first_place bytes) x n.entry c n.there (e ∙ sym n.index) ∙ sym (ap (λ (k : Node). k.kind) n.shown), e ∙ sym n.index ∙ sym (ap (λ (k : Node). k.at) n.shown))
-
-  pub none_here : (r : Here') (at : ℕ) (name : Node) → NoneTo r at → NodeAt is_named (nodes_of bytes r.nest) at (Some name) → (b : Bool) → b ≡ false → Told r name b → NoneTo r (at + 1)
-  none_here r at name none n b e t x c h l = elim (cases_lt x.index at) [
-    | inl lt ↦ none x c h lt
-    | inr ge ↦ told_hit r name b t x c h (same_node r at name n x c (omega (arith, ge, l))) ∙ e
-  ]
-
-  pub found_here : (r : Here') (at past : ℕ) (name : Node) → node.at ≤ at → at < past → past ≡ r.entry.past → NodeAt is_named (nodes_of bytes r.nest) at (Some name) → (b : Bool) → b ≡ true → Told r name b →
-      true ≡ list_any (is_hit r.characters r.holder) (subtree r.entry.path (nodes_of bytes r.nest))
-  found_here r at past name low high is n b e t =
-      let x = n.entry in
-      let h = inside_back r x n.there (omega (arith, low, n.index)) (omega (arith, high, is, n.index)) in
-      let i = same_node r at name n x n.there n.index in
-      sym (any_filter (is_inside r.entry) (is_hit r.characters r.holder) (nodes_of bytes r.nest)
-      ∙ any_in (λ y. is_inside r.entry y && is_hit r.characters r.holder y) (nodes_of bytes r.nest) x n.there (and_from _ _ h (told_hit r name b t x n.there h i ∙ e)))
-
-  pub none_found : (r : Here') (at : ℕ) → r.entry.past ≤ at → NoneTo r at → false ≡ list_any (is_hit r.characters r.holder) (subtree r.entry.path (nodes_of bytes r.nest))
-  none_found r at l none =
-      let es = nodes_of bytes r.nest in
-      sym (any_filter (is_inside r.entry) (is_hit r.characters r.holder) es
-      ∙ any_same (λ y. is_inside r.entry y && is_hit r.characters r.holder y) (λ y. false) es
-      (λ x c. by (is_inside r.entry x) (is_hit r.characters r.holder x) (λ h. none x c h (omega (arith, l, (inside_from r x c h).1))))
-      ∙ any_false es)
-    where
-      by : (a b : Bool) → (a ≡ true → b ≡ false) → (a && b) ≡ false
-      by true b f = f refl
-      by false b f = refl
+pub extends_at : (nest : Forest) (first : ℕ) (e : Entry) (t : Tag) (inside : Forest) (x : Entry) → Contains (all nest first) e → e.what ≡ Thing.element t inside → Contains (all nest first) x → is_inside e x ≡ true → Extends e.holders x
+extends_at nest first e t inside x own w c h =
+    each_at (λ (y : Entry). is_inside e y ≡ true → Extends e.holders y) (all nest first) x (each_unfilter (Extends e.holders) (is_inside e) (all nest first) (subtree_extends nest first e t inside own w)) c h

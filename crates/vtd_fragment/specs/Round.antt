@@ -1,5 +1,5 @@
--- What private functions promise: an element of a table, an element round it, and a prefix that this one declares.
-use Rattle.std.specs.Prelude.{◌≡◌, ℕ, Bool, true, ◌&&◌, List, ◌∷◌, ◌++◌, length, encode_utf8_all}
+-- What private functions promise: an element of a table, and an element round it.
+use Rattle.std.specs.Prelude.{◌≡◌, ℕ, Bool, ◌&&◌, List, ◌∷◌, ◌++◌, length, encode_utf8_all}
 use Rattle.xml_model.specs.declared.Node.{Node}
 use Rattle.xml_model.specs.Nest.{Forest}
 use Rattle.xml_model.specs.Tree.{Entry, Holder, Identifies}
@@ -8,23 +8,8 @@ use Rattle.vtd_words.specs.Table.{IsNestOf, nodes_of}
 use Rattle.std.specs.List.{flat_map}
 use Rattle.xml_model.specs.Items.{Attribute, written_attribute}
 use Rattle.xml_model.specs.Accepted.{Accepted}
-use Rattle.xml_fragments.specs.Cut.{has_declaration, spaced}
+use Rattle.xml_fragments.specs.Cut.{spaced}
 use Rattle.xml_fragments.specs.Fragment.{binds, is_written, reaching, subtree}
-
--- the element of a node, an element round it that has this level, and a prefix that it declares, in UTF-8
-pub record Round (bytes : List ℕ) (lists : Lists) (node : Node) (level : ℕ) (prefix : List ℕ) : Type 0 where
-  pub nest : Forest
-  pub shown : IsNestOf bytes lists nest
-  pub entry : Entry
-  pub holds : Identifies node.kind node.at entry (nodes_of bytes nest)
-  pub near : List Holder
-  pub far : List Holder
-  pub holder : Holder
-  pub split : entry.holders ≡ near ++ holder ∷ far
-  pub many : length far ≡ level
-  pub characters : List ℕ
-  pub written : prefix ≡ encode_utf8_all characters
-  pub declares : has_declaration characters holder.tag ≡ true
 
 -- whether the name of a node is bound by the declaration of a prefix of an element
 abbrev pub is_hit : List ℕ → Holder → Entry → Bool

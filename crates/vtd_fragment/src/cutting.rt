@@ -36,7 +36,7 @@ pub fn cut<W: Words>(alloc: Global, nav: &Nav<'_, W>, node: Node) -> Result<Vec<
     let name_end = name_span(nav, node).end;
     let mut out = Vec::new(alloc);
     push_all(&mut out, range(bytes, span.start, name_end))?;
-    push_all_needed(&mut out, table, node)?;
+    push_all_needed(alloc, &mut out, table, node)?;
     push_all(&mut out, range(bytes, name_end, span.end))?;
     Ok(out)
 }

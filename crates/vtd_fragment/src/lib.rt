@@ -2,9 +2,10 @@
 #![tactic(auto)]
 
 mod cutting;
-mod declared;
+mod names;
 mod needed;
+mod passing;
+mod prefixes;
 mod records;
-mod used;
 
 pub use cutting::cut;

@@ -2,7 +2,7 @@ use Rattle.std.proofs.Common.{◌∙◌, sym}
 use Rattle.vtd_words.proofs.Found.{none_at, wanted_at, unwanted_at}
 use Rattle.vtd_fragment.specs.Named.{is_named}
 use Rattle.vtd_fragment.proofs.UsedLemmas.{kind_named, kind_unnamed}
-use Rattle.vtd_fragment.proofs.used.name_at.Goals as goal
+use Rattle.vtd_fragment.proofs.names.name_at.Goals as goal
 
 pub returns-in_default-clause-at : goal.returns-in_default-clause-at
 returns-in_default-clause-at g c = λ nest s. none_at is_named _ c.args.at (sym c.in_default.is ∙ c.node_from.ensures.node nest s)
