@@ -9,7 +9,7 @@ use Rattle.std.proofs.lemmas.Slice.Eq.{bytes_eq-Decides}
 use denote.Ref.{Bor}
 use Rattle.xml_model.specs.Chars.{size}
 use Rattle.xml_model.specs.Items.{Attribute, Tag, written_attribute}
-use Rattle.xml_model.specs.Records.{Record}
+use Rattle.xml_model.specs.Records.{Record, declares}
 use Rattle.xml_model.specs.Scan.{record_at}
 use Rattle.xml_model.specs.Names.{declaring}
 use Rattle.vtd_words.specs.declared.packing.Parts.{Parts}
@@ -18,7 +18,7 @@ use Rattle.vtd_text.specs.Joined.{slice_of}
 use Rattle.vtd_text.specs.NameRecords.{is_attribute_name}
 use Rattle.vtd_namespaces.specs.NameRecords.{AreAttributeRecords}
 use Rattle.vtd_namespaces.specs.Repeats.{HasNoAttribute}
-use Rattle.vtd_namespaces.proofs.DeclarationLemmas.{default_encoded, declares_prefix, other_length, empty_encoded}
+use Rattle.vtd_namespaces.proofs.DeclarationLemmas.{default_encoded, declares_prefix, other_length, empty_encoded, no_declaration, token_two}
 use Rattle.vtd_namespaces.proofs.RepeatLemmas.{eq_encoded, no_attribute_there, index_more}
 use Rattle.xml_fragments.specs.Cut.{has_declaration}
 use Rattle.vtd_fragment.specs.Prefixes.{known, raised}
@@ -146,3 +146,42 @@ max_twice h n = omega arith
 pub raised_twice : (past : ℕ) (o : Option Declared) → option_map (raised past) (option_map (raised past) o) ≡ option_map (raised past) o
 raised_twice past None = refl
 raised_twice past (Some d) = ap (λ (h : ℕ). Some (record { level = d.level; hidden = h; is_used = d.is_used })) (max_twice d.hidden past)
+
+-- ---- a tag without declarations
+
+-- so many names are passed, and none declares a prefix
+pub record Plain (bytes : List ℕ) (rs : List Record) (first n : ℕ) (t : Tag) : Type 0 where
+  pub before : List Attribute
+  pub left : List Attribute
+  pub split : t.attributes ≡ before ++ left
+  pub place : ℕ
+  pub hold : AreAttributeRecords bytes rs (first + 2 * n) place left
+  pub none : (p : List ℕ) → list_any (named p) before ≡ false
+
+pub none_plain : (bytes : List ℕ) (rs : List Record) (first at : ℕ) (t : Tag) → AreAttributeRecords bytes rs first at t.attributes → Plain bytes rs first 0 t
+none_plain bytes rs first at t s =
+    let zero : first ≡ first + 2 * 0 = omega arith in
+    record { before = []; left = t.attributes; split = refl; place = at; hold = subst (λ k. AreAttributeRecords bytes rs k at t.attributes) zero s; none = λ p. refl }
+
+pub next_plain : (bytes : List ℕ) (rs : List Record) (first n : ℕ) (t : Tag) (p : Parts) → Plain bytes rs first n t → record_of p ≡ record_at (first + 2 * n) rs → is_attribute_name p.token ≡ true → (p.token ≡ 3 → ⊥) → Plain bytes rs first (n + 1) t
+next_plain bytes rs first n t p s here kind other = by s.left s.split s.hold
+  where
+    by : (left : List Attribute) → t.attributes ≡ s.before ++ left → AreAttributeRecords bytes rs (first + 2 * n) s.place left → Plain bytes rs first (n + 1) t
+    by [] e h = absurd (false≢true (sym h ∙ ap (λ r. is_attribute_name r.token) (sym here) ∙ kind))
+    by (a ∷ left) e h =
+        let silent = token_two (declares a.name) (λ z. other (ap (λ r. r.token) here ∙ h.0.token ∙ z)) in
+        record {
+          before = s.before ++ a ∷ [];
+          left = left;
+          split = e ∙ sym (append_assoc s.before (a ∷ []) left);
+          place = s.place + size (written_attribute a);
+          hold = subst (λ k. AreAttributeRecords bytes rs k (s.place + size (written_attribute a)) left) (index_more first n) h.1;
+          none = λ q. list_any-append (named q) s.before (a ∷ []) ∙ ap₂ (λ (b c : Bool). b || (c || false)) (s.none q) (no_declaration a.name q silent);
+        }
+
+pub all_plain : (bytes : List ℕ) (rs : List Record) (first n : ℕ) (t : Tag) → Plain bytes rs first n t → HasNoAttribute rs (first + 2 * n) → (p : List ℕ) → has_declaration p t ≡ false
+all_plain bytes rs first n t s none p = by s.left s.split s.hold
+  where
+    by : (left : List Attribute) → t.attributes ≡ s.before ++ left → AreAttributeRecords bytes rs (first + 2 * n) s.place left → has_declaration p t ≡ false
+    by [] e h = declared_any p t.attributes ∙ ap (list_any (named p)) (e ∙ append-nil s.before) ∙ s.none p
+    by (a ∷ left) e h = absurd (no_attribute_there bytes rs (first + 2 * n) _ a h.0 none)

@@ -1,6 +1,6 @@
 -- What private functions promise: what is known of the prefixes that the elements round an element declare.
 use Rattle.std.specs.Prelude.{◌≡◌, ℕ, ◌+◌, ◌<◌, ◌≤◌, ◌⊎◌, ◌==◌, Bool, true, false, ◌&&◌, ◌||◌, nat_le, List, ◌∷◌, ◌++◌}
-use Rattle.std.specs.Prelude.{length, encode_utf8_all, bytes_eq, max, Option, Some, None, Contains, MatchOption}
+use Rattle.std.specs.Prelude.{length, encode_utf8_all, bytes_eq, max, Option, Some, None, Contains, MatchOption, cond, option_map}
 use Rattle.std.specs.Prelude.{is_some}
 use Rattle.std.specs.List.{list_any}
 use Rattle.std.specs.BTreeMap.{BTreeMap, get_by}
@@ -88,7 +88,8 @@ abbrev pub AreFound : BTreeMap (Bor (List ℕ)) Declared → List ℕ → Forest
 AreFound m bytes nest e = ArePassed m (nodes_of bytes nest) e e.past e.past
 
 -- a name is passed
-abbrev pub PassesName : List ℕ → Lists → Node → BTreeMap (Bor (List ℕ)) Declared → BTreeMap (Bor (List ℕ)) Declared → Type 0
+abbrev pub PassesName : List ℕ → Lists → Node → BTreeMap (Bor (List ℕ)) Declared → BTreeMap (Bor (List ℕ)) Declared →
+    Type 0
 PassesName bytes lists name old new = ForEachEntry bytes lists name (λ nest x.
     (e : Entry) → Contains (nodes_of bytes nest) e → kind_of e.what ≡ kinds.Element →
     is_some (steps e.path x.path) ≡ true → ArePassed old (nodes_of bytes nest) e name.at name.at →
@@ -98,3 +99,11 @@ PassesName bytes lists name old new = ForEachEntry bytes lists name (λ nest x.
 abbrev pub is_bound_at : ℕ → Option Declared → Bool
 is_bound_at level None = false
 is_bound_at level (Some d) = (d.level == level) && d.is_used
+
+-- the prefixes that an element's tag declares are noted as declared again in the element
+abbrev pub HidesIn : List ℕ → Lists → Node → BTreeMap (Bor (List ℕ)) Declared → BTreeMap (Bor (List ℕ)) Declared →
+    Type 0
+HidesIn bytes lists name old new = ForEachEntry bytes lists name (λ nest x.
+    (t : Tag) (inside : Forest) → x.what ≡ Thing.element t inside → (p : List ℕ) →
+    known new (encode_utf8_all p) ≡ cond (has_declaration p t) (option_map (raised x.past) (known old (encode_utf8_all p)))
+    (known old (encode_utf8_all p)))

@@ -17,11 +17,12 @@ use xml_model::{NoMemory, Node};
 /// An element as a document of its own: the bytes of its span with, directly after the name in its first tag, a space
 /// and each declaration of an element round it that a name of it or in it is bound by (Namespaces in XML 1.0, section
 /// 6), those of the outermost element first. The new bytes are an accepted document of at most the old length, whose
-/// root element has the same kinds, names and contents, in the same order. It goes over the records up to the element,
-/// and once over those of the element for each declaration of an element round it, up to the first name that it binds.
+/// root element has the same kinds, names and contents, in the same order. It goes once over the records up to the
+/// element's end, and once more over those of each element in it that declares a prefix; what it knows of the prefixes
+/// round the element is in a map, which it asks once or twice for each name and each declaration.
 ///
 /// # Errors
-/// `NoMemory` where the memory for the new bytes was not to be had.
+/// `NoMemory` where the memory for the new bytes, or for what is known of the prefixes, was not to be had.
 pub fn cut<W: Words>(alloc: Global, nav: &Nav<'_, W>, node: Node) -> Result<Vec<u8>, NoMemory>
     requires node { IsNodeOf nav.now.bytes (W.lists nav.now.words) node }
     requires element { node.kind ≡ kinds.Element }

@@ -1,17 +1,15 @@
 //! The declarations of the elements round an element that it needs.
 
-ghost use Rattle.std.specs.Prelude.{◌≡◌, ℕ, ◌+◌, ◌*◌, ◌<◌, ◌≤◌, ◌^◌, ◌++◌, ◌∷◌, cond, [], List, filter, length, take};
-ghost use Rattle.std.specs.Prelude.{drop, encode_utf8_all, OnOk};
-ghost use Rattle.std.specs.List.{flat_map};
+ghost use Rattle.std.specs.Prelude.{◌≡◌, ◌+◌, ◌*◌, ◌<◌, ◌≤◌, ◌^◌, ◌++◌, ◌∷◌, [], List, filter, length, take, drop, OnOk};
 ghost use Rattle.xml_model.specs.Items.{Attribute};
 ghost use Rattle.xml_model.specs.Accepted.{Accepted};
 ghost use Rattle.xml_model.specs.declared.Kind.TheVariants as kinds;
+ghost use Rattle.xml_model.specs.declared.Node.{Node};
 ghost use Rattle.vtd_words.specs.Lists.{list_of};
 ghost use Rattle.vtd_words.specs.Table.{ArePartsAt, ForEachEntry, IsNodeOf, nodes_of};
 ghost use Rattle.xml_fragments.specs.Fragment.{needed_of, needs, subtree};
 ghost use Rattle.vtd_fragment.specs.Prefixes.{AreFound, is_bound_at, known};
 ghost use Rattle.vtd_fragment.specs.Round.{AtLevel, nodes_in, inserted};
-ghost use Rattle.xml_model.specs.declared.Node.{Node};
 
 use crate::names::open_before;
 use crate::passing::{note_all, pass_names};
@@ -131,7 +129,8 @@ fn push_needed<W: Words>(
     requires room { tag < length (list_of Part.Records (W.lists table.now.words)) }
     ensures { OnOk result ((node : Node) → node.kind ≡ kinds.Element →
         (r : AtLevel table.now.bytes (W.lists table.now.words) node level) →
-        AreFound prefixes.now table.now.bytes r.nest r.entry → tag ≡ r.holder.index → out.new.items ≡ out.old.items ++ inserted
+        AreFound prefixes.now table.now.bytes r.nest r.entry → tag ≡ r.holder.index →
+        out.new.items ≡ out.old.items ++ inserted
         (filter (needs (nodes_in r.nest r.entry table.now.bytes) r.holder) r.holder.tag.attributes)) }
 {
     let words = table.words();

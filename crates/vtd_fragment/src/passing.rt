@@ -1,17 +1,16 @@
 //! Which declarations round an element bind names of it or in it (Namespaces in XML 1.0, section 6), by one pass over
 //! its records.
 
-ghost use Rattle.std.specs.Prelude.{◌≡◌, ℕ, ◌+◌, ◌<◌, true, List, length, IfOk, IfSome, OnOk};
+ghost use Rattle.std.specs.Prelude.{◌≡◌, ◌+◌, true, List, IfOk, OnOk};
 ghost use Rattle.xml_model.specs.Records.{Record};
 ghost use Rattle.vtd_words.specs.Lists.{list_of};
-ghost use Rattle.vtd_words.specs.Table.{ArePartsAt, ForEachEntry, ForEachNest, IsNodeOf, Shows, nodes_of};
-ghost use Rattle.vtd_words.specs.Found.{NodeAt};
+ghost use Rattle.vtd_words.specs.Table.{ForEachEntry, IsNodeOf, Shows};
 ghost use Rattle.vtd_namespaces.specs.OpenTags.{open_before};
-ghost use Rattle.vtd_fragment.specs.Named.{is_named, is_named_kind};
-ghost use Rattle.vtd_fragment.specs.Prefixes.{AreFound, AreNoted, PassesName};
+ghost use Rattle.vtd_fragment.specs.Named.{is_named_kind};
+ghost use Rattle.vtd_fragment.specs.Prefixes.{AreFound, AreNoted, HidesIn, PassesName};
 
 use crate::names::name_at;
-use crate::prefixes::{Prefixes, hide, mark, note};
+use crate::prefixes::{Prefixes, declares_some, hide, mark, note};
 use std::alloc::Global;
 use std::collections::BTreeMap;
 use vtd_namespaces::{OpenTags, prefix_of};
@@ -43,6 +42,26 @@ pub fn note_all<'a, W: Words>(
     Ok(prefixes)
 }
 
+/// Notes that the prefixes that an element's tag declares are declared again in the element. Where it declares one, this
+/// goes once over the element's records.
+fn hide_in<'a, W: Words>(
+    prefixes: &mut Prefixes<'a>,
+    table: &Table<'a, W>,
+    name: Node,
+) -> Result<(), NoMemory>
+    requires node { IsNodeOf table.now.bytes (W.lists table.now.words) name }
+    requires element { name.kind ≡ Kind.Element }
+    ensures { OnOk result (HidesIn table.now.bytes (W.lists table.now.words) name prefixes.old prefixes.new) }
+{
+    let words = table.words();
+    if !declares_some(words, name.at) {
+        return Ok(());
+    }
+    let past = table.end_of(name);
+    hide(prefixes, table.bytes(), words, name.at, past)?;
+    Ok(())
+}
+
 /// Passes over an element's tag and its name.
 fn pass_element<'a, W: Words>(
     prefixes: &mut Prefixes<'a>,
@@ -53,9 +72,7 @@ fn pass_element<'a, W: Words>(
     requires element { name.kind ≡ Kind.Element }
     ensures { OnOk result (PassesName table.now.bytes (W.lists table.now.words) name prefixes.old prefixes.new) }
 {
-    let words = table.words();
-    let past = table.end_of(name);
-    hide(prefixes, table.bytes(), words, name.at, past)?;
+    hide_in(prefixes, table, name)?;
     mark(prefixes, prefix_of(table, name), name.at)?;
     Ok(())
 }
@@ -94,8 +111,8 @@ fn pass_name<'a, W: Words>(
     }
 }
 
-/// Passes over the names of an element and in it. It goes once over their records, and for each element among them once
-/// more over its own.
+/// Passes over the names of an element and in it. It goes once over their records, and once more over those of each
+/// element among them that declares a prefix.
 pub fn pass_names<'a, W: Words>(
     prefixes: &mut Prefixes<'a>,
     table: &Table<'a, W>,

@@ -1,12 +1,12 @@
 //! The prefixes that the elements round an element declare (Namespaces in XML 1.0, sections 3 and 6).
 
-ghost use Rattle.std.specs.Prelude.{◌≡◌, ℕ, ◌+◌, ◌<◌, ◌≤◌, ◌^◌, cond, List, length, bytes_eq, encode_utf8_all, OnOk, Some};
-ghost use Rattle.std.specs.Prelude.{option_map};
+ghost use Rattle.std.specs.Prelude.{◌≡◌, ℕ, ◌+◌, ◌<◌, cond, false, List, length, bytes_eq, encode_utf8_all, OnOk};
+ghost use Rattle.std.specs.Prelude.{Some, option_map};
 ghost use Rattle.xml_model.specs.Items.{Tag};
 ghost use Rattle.xml_model.specs.Names.{declaring};
 ghost use Rattle.xml_model.specs.Records.{Record};
 ghost use Rattle.vtd_words.specs.Lists.{list_of};
-ghost use Rattle.vtd_words.specs.Table.{IsNodeOf, ForEachEntry, Shows};
+ghost use Rattle.vtd_words.specs.Table.{Shows};
 ghost use Rattle.vtd_namespaces.specs.NameRecords.{AreAttributeRecords};
 ghost use Rattle.xml_fragments.specs.Cut.{has_declaration};
 ghost use Rattle.vtd_fragment.specs.Prefixes.{IsDeclared, fresh, known, marked, raised};
@@ -14,7 +14,7 @@ ghost use Rattle.vtd_fragment.specs.Prefixes.{IsDeclared, fresh, known, marked, 
 use crate::records::{attribute_at, slice_of};
 use std::collections::BTreeMap;
 use vtd_words::{Part, Words};
-use xml_model::NoMemory;
+use xml_model::{NoMemory, TokenKind};
 
 /// The name that declares the default namespace.
 const DEFAULT: &[u8] = b"xmlns";
@@ -174,6 +174,26 @@ pub fn hide<'a, W: Words>(
         number += 1;
     }
     Ok(())
+}
+
+/// Whether a tag declares a prefix at all.
+pub fn declares_some<W: Words>(words: &W, tag: u32) -> bool
+    requires room { tag < length (list_of Part.Records (W.lists words.now)) }
+    ensures { result ≡ false → (rs : List Record) → Shows (list_of Part.Records (W.lists words.now)) rs →
+        (bytes : List ℕ) (at : ℕ) (t : Tag) → AreAttributeRecords bytes rs (tag + 1) at t.attributes →
+        (p : List ℕ) → has_declaration p t ≡ false }
+{
+    let records = words.len(Part::Records);
+    prove!(tag < records);
+    let first = tag + 1;
+    let mut number = 0;
+    while let Some(parts) = attribute_at(words, first + 2 * number) {
+        if parts.token == TokenKind::NamespaceName as u8 {
+            return true;
+        }
+        number += 1;
+    }
+    false
 }
 
 /// Marks the prefix of a name at a record as used, unless it is declared again there.
