@@ -98,7 +98,7 @@ bare_colon : is_qname (codes "xmlns:") ≡ false
 unfolding is_qname is_ncname is_name is_name_start is_name_char in_ranges
 bare_colon = refl
 
-declared_name : (n : List ℕ) → declares n ≡ true → is_qname n ≡ true → n ≡ declaring (after_colon n)
+pub declared_name : (n : List ℕ) → declares n ≡ true → is_qname n ≡ true → n ≡ declaring (after_colon n)
 unfolding declares
 declared_name n d q = elim (or_cases (bytes_eq n (codes "xmlns")) (begins (codes "xmlns:") n) d) [
   | inl t ↦ let e = (bytes_eq-Decides n (codes "xmlns")).0 t in e ∙ ap (λ (m : List ℕ). declaring (after_colon m)) (sym e)
@@ -109,7 +109,7 @@ declared_name n d q = elim (or_cases (bytes_eq n (codes "xmlns")) (begins (codes
     behind n [] e q = absurd (false≢true (sym bare_colon ∙ sym (ap is_qname e) ∙ q))
     behind n (c ∷ rest) e q = e ∙ ap (λ (m : List ℕ). declaring (after_colon m)) (sym e)
 
-sound_name : (d q x : Bool) → d ≡ true → (not d || not (not q || x)) ≡ true → q ≡ true
+pub sound_name : (d q x : Bool) → d ≡ true → (not d || not (not q || x)) ≡ true → q ≡ true
 sound_name true true x e s = refl
 sound_name true false x e s = s
 sound_name false q x e s = absurd (false≢true e)

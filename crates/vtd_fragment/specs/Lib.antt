@@ -1,0 +1,4 @@
+pub mod Named
+pub mod Round
+pub mod Document
+pub mod Prefixes
