@@ -3,7 +3,7 @@ use Rattle.std.proofs.Common.{◌≡◌, ℕ, suc, ◌+◌, Bool, true, false, c
 use Rattle.std.specs.List.{AllByRecursion as Each}
 use Rattle.std.specs.Prelude.{Contains}
 use Rattle.std.proofs.lemmas.List.Elements.{All-contains, All-from_recursion}
-use Rattle.xml_model.specs.Items.{Attribute, Leaf, text, cdata, declaration, doctype, Tag, written_attribute}
+use Rattle.xml_model.specs.Items.{Attribute, Leaf, text, cdata, declaration, doctype, written_attribute}
 use Rattle.xml_model.specs.Chars.{size}
 use Rattle.xml_model.specs.Nest.{Forest, done, single, empty, element}
 use Rattle.xml_model.specs.Records.{declares, attributes_place, past_empty, past_element, run_records}
@@ -57,9 +57,11 @@ nodes_end (element t inside space f) h =
     let i = inside_of h t in
     each_append Ends
     (map (under (Step.child h.number)) (element_entry h t inside stop ∷ tag_attributes h t ++ nodes i inside)) (nodes b f)
-    (each_map Ends (under (Step.child h.number)) (element_entry h t inside stop ∷ tag_attributes h t ++ nodes i inside)
-    (tt, each_append Ends (tag_attributes h t) (nodes i inside)
-    (attributes_end (held h t) (attributes_place h.at t) (suc h.index) 0 t.attributes) (nodes_end inside i)))
+    (each_map Ends (under (Step.child h.number)) (element_entry h t inside stop ∷ tag_attributes h t ++ nodes i inside) (
+      tt,
+      each_append Ends (tag_attributes h t) (nodes i inside)
+          (attributes_end (held h t) (attributes_place h.at t) (suc h.index) 0 t.attributes) (nodes_end inside i),
+    ))
     (nodes_end f b)
 
 all_end : (nest : Forest) (first : ℕ) → Each Ends (all nest first)

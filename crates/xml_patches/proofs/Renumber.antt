@@ -228,9 +228,9 @@ child_renumbered k from to before xs ys zs r hx hy (inl l) =
     let c = drop-append-le (suc r) before (xs ++ zs) some in
     let n : suc r + length (drop (suc r) before) ≡ a = let h = length-drop (suc r) before in omega (arith, h, some) in (
       ap (λ (q : ℕ). child_from k (suc q) (drop (suc q) (before ++ (ys ++ map (moved from to) zs)))) e ∙ ap (child_from k (suc r)) d
-      ∙ child_below k a from to (suc r) (drop (suc r) before) xs ys zs hx hy n ∙ ap (λ (ts : List Record). option_map f (child_from k (suc r) ts)) (sym c),
+          ∙ child_below k a from to (suc r) (drop (suc r) before) xs ys zs hx hy n ∙ ap (λ (ts : List Record). option_map f (child_from k (suc r) ts)) (sym c),
       subst (λ (ts : List Record). IfSome (child_from k (suc r) ts) (Kept a (length xs))) (sym c)
-      (child_kept_below k a (suc r) (drop (suc r) before) xs zs hx n),
+          (child_kept_below k a (suc r) (drop (suc r) before) xs zs hx n),
     )
 child_renumbered k from to before xs ys zs r hx hy (inr l) =
     let a = length before in
@@ -247,7 +247,7 @@ child_renumbered k from to before xs ys zs r hx hy (inr l) =
     let c : drop (suc r) (before ++ (xs ++ zs)) ≡ drop m zs = ap (drop (suc r)) (sym (append_assoc before xs zs))
     ∙ drop_past (before ++ xs) zs m (suc r) (omega (arith, l, p)) in (
       ap (child_from k (suc (f r))) d ∙ child_above k a x y (suc r) (suc (f r)) from to (drop m zs) (omega (arith, l)) (omega (arith, h))
-      ∙ ap (λ (ts : List Record). option_map f (child_from k (suc r) ts)) (sym c),
+          ∙ ap (λ (ts : List Record). option_map f (child_from k (suc r) ts)) (sym c),
       subst (λ (ts : List Record). IfSome (child_from k (suc r) ts) (Kept a x)) (sym c) (child_kept_above k a x (suc r) (drop m zs) (omega (arith, l))),
     )
 
@@ -275,7 +275,7 @@ level_renumbered k from to before xs ys zs hx hy =
     let new = before ++ (ys ++ map (moved from to) zs) in
     ap (map {B = ℕ × ℕ} (λ (r : ℕ). (r, child_position k new r))) (tags_renumbered k from to before xs ys zs hx hy)
     ∙ entries a x y (child_position k new) (child_position k old) (tags_from k 0 old) (tags_kept k before xs zs hx) (λ r kept.
-      let c = child_renumbered k from to before xs ys zs r hx hy kept in
-      ap₂ (λ (l : List ℕ) (o : Option ℕ). unwrap_or (option_and_then (λ j. position (λ m. m == j) l) o) no_child)
-      (tags_renumbered (suc k) from to before xs ys zs hx hy) c.0
-      ∙ position_of a x y (tags_from (suc k) 0 old) (child_from k (suc r) (drop (suc r) old)) (tags_kept (suc k) before xs zs hx) c.1)
+    let c = child_renumbered k from to before xs ys zs r hx hy kept in
+    ap₂ (λ (l : List ℕ) (o : Option ℕ). unwrap_or (option_and_then (λ j. position (λ m. m == j) l) o) no_child)
+    (tags_renumbered (suc k) from to before xs ys zs hx hy) c.0
+    ∙ position_of a x y (tags_from (suc k) 0 old) (child_from k (suc r) (drop (suc r) old)) (tags_kept (suc k) before xs zs hx) c.1)

@@ -1,5 +1,5 @@
 -- The bytes and the nest of a document in which a text is set.
-use Rattle.std.proofs.Common.{◌≡◌, ℕ, Bool, true, false, List, [], ◌∷◌, ◌++◌, map, take, drop, refl, sym, ap, ap₂, subst, ◌∙◌, append-nil}
+use Rattle.std.proofs.Common.{◌≡◌, ℕ, true, false, List, [], ◌∷◌, ◌++◌, map, take, drop, refl, sym, ap, ap₂, subst, ◌∙◌, append-nil}
 use Rattle.std.specs.List.{list_all}
 use lib.Utf8.{encodes}
 use Rattle.xml_model.specs.Chars.{is_char, begins}
@@ -48,6 +48,8 @@ text_patched k bytes c xs cs a held texts e b chars =
     (place_in (first_place bytes) c) bytes ++
     (encodes (written_pieces (map in_text cs)) ++ drop (past_forest (place_in (first_place bytes) c) (leaves xs)) bytes) =
     ap (λ (n : ℕ). take (place_in n c) bytes ++ (encodes (written_pieces (map in_text cs)) ++ drop (past_forest (place_in n c) (leaves xs)) bytes))
-    (sym first) in
-    (subst (λ (l : List ℕ). Accepted k l (plug c (leaves (set_text cs)))) (e2 ∙ e3) new, ap first_place (sym (e2 ∙ e3))
-    ∙ first_place_of m (plug c (leaves (set_text cs))) fits.nests fits.meets_all ∙ sym first)
+    (sym first) in (
+      subst (λ (l : List ℕ). Accepted k l (plug c (leaves (set_text cs)))) (e2 ∙ e3) new,
+      ap first_place (sym (e2 ∙ e3))
+          ∙ first_place_of m (plug c (leaves (set_text cs))) fits.nests fits.meets_all ∙ sym first,
+    )

@@ -1,5 +1,5 @@
 -- A text node of an accepted document is set.
-use Rattle.std.proofs.Common.{◌≡◌, ℕ, suc, ◌+◌, ◌≤◌, Bool, true, false, inl, inr, List, [], ◌∷◌, ◌++◌, map, length, take, drop, refl, sym, ap, ap₂, subst}
+use Rattle.std.proofs.Common.{◌≡◌, ℕ, suc, ◌+◌, ◌≤◌, Bool, true, false, inl, inr, List, [], ◌∷◌, ◌++◌, map, length, refl, sym, ap, ap₂, subst}
 use Rattle.std.proofs.Common.{◌∙◌, arith, one-add}
 use Rattle.std.specs.Prelude.{Contains}
 use Rattle.std.specs.List.{list_all, AllByRecursion as Each}
@@ -15,7 +15,7 @@ use Rattle.xml_nests.specs.Moved.{moved}
 use Rattle.xml_nests.specs.Context.{Context, before, past_single, past_tag, past_whole, within, plug, leaves, items_before, level_in, place_in}
 use Rattle.xml_nests.specs.Context.{records_before, records_after, is_held}
 use Rattle.xml_patches.specs.Edited.{set_text}
-use Rattle.xml_nests.specs.Stand.{TextStand, NodeStands, StandsBy, ends_in_run, is_run_item}
+use Rattle.xml_nests.specs.Stand.{TextStand, StandsBy, ends_in_run, is_run_item}
 use Rattle.xml_patches.specs.Patched.{text_bytes, exchanged, TextPatched}
 use Rattle.xml_nests.proofs.Around.{records_plug, after_moved}
 use Rattle.xml_patches.proofs.TextBytes.{text_patched}

@@ -1,5 +1,5 @@
 -- A text that is set: what has to be tested of it.
-use Rattle.std.proofs.Common.{◌≡◌, ℕ, zero, suc, Bool, true, false, List, [], ◌∷◌, ◌++◌, map, None, refl, sym, ap, ◌∙◌, append-nil}
+use Rattle.std.proofs.Common.{◌≡◌, ℕ, zero, suc, true, false, List, [], ◌∷◌, ◌++◌, map, None, refl, sym, ap, ◌∙◌, append-nil}
 use Rattle.std.specs.List.{list_all}
 use Rattle.std.proofs.lemmas.Bool.{and_from, false≢true}
 use Rattle.xml_model.specs.Chars.{size, is_char}
@@ -68,7 +68,7 @@ text_suits k c xs [] held texts f e b chars =
       content = λ m. texts_content xs m texts ∙ sym (texts_content [] m refl);
       meets_all = refl;
       apart = ap texts_apart (flat_plug c (leaves []))
-      ∙ apart_join (items_before c) (items_after c) (apart_left (items_before c) (flat (leaves xs) ++ items_after c) old) r e;
+          ∙ apart_join (items_before c) (items_after c) (apart_left (items_before c) (flat (leaves xs) ++ items_after c) old) r e;
       entities = refl;
       encoding = refl;
       widths = refl;
@@ -84,8 +84,8 @@ text_suits k c xs (d ∷ cs) held texts f e b chars =
       content = λ m. texts_content xs m texts ∙ sym (texts_content (text ps ∷ []) m refl);
       meets_all = and_from _ _ (set_text_meets d cs ∙ chars) refl;
       apart = ap texts_apart (flat_plug c (leaves (text ps ∷ [])))
-        ∙ apart_join (items_before c) (leaf (text ps) ∷ items_after c) (apart_left (items_before c) (flat (leaves xs) ++ items_after c) old)
-        (before_others (items_after c) ps r b) e;
+          ∙ apart_join (items_before c) (leaf (text ps) ∷ items_after c) (apart_left (items_before c) (flat (leaves xs) ++ items_after c) old)
+          (before_others (items_after c) ps r b) e;
       entities = and_from _ _ (set_text_resolved (d ∷ cs)) refl;
       encoding = refl;
       widths = narrow (level_in 0 c) ps;

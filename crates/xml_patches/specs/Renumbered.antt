@@ -1,5 +1,5 @@
 -- Indexes of records, where some records were exchanged for others.
-use Rattle.std.specs.Prelude.{ℕ, ◌+◌, ◌-◌, Bool, cond, not, List, map, nat_lt}
+use Rattle.std.specs.Prelude.{ℕ, ◌+◌, ◌-◌, Bool, cond, not, List, nat_lt}
 use Rattle.std.specs.List.{list_all}
 use Rattle.xml_model.specs.Records.{Record}
 use Rattle.xml_model.specs.Levels.{is_tag}
