@@ -121,7 +121,8 @@ child_below k a from to n (z ∷ before) xs ys zs hx hy e =
 
 -- ---- indexes that stay apart
 
-abbrev Kept : ℕ → ℕ → ℕ → Type 0
+-- an index before or after exchanged records
+abbrev pub Kept : ℕ → ℕ → ℕ → Type 0
 Kept a x n = (n < a) ⊎ (a + x ≤ n)
 
 same_test : (n m p q : ℕ) → (n ≡ m → p ≡ q) → (p ≡ q → n ≡ m) → (p == q) ≡ (n == m)
@@ -170,7 +171,8 @@ kept_above k a x n [] l = tt
 kept_above k a x n (z ∷ zs) l = each_append (Kept a x) (if_tag_of k n z) (tags_from k (suc n) zs) (tag_kept (Kept a x) (is_tag z && z.depth == k) n (inr l))
     (kept_above k a x (suc n) zs (omega (arith, l)))
 
-tags_kept : (k : ℕ) (before xs zs : List Record) → is_tagless xs ≡ true → Each (Kept (length before) (length xs)) (tags_from k 0 (before ++ (xs ++ zs)))
+-- so are those of the starting tags
+pub tags_kept : (k : ℕ) (before xs zs : List Record) → is_tagless xs ≡ true → Each (Kept (length before) (length xs)) (tags_from k 0 (before ++ (xs ++ zs)))
 tags_kept k before xs zs hx =
     let a = length before in
     let x = length xs in
