@@ -1,17 +1,15 @@
 -- The splice that sets a text node or an attribute.
-use Rattle.std.proofs.Common.{◌≡◌, ◌⊎◌, inl, inr, ℕ, zero, suc, ◌-◌, ◌<◌, ◌≤◌, List, [], ◌∷◌, length, refl, sym, ap, ap₂, subst, ◌∙◌, arith}
+use Rattle.std.proofs.Common.{◌≡◌, ◌⊎◌, inl, inr, ℕ, zero, suc, ◌-◌, ◌<◌, List, [], ◌∷◌, length, refl, sym, ap, ap₂, subst, ◌∙◌, arith}
 use Rattle.std.proofs.Common.{Result, Ok, Err, Option, Some, None}
 use Rattle.std.specs.List.{All, slice_index_or}
 use Rattle.std.proofs.lemmas.List.Elements.{All-head}
-use Rattle.xml_model.specs.declared.Kind.{Kind}
 use Rattle.xml_model.specs.declared.Kind.TheVariants as kinds
 use Rattle.xml_model.specs.declared.Node.{Node}
-use Rattle.xml_model.specs.Nest.{Forest}
-use Rattle.xml_model.specs.Tree.{Entry, Thing, Identifies, kind_of}
+use Rattle.xml_model.specs.Tree.{Entry, Thing, kind_of}
 use Rattle.vtd_edits.specs.declared.splice.Splice.{Splice}
-use Rattle.vtd_edits.specs.declared.splice.Splice.TheVariants.{Replace, Insert}
+use Rattle.vtd_edits.specs.declared.splice.Splice.TheVariants.{Replace}
 use Rattle.vtd_words.specs.Lists.{Lists}
-use Rattle.vtd_words.specs.Table.{IsNestOf, IsNodeOf, ForEachEntry, nodes_of}
+use Rattle.vtd_words.specs.Table.{IsNodeOf, ForEachEntry, nodes_of}
 use Rattle.vtd_modifier.specs.declared.operation.EditFault.{EditFault}
 use Rattle.vtd_modifier.specs.Rows.{one, set_to}
 use Rattle.vtd_modifier.specs.Parts.{part_of, parts_of}
@@ -103,9 +101,11 @@ pub one_made : (bytes text : List ℕ) (lists : Lists) (node : Node) (nodes : Li
     ForEachEntry bytes lists node (λ nest e. (set : SetBy bytes text e) × (splices ≡ Replace set.start set.end set.put ∷ []))
 one_made bytes text lists node nodes answer splices one k h same nest shown e i =
     let set = set_by bytes text e (kind_is node e k i.1) in
-    let made : answer (e ∷ []) ≡ Ok (Replace set.start set.end set.put ∷ []) = same e ∙ made_by bytes text e set in
-    (set, oks_same splices (Replace set.start set.end set.put ∷ [])
-    (sym (one_denoted bytes lists node nodes (λ es. answer es ≡ Ok splices) one h nest shown e i) ∙ made))
+    let made : answer (e ∷ []) ≡ Ok (Replace set.start set.end set.put ∷ []) = same e ∙ made_by bytes text e set in (
+      set,
+      oks_same splices (Replace set.start set.end set.put ∷ [])
+          (sym (one_denoted bytes lists node nodes (λ es. answer es ≡ Ok splices) one h nest shown e i) ∙ made),
+    )
   where
     oks_same : (xs ys : List Splice) → ◌≡◌ {A = Result (List Splice) EditFault} (Ok xs) (Ok ys) → xs ≡ ys
     oks_same xs ys e = cc

@@ -1,5 +1,5 @@
 -- Words that are moved are those of records that are moved, and entries of levels that are renumbered those of their indexes.
-use Rattle.std.proofs.Common.{◌≡◌, ℕ, zero, suc, ◌+◌, ◌-◌, ◌*◌, ◌<◌, ◌≤◌, ◌^◌, Bool, true, false, cond, ◌⊎◌, inl, inr, List, [], ◌∷◌, map, length}
+use Rattle.std.proofs.Common.{◌≡◌, ℕ, zero, suc, ◌+◌, ◌-◌, ◌*◌, ◌<◌, ◌≤◌, ◌^◌, Bool, true, false, cond, inl, inr, List, [], ◌∷◌, map, length}
 use Rattle.std.proofs.Common.{refl, sym, ap, ap₂, ◌∙◌, arith, nat_lt, ◌&&◌, ◌==◌}
 use Rattle.std.specs.Prelude.{nat_le, ℤ, pos, negsuc}
 use Rattle.std.specs.List.{AllByRecursion as Each}

@@ -1,16 +1,13 @@
 -- The bytes that one splice makes, and the splice that sets a node.
-use Rattle.std.proofs.Common.{◌≡◌, ◌⊎◌, inl, inr, ℕ, ◌+◌, ◌-◌, ◌≤◌, true, false, List, [], ◌∷◌, ◌++◌, length, take, drop, refl, sym, ap, ap₂, subst, ◌∙◌}
-use Rattle.std.proofs.Common.{arith, append-nil, Some, None}
+use Rattle.std.proofs.Common.{◌≡◌, ℕ, ◌-◌, ◌≤◌, false, List, [], ◌∷◌, ◌++◌, length, take, drop, refl, ap, ap₂, ◌∙◌}
+use Rattle.std.proofs.Common.{arith}
 use Rattle.std.specs.Option.{unwrap_or}
 use Rattle.std.proofs.lemmas.Bool.{false≢true}
-use Rattle.xml_model.specs.declared.Kind.{Kind}
 use Rattle.xml_model.specs.declared.Kind.TheVariants as kinds
-use Rattle.xml_model.specs.Items.{Attribute, Leaf}
+use Rattle.xml_model.specs.Items.{Leaf}
 use Rattle.xml_model.specs.Tree.{Entry, Thing, kind_of}
-use Rattle.vtd_edits.specs.declared.splice.Splice.{Splice}
-use Rattle.vtd_edits.specs.declared.splice.Splice.TheVariants.{Replace, Insert}
-use Rattle.vtd_edits.specs.Splices.{spliced, spliced_from}
-use Rattle.vtd_edits.specs.Order.{spliced_by}
+use Rattle.vtd_edits.specs.declared.splice.Splice.TheVariants.{Replace}
+use Rattle.vtd_edits.specs.Splices.{spliced}
 use Rattle.vtd_edits.proofs.Ordered.{one_pass}
 use Rattle.vtd_modifier.specs.Rows.{one, set_to}
 use Rattle.vtd_modifier.specs.Parts.{part_of}

@@ -1,10 +1,9 @@
 -- A text node of a document with its words: what is known of it where it is set.
-use Rattle.std.proofs.Common.{◌≡◌, ℕ, ◌+◌, ◌-◌, ◌<◌, ◌≤◌, ◌^◌, Bool, true, false, List, [], ◌∷◌, ◌++◌, map, length, take, drop, refl, sym, ap, ap₂}
-use Rattle.std.proofs.Common.{subst, ◌∙◌, arith, length-append, Some, Option, Result, Ok, Err, OnOk}
-use Rattle.std.specs.Prelude.{IsUtf8, IfErr}
+use Rattle.std.proofs.Common.{◌≡◌, ℕ, ◌+◌, ◌-◌, ◌<◌, ◌≤◌, ◌^◌, true, false, List, ◌++◌, map, length, take, drop, sym, ap, ap₂}
+use Rattle.std.proofs.Common.{subst, ◌∙◌, arith, length-append, Option}
+use Rattle.std.specs.Prelude.{IsUtf8}
 use Rattle.std.specs.Str.{chars}
 use Rattle.std.specs.List.{list_all, flat_map}
-use lib.Utf8.{encodes}
 use Rattle.std.proofs.lemmas.Str.{encodes-chars}
 use Rattle.std.proofs.lemmas.List.{length-take-le, length-drop}
 use Rattle.xml_model.specs.declared.Kind.TheVariants as kinds
@@ -14,12 +13,12 @@ use Rattle.xml_model.specs.Chars.{is_char}
 use Rattle.xml_model.specs.Items.{Leaf, first_place}
 use Rattle.xml_model.specs.Nest.{Forest}
 use Rattle.xml_model.specs.Records.{word}
-use Rattle.xml_model.specs.Tree.{Thing, Entry, Identifies, kind_of, all}
+use Rattle.xml_model.specs.Tree.{Thing, Entry, Identifies}
 use Rattle.xml_model.specs.Accepted.{Accepted, IsRefusal}
 use Rattle.xml_patches.specs.Patched.{exchanged, text_bytes, new_run}
 use Rattle.xml_patches.proofs.TextNode.{text_stand}
 use Rattle.vtd_edits.specs.declared.splice.Splice.{Splice}
-use Rattle.vtd_edits.specs.declared.splice.Splice.TheVariants.{Replace, Insert}
+use Rattle.vtd_edits.specs.declared.splice.Splice.TheVariants.{Replace}
 use Rattle.vtd_words.specs.Lists.{Lists}
 use Rattle.vtd_words.specs.Table.{IsNestOf, IsNodeOf, ForEachEntry, nodes_of}
 use Rattle.vtd_words.proofs.Same.{node_holds}

@@ -1,19 +1,19 @@
 -- A text node of a document with its words is set: what the exchange of bytes and words asks for, and the refusal of the new bytes.
-use Rattle.std.proofs.Common.{◌≡◌, ℕ, zero, suc, ◌+◌, ◌-◌, ◌*◌, ◌<◌, ◌≤◌, ◌^◌, Bool, true, false, cond, inl, inr, List, [], ◌∷◌, ◌++◌, map, length, take}
+use Rattle.std.proofs.Common.{◌≡◌, ℕ, zero, suc, ◌+◌, ◌*◌, ◌<◌, ◌≤◌, ◌^◌, Bool, true, false, List, [], ◌∷◌, ◌++◌, map, length, take}
 use Rattle.std.proofs.Common.{drop}
 use Rattle.std.proofs.Common.{refl, sym, ap, ap₂, subst, ◌∙◌, arith, append-nil, length-append, ◌&&◌}
-use Rattle.std.specs.Prelude.{All, Contains, IsUtf8, fold, ◌==◌}
+use Rattle.std.specs.Prelude.{Contains, IsUtf8, fold, ◌==◌}
 use Rattle.std.specs.Str.{chars}
-use Rattle.std.specs.List.{list_all, AllByRecursion as Each}
-use lib.Utf8.{scalars, encodes}
-use Rattle.std.proofs.lemmas.Bool.{cases_Bool, ne_eqb}
+use Rattle.std.specs.List.{list_all}
+use lib.Utf8.{scalars}
+use Rattle.std.proofs.lemmas.Bool.{ne_eqb}
 use Rattle.std.proofs.lemmas.List.{length-map}
-use Rattle.std.proofs.lemmas.Str.{encodes-chars, scalars-chars, length-le-encodes}
+use Rattle.std.proofs.lemmas.Str.{scalars-chars, length-le-encodes}
 use Rattle.xml_model.specs.declared.DocFault.TheVariants as faults
 use Rattle.xml_model.specs.Chars.{is_char, size}
 use Rattle.xml_model.specs.Items.{Piece, literal, entity, decimal, hexadecimal, Leaf, first_place, written_piece, written_pieces}
 use Rattle.xml_model.specs.Nest.{Forest}
-use Rattle.xml_model.specs.Records.{Record, records, word, run_records, cut_records, depth_at}
+use Rattle.xml_model.specs.Records.{Record, records, word, run_records, cut_records}
 use Rattle.xml_model.specs.Tree.{Thing, Entry, all, is_text}
 use Rattle.xml_model.specs.Accepted.{Accepted, IsRefusal}
 use Rattle.xml_model.proofs.Each.{each_right, each_more}
@@ -27,12 +27,10 @@ use Rattle.xml_patches.proofs.Walked.{text_node_refused}
 use Rattle.vtd_words.specs.Lists.{Lists}
 use Rattle.vtd_words.specs.Table.{parts_of_record}
 use Rattle.vtd_words.specs.Packed.{fits}
-use Rattle.vtd_words.specs.Exchanged.{CanShift, CanRenumberLists}
 use Rattle.vtd_words.proofs.Fitting.{nest_shown}
 use Rattle.vtd_words.proofs.Shown.{map_length}
 use Rattle.vtd_location.proofs.NavLaws.{fewer_layers}
-use Rattle.vtd_builder.specs.Documents.{IsDoc, words_of}
-use Rattle.vtd_builder.specs.Exchanges.{growth, with_range, with_records}
+use Rattle.vtd_builder.specs.Documents.{words_of}
 use Rattle.vtd_patch.specs.Changes.{both, text_run, CanExchange}
 use Rattle.vtd_patch.proofs.Moves.{Low, low_offset}
 use Rattle.vtd_patch.proofs.Words.{all_words, Exchange, exchanged_words, can_shift_rest, can_renumber_all}

@@ -1,5 +1,5 @@
 -- The words of records, where some that are no starting tags are exchanged for others.
-use Rattle.std.proofs.Common.{◌≡◌, ℕ, ◌+◌, ◌-◌, ◌<◌, ◌≤◌, ◌^◌, true, List, ◌++◌, map, length, take, drop, refl, sym, ap, ap₂}
+use Rattle.std.proofs.Common.{◌≡◌, ℕ, ◌+◌, ◌-◌, ◌<◌, ◌≤◌, ◌^◌, true, List, ◌++◌, map, length, take, drop, sym, ap, ap₂}
 use Rattle.std.proofs.Common.{subst, ◌∙◌, arith, append_assoc, length-append, drop_at}
 use Rattle.std.specs.Prelude.{All, ℤ}
 use Rattle.std.specs.List.{AllByRecursion as Each}
@@ -8,7 +8,7 @@ use Rattle.std.proofs.lemmas.List.Elements.{All-from_recursion}
 use Rattle.xml_model.specs.Records.{Record, word}
 use Rattle.xml_model.specs.Levels.{Levels, level_word, levels, record_level, tags_from}
 use Rattle.xml_nests.specs.Moved.{moved}
-use Rattle.xml_patches.specs.Renumbered.{renumbered, renumbered_entry, is_tagless}
+use Rattle.xml_patches.specs.Renumbered.{is_tagless}
 use Rattle.xml_patches.proofs.Renumber.{tags_kept, tags_renumbered, level_renumbered}
 use Rattle.vtd_words.specs.Lists.{Lists}
 use Rattle.vtd_words.specs.Exchanged.{moved_by, CanShift, CanRenumberLists, CanRenumber, CanRenumberPair, renumbered as renumbered_by, renumbered_pair}

@@ -99,7 +99,15 @@ fn set_text(
     let Ok(words) = text_words(alloc, run.level, change.start, new.len() as u32) else {
         return Err(PatchFault::NoMemory);
     };
-    put_run(doc, change.start, change.end, new, node.at, run.past, words.as_slice())
+    put_run(
+        doc,
+        change.start,
+        change.end,
+        new,
+        node.at,
+        run.past,
+        words.as_slice(),
+    )
 }
 
 /// Appends bytes.

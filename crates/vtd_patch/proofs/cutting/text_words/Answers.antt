@@ -1,4 +1,4 @@
-use Rattle.std.proofs.Common.{◌≡◌, ◌∙◌, map, arith}
+use Rattle.std.proofs.Common.{◌∙◌, map, arith}
 use Rattle.xml_model.specs.Records.{cut_records, word}
 use Rattle.vtd_patch.proofs.Cuts.{cut_more, cut_last, run_is}
 use Rattle.vtd_patch.proofs.cutting.text_words.Goals as goal

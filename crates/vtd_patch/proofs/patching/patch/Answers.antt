@@ -1,4 +1,4 @@
-use Rattle.std.proofs.Common.{◌≡◌, ℕ, ◌≤◌, List, length, ap, subst, ◌∙◌, arith}
+use Rattle.std.proofs.Common.{ℕ, List, length, ap, subst, ◌∙◌, arith}
 use Rattle.vtd_builder.specs.Exchanges.{with_range}
 use Rattle.vtd_patch.specs.Changes.{IsIn}
 use Rattle.vtd_patch.proofs.Answered.{change_there, patched_ok, patched_err, patched_long}
@@ -10,7 +10,7 @@ returns-then-changed_length-gt-MOST_BYTES-clause-refused c =
     let x = c.in-Ok.change in
     let within = subst (λ (bs : List ℕ). IsIn bs x) c.nav.ensures.bytes c.in-Ok.ensures.within in
     let made = change_there c.args.doc.now.bytes c.nav.result.bytes c.args.text.now c.args.doc.now.words c.nav.result.words.lists c.args.node x
-        c.nav.ensures.bytes c.nav.ensures.words c.in-Ok.ensures.made in
+    c.nav.ensures.bytes c.nav.ensures.words c.in-Ok.ensures.made in
     let long = c.changed_length.ensures ∙ ap (λ (l : List ℕ). length (with_range x.start x.end x.text l)) c.bytes.ensures.value in
     patched_long c.args.doc.now.bytes c.args.text.now c.args.doc.now.words c.args.node x within made
     (omega (arith, long, c.if-changed_length-gt-MOST_BYTES.true))
@@ -25,7 +25,7 @@ returns-clause-patched c =
     let x = c.in-Ok.change in
     let within = subst (λ (bs : List ℕ). IsIn bs x) c.nav.ensures.bytes c.in-Ok.ensures.within in
     let made = change_there c.args.doc.now.bytes c.nav.result.bytes c.args.text.now c.args.doc.now.words c.nav.result.words.lists c.args.node x
-        c.nav.ensures.bytes c.nav.ensures.words c.in-Ok.ensures.made in
+    c.nav.ensures.bytes c.nav.ensures.words c.in-Ok.ensures.made in
     patched_ok c.args.doc.now.bytes c.args.text.now c.args.doc.now.words c.args.node x within made c.make.result c.make.new.doc.bytes
     c.make.ensures.bytes
 
@@ -34,5 +34,5 @@ returns-clause-refused c =
     let x = c.in-Ok.change in
     let within = subst (λ (bs : List ℕ). IsIn bs x) c.nav.ensures.bytes c.in-Ok.ensures.within in
     let made = change_there c.args.doc.now.bytes c.nav.result.bytes c.args.text.now c.args.doc.now.words c.nav.result.words.lists c.args.node x
-        c.nav.ensures.bytes c.nav.ensures.words c.in-Ok.ensures.made in
+    c.nav.ensures.bytes c.nav.ensures.words c.in-Ok.ensures.made in
     patched_err c.args.doc.now.bytes c.args.text.now c.args.doc.now.words c.args.node x within made c.make.result c.make.ensures.refused
