@@ -2,3 +2,4 @@ pub mod Offered
 pub mod Found
 pub mod Documents
 pub mod Cuts
+pub mod Exchanges

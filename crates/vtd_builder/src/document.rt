@@ -1,13 +1,16 @@
 //! Documents with their records and levels, built from bytes.
 
-ghost use Rattle.std.specs.Prelude.{◌≡◌, ◌+◌, ◌^◌, ◌<◌, ◌≤◌, length, vec_len, IfErr, IfOk, OnOk};
+ghost use Rattle.std.specs.Prelude.{◌≡◌, ◌+◌, ◌-◌, ◌^◌, ◌<◌, ◌≤◌, All, drop, length, vec_len, IfErr, IfOk, OnErr, OnOk};
 ghost use Rattle.xml_model.specs.declared.DocFault.{DocFault};
 ghost use Rattle.xml_model.specs.Nest.{Forest};
 ghost use Rattle.xml_model.specs.Accepted.{Accepted, IsRefusal};
 ghost use Rattle.vtd_builder.specs.Documents.{IsDoc, IsReserved, words_of};
+ghost use Rattle.vtd_builder.specs.Exchanges.{growth, with_range, with_records};
 ghost use Rattle.vtd_builder.specs.Offered.{record_words};
+ghost use Rattle.vtd_words.specs.Exchanged.{CanShift, CanRenumberLists};
 
 use crate::emission::emit;
+use crate::exchange::{growth, put};
 use crate::filling::Filling;
 use std::alloc::Global;
 use std::marker::Model;
@@ -79,6 +82,58 @@ impl Doc {
         ensures document { IsDoc self.now.bytes self.now.words }
     {
         &self.words
+    }
+
+    /// Puts other bytes for those from `start` up to `end`, and the words of their records for the records from `first`
+    /// up to `past`. The offsets of the records after them grow as the bytes do, and the indexes in the levels as the
+    /// records do. With these bytes and words it is a document again. All memory is taken first. It is linear in the
+    /// bytes and words, which are moved, and reads nothing of them.
+    ///
+    /// # Errors
+    /// `NoMemory`; the document is as before then.
+    pub fn exchange(
+        &mut self,
+        start: u32,
+        end: u32,
+        text: &[u8],
+        first: u32,
+        past: u32,
+        records: &[u64],
+    ) -> Result<(), NoMemory>
+        requires start { start ≤ end }
+        requires end { end ≤ length self.old.bytes }
+        requires first { first ≤ past }
+        requires past { past ≤ length self.old.words.records }
+        requires small { length text.now < 2 ^ 30 }
+        requires few { length records.now < 2 ^ 30 }
+        requires fewer { length self.old.words.records - (past - first) + length records.now < 2 ^ 32 }
+        requires offsets { All (CanShift (growth (length text.now) (end - start)))
+            (drop past self.old.words.records) }
+        requires indexes { CanRenumberLists past (growth (length records.now) (past - first)) self.old.words }
+        requires document { IsDoc (with_range start end text.now self.old.bytes)
+            (with_records first past records.now (growth (length text.now) (end - start)) self.old.words) }
+        ensures bytes { OnOk result (self.new.bytes ≡ with_range start end text.now self.old.bytes) }
+        ensures words { OnOk result (self.new.words
+            ≡ with_records first past records.now (growth (length text.now) (end - start)) self.old.words) }
+        ensures err { OnErr result (self.new ≡ self.old) }
+    {
+        if self.bytes.reserve(text.len()).is_err() {
+            return Err(NoMemory);
+        }
+        self.words.reserve(Counts {
+            records: records.len() as u32,
+            level1: 0,
+            level2: 0,
+            level3: 0,
+            level4: 0,
+            level5: 0,
+        })?;
+        put(&mut self.bytes, start as usize, end as usize, text);
+        self.words
+            .exchange_records(first, past, records, growth(text.len(), end - start));
+        self.words
+            .renumber(past, growth(records.len(), past - first));
+        Ok(())
     }
 
     /// The document, ready to be walked.

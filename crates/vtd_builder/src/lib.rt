@@ -4,6 +4,7 @@
 
 mod document;
 mod emission;
+mod exchange;
 mod filling;
 mod names;
 mod offers;

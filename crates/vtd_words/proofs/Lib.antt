@@ -11,3 +11,5 @@ pub mod Found
 pub mod Numbered
 pub mod SameNumber
 pub mod Back
+pub mod MovedLists
+pub mod MovedWords

@@ -5,3 +5,4 @@ pub mod Found
 pub mod Numbers
 pub mod View
 pub mod Metered
+pub mod Exchanged

@@ -4,6 +4,7 @@
 
 pub mod laws;
 mod meter;
+mod moving;
 mod packing;
 mod table;
 mod view;

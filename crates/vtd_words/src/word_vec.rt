@@ -1,10 +1,13 @@
 //! The words of a document: the trait through which they are read, and the lists that hold them.
 
 ghost use Rattle.std.specs.Prelude.{◌≡◌, ℕ, ◌+◌, ◌-◌, ◌^◌, ◌<◌, ◌≤◌, List, [], ◌∷◌, ◌++◌, length, slice_index};
-ghost use Rattle.std.specs.Prelude.{vec_len, vec_capacity, OnOk, OnErr};
+ghost use Rattle.std.specs.Prelude.{vec_len, vec_capacity, OnOk, OnErr, All, map, take, drop};
+ghost use Rattle.vtd_words.specs.Exchanged.{moved_by, CanShift, CanRenumberLists, exchanged, exchanged_room};
+ghost use Rattle.vtd_words.specs.Exchanged.{CanRenumber, CanRenumberPair, renumbered, renumbered_pair, renumbered_lists};
 ghost use Rattle.vtd_words.specs.Lists.{Lists, list_of, with_word, HasRoom, KeepsRoom, no_room, room_of, less_one};
 ghost use Rattle.vtd_words.specs.Lists.{TakesWord, none};
 
+use crate::moving::{put, renumber_indexes, renumber_pairs, shift_offsets};
 use std::alloc::Global;
 use std::marker::Model;
 use xml_model::{Counts, NoMemory};
@@ -89,6 +92,44 @@ impl<T: Drop> Lane<T> {
             unreachable!()
         }
         self.room -= 1;
+    }
+}
+
+impl Lane<u64> {
+    /// Puts other words for those from `start` to `end`, and moves the offsets of those after them.
+    fn exchange(&mut self, start: u32, end: u32, new: &[u64], shift: i64)
+        requires start { start ≤ end }
+        requires end { end ≤ vec_len self.old.items }
+        requires room { length new.now ≤ end - start + self.old.room }
+        requires few { vec_len self.old.items - (end - start) + length new.now < 2 ^ 32 }
+        requires offsets { All (CanShift shift) (drop end self.old.items.items) }
+        ensures items { self.new.items.items ≡ take start self.old.items.items ++ (new.now ++ map (moved_by shift)
+            (drop end self.old.items.items)) }
+        ensures room { self.new.room ≡ self.old.room + (end - start) - length new.now }
+    {
+        shift_offsets(&mut self.items[end as usize..], shift);
+        put(&mut self.items, start as usize, end as usize, new);
+        self.room = self.room + (end - start) as usize - new.len();
+    }
+
+    /// Changes the index in each entry of a level that is at least `from`.
+    fn renumber_pairs(&mut self, from: u32, by: i64)
+        requires { All (CanRenumberPair from by) self.old.items.items }
+        ensures items { self.new.items.items ≡ map (renumbered_pair from by) self.old.items.items }
+        ensures room { self.new.room ≡ self.old.room }
+    {
+        renumber_pairs(&mut self.items, from, by);
+    }
+}
+
+impl Lane<u32> {
+    /// Changes each index of the fifth level that is at least `from`.
+    fn renumber_indexes(&mut self, from: u32, by: i64)
+        requires { All (CanRenumber from by) self.old.items.items }
+        ensures items { self.new.items.items ≡ map (renumbered from by) self.old.items.items }
+        ensures room { self.new.room ≡ self.old.room }
+    {
+        renumber_indexes(&mut self.items, from, by);
     }
 }
 
@@ -185,6 +226,34 @@ impl WordVec {
             Part::Level4 => self.level4.push(word),
             Part::Level5 => self.level5.push(word as u32),
         }
+    }
+
+    /// Puts other records for those from `start` to `end`, and changes the offset of each record after them by `shift`.
+    /// It takes no memory: there is room for the growth, and what is not needed any more is room again. Its time is
+    /// that of the records from `start` on.
+    pub fn exchange_records(&mut self, start: u32, end: u32, new: &[u64], shift: i64)
+        requires start { start ≤ end }
+        requires end { end ≤ length self.old.lists.records }
+        requires room { length new.now ≤ end - start + self.old.room.records }
+        requires few { length self.old.lists.records - (end - start) + length new.now < 2 ^ 32 }
+        requires offsets { All (CanShift shift) (drop end self.old.lists.records) }
+        ensures lists { self.new.lists ≡ exchanged start end new.now shift self.old.lists }
+        ensures room { self.new.room ≡ exchanged_room start end (length new.now) self.old.room }
+    {
+        self.records.exchange(start, end, new, shift);
+    }
+
+    /// Changes each index of a record, in all levels, that is at least `from`, by `by`. It takes no memory.
+    pub fn renumber(&mut self, from: u32, by: i64)
+        requires { CanRenumberLists from by self.old.lists }
+        ensures lists { self.new.lists ≡ renumbered_lists from by self.old.lists }
+        ensures room { self.new.room ≡ self.old.room }
+    {
+        self.level1.renumber_pairs(from, by);
+        self.level2.renumber_pairs(from, by);
+        self.level3.renumber_pairs(from, by);
+        self.level4.renumber_pairs(from, by);
+        self.level5.renumber_indexes(from, by);
     }
 }
 

@@ -1,0 +1,9 @@
+pub mod Moves
+pub mod Words
+pub mod Escaped
+pub mod OneSplice
+pub mod Setting
+pub mod Cuts
+pub mod ChangeOf
+pub mod Ready
+pub mod Answered

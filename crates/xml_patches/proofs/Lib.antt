@@ -1,0 +1,9 @@
+pub mod Plain
+pub mod TextSet
+pub mod TextBytes
+pub mod Pasts
+pub mod Tagless
+pub mod TextNode
+pub mod Renumber
+pub mod Bad
+pub mod Walked
