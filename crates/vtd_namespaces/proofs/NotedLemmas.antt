@@ -54,7 +54,7 @@ declarations_more bytes lists old n o is h = λ m. ⊎_elim
     (λ e. subst (λ x. IfSome x (IsDeclaration bytes lists)) (sym (get_or-set_other old n m o None e)) (h m)) (Rattle.vtd_namespaces.proofs.MemoLemmas.equal_or m n)
 
 -- nothing is noted at first
-nothing_in : (n m : ℕ) → ◌≡◌ {A = Option ℕ} (get_or (replicate n None) m None) None
+pub nothing_in : (n m : ℕ) → ◌≡◌ {A = Option ℕ} (get_or (replicate n None) m None) None
 nothing_in zero m = refl
 nothing_in (suc n) zero = refl
 nothing_in (suc n) (suc m) = nothing_in n m

@@ -33,6 +33,7 @@ use crate::records::{attribute_at, slice_of};
 use crate::scope::Scope;
 use crate::sieve::note_attribute;
 use crate::uri::{XML_URI, XMLNS_URI};
+use crate::windows::{declaration_in_window, empty_window};
 use vtd_text::{Chars, FingerprintFilter, equals_str};
 use vtd_words::{Part, Parts, Table, Words, parts_at};
 use xml_model::TokenKind;
@@ -290,15 +291,9 @@ const NOTED: usize = 65_536;
 /// Where the first name of an attribute or a declaration of the nearest tag begins that offends; no two of them have
 /// one name, and the record of the first of them has the index `first`. Each is compared with those before it only
 /// where a filter takes its expanded name for one of theirs.
-fn attributes_offence_in_many<W: Words>(
-    scope: &Scope<'_, '_, W>,
-    memo: &mut Memo,
-    first: u32,
-) -> Option<u32>
-    requires known { IsMemoOf scope.now.table.now.bytes (W.lists scope.now.table.now.words).records memo.old }
+fn attributes_offence_in_many<W: Words>(scope: &Scope<'_, '_, W>, first: u32) -> Option<u32>
     requires first { first ≤ length (list_of Part.Records (W.lists scope.now.table.now.words)) }
-    ensures known { IsMemoOf scope.now.table.now.bytes (W.lists scope.now.table.now.words).records memo.new }
-    ensures offence { (nest : Forest) (x : Holder) (xs : List Holder) → IsScope scope.now.table.now.bytes
+    ensures { (nest : Forest) (x : Holder) (xs : List Holder) → IsScope scope.now.table.now.bytes
         (W.lists scope.now.table.now.words) scope.now.open_tags.now scope.now.depth nest (x ∷ xs) →
         first ≡ x.index + 1 → (at : ℕ) → AreAttributeRecords scope.now.table.now.bytes
         (records nest (first_place scope.now.table.now.bytes)) first at x.tag.attributes →
@@ -307,9 +302,10 @@ fn attributes_offence_in_many<W: Words>(
 {
     let mut filter = FingerprintFilter::new();
     let mut noted = [None; NOTED];
+    let mut window = empty_window();
     let mut number = 0;
     while let Some(parts) = attribute_at(scope.table.words(), first + 2 * number) {
-        let declaration = prefix_declaration(scope, memo, parts);
+        let declaration = declaration_in_window(scope, &mut window, first, number, parts);
         let is_new = note_attribute(scope, &mut filter, parts, declaration);
         if attribute_offends(scope, &noted, first, number, parts, is_new, declaration) {
             return Some(parts.offset);
@@ -342,7 +338,7 @@ fn attributes_offence<W: Words>(
     let mut number = 0;
     while let Some(parts) = attribute_at(scope.table.words(), first + 2 * number) {
         if number >= MANY && parts.prefix > 0 {
-            return attributes_offence_in_many(scope, memo, first);
+            return attributes_offence_in_many(scope, first);
         }
         let declaration = prefix_declaration(scope, memo, parts);
         if attribute_offends(scope, &noted, first, number, parts, false, declaration) {
