@@ -3,7 +3,7 @@ use Rattle.std.proofs.Common.{◌≡◌, ℕ, zero, suc, ◌+◌, ◌-◌, ◌*�
 use Rattle.std.specs.Prelude.{IfSome, IsSomeAnd, MatchOption, encode_utf8_all}
 use Rattle.std.specs.Borrow.{Bor}
 use Rattle.std.proofs.lemmas.Bool.{false≢true, cases_Bool}
-use Rattle.std.proofs.lemmas.List.{get_or-take, length-take, drop_at, get_or_default, get_or-set_same, get_or-set_other}
+use Rattle.std.proofs.lemmas.List.{get_or-take, get_or-drop, length-take, drop_at, get_or_default, get_or_past, get_or_append_left, get_or-append_right, get_or-set_same, get_or-set_other}
 use Rattle.std.proofs.lemmas.Slice.Eq.{bytes_eq-Decides}
 use Rattle.std.specs.List.Sorted.{IsPermutation}
 use Rattle.std.proofs.lemmas.List.Sorted.{IsPermutation-sym}
@@ -18,6 +18,7 @@ use Rattle.vtd_words.specs.Table.{parts_of_record, IsNestOf, nodes_of}
 use Rattle.vtd_words.specs.Lists.{Lists}
 use Rattle.vtd_text.specs.Joined.{slice_of}
 use Rattle.vtd_text.specs.NameRecords.{is_attribute_name, IsDeclaration}
+use Rattle.vtd_namespaces.specs.Offences.{AreDeclarations}
 use Rattle.vtd_namespaces.specs.Rounds.{IsNamed}
 use Rattle.vtd_namespaces.specs.Scope.{IsDeclaredAt, IsDeclarationIn, IsNearestAt, IsNearest}
 use Rattle.vtd_namespaces.specs.Windows.{Declares, HasPrefix, IsDeclaredName, IsAmong, ArePrefixes, PutsPrefix, PutsOrSkips, IsLeastIn, KeepsOrFinds, KeepsOrDeclares, KeepsFound, IsWindow}
@@ -332,3 +333,18 @@ no_window bytes lists open_tags depth first start end found z none = record {
   declarations = λ m. subst (λ o. IfSome o (IsDeclaration bytes lists)) (sym (none m)) tt;
   room = omega (arith, z);
 }
+
+-- ---- the first part of what is found
+
+pub nothing_taken : (found : List (Option ℕ)) (n : ℕ) → ((k : ℕ) → get_or found k None ≡ None) → (k : ℕ) → get_or (take n found) k None ≡ None
+nothing_taken found n h k = ⊎_elim
+    (λ l. get_or-take n found k None l ∙ h k)
+    (λ l. get_or_past (take n found) k None (omega (arith, l, length-take n found))) (below_or k n)
+
+pub first_part : (P : Option ℕ → Type 0) (xs ys : List (Option ℕ)) (k : ℕ) → k < length xs → P (get_or xs k None) → P (get_or (xs ++ ys) k None)
+first_part P xs ys k l h = subst P (sym (get_or_append_left xs ys None k l)) h
+
+pub parts_declare : (bytes : List ℕ) (lists : Lists) (xs old : List (Option ℕ)) (n : ℕ) → AreDeclarations bytes lists xs → ((k : ℕ) → get_or old k None ≡ None) → AreDeclarations bytes lists (xs ++ drop n old)
+parts_declare bytes lists xs old n h none = λ m. ⊎_elim
+    (λ l. first_part (λ o. IfSome o (IsDeclaration bytes lists)) xs (drop n old) m l (h m))
+    (λ l. subst (λ o. IfSome o (IsDeclaration bytes lists)) (sym (get_or-append_right xs (drop n old) (length xs) m None refl l ∙ get_or-drop n old (m - length xs) None ∙ none (n + (m - length xs)))) tt) (below_or m (length xs))

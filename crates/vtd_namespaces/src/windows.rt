@@ -5,8 +5,8 @@
 //! each round by halves: a prefix costs at most 13 comparisons a round. So k names in r rounds of declarations cost at
 //! most 13 * k * r comparisons besides the sorts, of which there is one for each round and each window.
 
-ghost use Rattle.std.specs.Prelude.{◌≡◌, ℕ, ◌+◌, ◌*◌, ◌<◌, ◌≤◌, ◌^◌, ◌⊎◌, ◌++◌, List, length, codes, IsSome, IfSome, None};
-ghost use Rattle.std.specs.Prelude.{encode_utf8_all, true};
+ghost use Rattle.std.specs.Prelude.{◌≡◌, ℕ, ◌+◌, ◌*◌, ◌<◌, ◌≤◌, ◌^◌, ◌⊎◌, ◌++◌, true, List, length, codes};
+ghost use Rattle.std.specs.Prelude.{encode_utf8_all, IsSome, IfSome, None};
 ghost use Rattle.std.specs.List.{slice_index_or};
 ghost use Rattle.std.specs.List.Sorted.{IsSorted};
 ghost use Rattle.xml_model.specs.Items.{Attribute, Tag, first_place};
@@ -19,7 +19,7 @@ ghost use Rattle.vtd_words.specs.Packed.{record_of};
 ghost use Rattle.vtd_words.specs.Table.{IsNestOf, Shows, nodes_of};
 ghost use Rattle.vtd_text.specs.NameRecords.{is_attribute_name, IsDeclaration};
 ghost use Rattle.vtd_namespaces.specs.NameRecords.{AreAttributeRecords, IsNameRecord};
-ghost use Rattle.vtd_namespaces.specs.Offences.{NearestOf};
+ghost use Rattle.vtd_namespaces.specs.Offences.{AreDeclarations, NearestOf};
 ghost use Rattle.vtd_namespaces.specs.Reach.{IsScope};
 ghost use Rattle.vtd_namespaces.specs.Repeats.{HasNoAttribute};
 ghost use Rattle.vtd_namespaces.specs.Rounds.{numbered_cmp, IsNamed};
@@ -146,23 +146,21 @@ fn found_in<'b>(
     first_named(round, first_bytes(slice_of(bytes, parts), parts.prefix))
 }
 
-/// Seeks the prefixes of so many names in a round, which it sorts: for each of which nothing was found before, the least
-/// index that it has there. The first name's record has an index.
+/// Seeks the prefixes of names in a round, which it sorts: for each of which nothing was found before, the least index
+/// that it has there. The first name's record has an index.
 fn seek<'b, W: Words>(
     bytes: &'b [u8],
     words: &W,
     at: u32,
     round: &mut [Numbered<'b>],
     found: &mut [Option<u32>],
-    count: usize,
 )
-    requires count { count ≤ length found.old }
-    requires room { at + 2 * count ≤ length (list_of Part.Records (W.lists words.now)) }
-    requires bound { at + 2 * count < 2 ^ 32 }
+    requires room { at + 2 * length found.old ≤ length (list_of Part.Records (W.lists words.now)) }
+    requires bound { at + 2 * length found.old < 2 ^ 32 }
     ensures round_len { length round.new ≡ length round.old }
     ensures len { length found.new ≡ length found.old }
     ensures found { (rs : List Record) → Shows (list_of Part.Records (W.lists words.now)) rs → (k : ℕ) (p : List ℕ) →
-        k < count → HasPrefix bytes.now (record_at (at + 2 * k) rs) p →
+        k < length found.old → HasPrefix bytes.now (record_at (at + 2 * k) rs) p →
         KeepsOrFinds round.old (encode_utf8_all p) (slice_index_or found.old k None) (slice_index_or found.new k None) }
     ensures there { (m : ℕ) → IfSome (slice_index_or found.new m None) (λ n.
         (slice_index_or found.old m None ≡ slice_index_or found.new m None) ⊎
@@ -170,13 +168,13 @@ fn seek<'b, W: Words>(
     ensures kept { KeepsFound found.old found.new }
 {
     round.sort_unstable();
-    for number in 0..count {
+    for number in 0..found.len() {
         let parts = parts_at(words, at + 2 * number as u32);
         found[number] = found_in(bytes, round, parts, found[number]);
     }
 }
 
-/// Seeks the prefixes of so many names among those that a tag declares, by the tag's record: for each of which nothing
+/// Seeks the prefixes of names among those that a tag declares, by the tag's record: for each of which nothing
 /// was found before, its declaration. The first name's record has an index, and no record from `end` on is of a
 /// declaration's name.
 fn seek_in_tag<'b, W: Words>(
@@ -187,22 +185,20 @@ fn seek_in_tag<'b, W: Words>(
     at: u32,
     round: &mut [Numbered<'b>],
     found: &mut [Option<u32>],
-    count: usize,
 )
     requires tag { tag < length (list_of Part.Records (W.lists words.now)) }
     requires few { length (list_of Part.Records (W.lists words.now)) < 2 ^ 32 }
     requires undeclared { NoneDeclared (list_of Part.Records (W.lists words.now)) end }
     requires some { 0 < length round.old }
-    requires count { count ≤ length found.old }
-    requires room { at + 2 * count ≤ length (list_of Part.Records (W.lists words.now)) }
-    requires bound { at + 2 * count < 2 ^ 32 }
+    requires room { at + 2 * length found.old ≤ length (list_of Part.Records (W.lists words.now)) }
+    requires bound { at + 2 * length found.old < 2 ^ 32 }
     requires known { AreFound (list_of Part.Records (W.lists words.now)) found.old }
     ensures round_len { length round.new ≡ length round.old }
     ensures len { length found.new ≡ length found.old }
     ensures known { AreFound (list_of Part.Records (W.lists words.now)) found.new }
     ensures kept { KeepsFound found.old found.new }
     ensures found { (rs : List Record) → Shows (list_of Part.Records (W.lists words.now)) rs → (place : ℕ) (t : Tag) →
-        AreAttributeRecords bytes.now rs (tag + 1) place t.attributes → (k : ℕ) (p : List ℕ) → k < count →
+        AreAttributeRecords bytes.now rs (tag + 1) place t.attributes → (k : ℕ) (p : List ℕ) → k < length found.old →
         HasPrefix bytes.now (record_at (at + 2 * k) rs) p →
         KeepsOrDeclares (tag + 1) t p (slice_index_or found.old k None) (slice_index_or found.new k None) }
 {
@@ -212,7 +208,7 @@ fn seek_in_tag<'b, W: Words>(
     let mut start = 0;
     loop {
         let gathered = gather_prefixes(bytes, words, tag + 1, start, round);
-        seek(bytes, words, at, &mut round[..gathered.count], found, count);
+        seek(bytes, words, at, &mut round[..gathered.count], found);
         if gathered.count < round.len() {
             return;
         }
@@ -220,7 +216,7 @@ fn seek_in_tag<'b, W: Words>(
     }
 }
 
-/// Seeks the nearest declarations of the prefixes of so many names in the first so many open tags, the innermost first.
+/// Seeks the nearest declarations of the prefixes of names in the first so many open tags, the innermost first.
 /// The first name's record has an index, nothing was found before, and no record from `end` on is of a declaration's
 /// name.
 fn seek_in_tags<W: Words>(
@@ -231,29 +227,27 @@ fn seek_in_tags<W: Words>(
     end: u32,
     at: u32,
     found: &mut [Option<u32>],
-    count: usize,
 )
     requires few { length bytes.now < 2 ^ 30 }
     requires many { length (list_of Part.Records (W.lists words.now)) < 2 ^ 32 }
     requires levels { levels ≤ 256 }
     requires tags { (k : ℕ) → slice_index_or open_tags.now k 0 < length (list_of Part.Records (W.lists words.now)) }
     requires undeclared { NoneDeclared (list_of Part.Records (W.lists words.now)) end }
-    requires count { count ≤ length found.old }
-    requires room { at + 2 * count ≤ length (list_of Part.Records (W.lists words.now)) }
-    requires bound { at + 2 * count < 2 ^ 32 }
+    requires room { at + 2 * length found.old ≤ length (list_of Part.Records (W.lists words.now)) }
+    requires bound { at + 2 * length found.old < 2 ^ 32 }
     requires none { (k : ℕ) → slice_index_or found.old k None ≡ None }
     ensures len { length found.new ≡ length found.old }
     ensures known { AreFound (list_of Part.Records (W.lists words.now)) found.new }
     ensures found { (nest : Forest) → IsNestOf bytes.now (W.lists words.now) nest →
         (hs : List Holder) → Chain (nodes_of bytes.now nest) hs → Opened open_tags.now hs → length hs ≡ levels →
-        (k : ℕ) (p : List ℕ) → k < count →
+        (k : ℕ) (p : List ℕ) → k < length found.old →
         HasPrefix bytes.now (record_at (at + 2 * k) (records nest (first_place bytes.now))) p →
         IsNearest (nodes_of bytes.now nest) hs p (slice_index_or found.new k None) }
 {
     let mut round: [Numbered<'_>; ROUND] = [(bytes, 0); ROUND];
     for level in (0..levels).rev() {
         let tag = open_tags.tag_at(level as u8);
-        seek_in_tag(bytes, words, tag, end, at, &mut round, found, count);
+        seek_in_tag(bytes, words, tag, end, at, &mut round, found);
     }
 }
 
@@ -293,6 +287,38 @@ pub fn empty_window() -> Window
     }
 }
 
+/// Seeks the nearest declarations of the prefixes of the nearest tag's names from an index on, as many as there are and
+/// there is room for; how many these are. The first one is there, and nothing was found before.
+fn fill<W: Words>(scope: &Scope<'_, '_, W>, at: u32, found: &mut [Option<u32>]) -> usize
+    requires room { at + 2 ≤ length (list_of Part.Records (W.lists scope.now.table.now.words)) }
+    requires bound { at + 2 < 2 ^ 32 }
+    requires some { 0 < length found.old }
+    requires none { (k : ℕ) → slice_index_or found.old k None ≡ None }
+    ensures len { length found.new ≡ length found.old }
+    ensures some { 0 < result }
+    ensures within { result ≤ length found.old }
+    ensures bound { at + 2 * result < 2 ^ 32 }
+    ensures declarations { AreDeclarations scope.now.table.now.bytes (W.lists scope.now.table.now.words) found.new }
+    ensures nearest { (nest : Forest) (hs : List Holder) → IsScope scope.now.table.now.bytes
+        (W.lists scope.now.table.now.words) scope.now.open_tags.now scope.now.depth nest hs →
+        (k : ℕ) (p : List ℕ) → k < result →
+        HasPrefix scope.now.table.now.bytes (record_at (at + 2 * k) (records nest (first_place scope.now.table.now.bytes)))
+        p → IsNearest (nodes_of scope.now.table.now.bytes nest) hs p (slice_index_or found.new k None) }
+{
+    let words = scope.table.words();
+    let count = names_from(words, at + 2, found.len() - 1) + 1;
+    seek_in_tags(
+        scope.table.bytes(),
+        words,
+        scope.open_tags,
+        scope.depth as usize + 1,
+        scope.end,
+        at,
+        &mut found[..count],
+    );
+    count
+}
+
 /// Moves a window on to the name of the nearest tag with a number, and those after it, where it does not reach as far;
 /// the record of the tag's first name has the index `first`.
 fn reach<W: Words>(scope: &Scope<'_, '_, W>, window: &mut Window, first: u32, number: u32)
@@ -309,27 +335,15 @@ fn reach<W: Words>(scope: &Scope<'_, '_, W>, window: &mut Window, first: u32, nu
     if number < window.end {
         return;
     }
-    let words = scope.table.words();
-    let at = first + 2 * number;
-    let count = names_from(words, at + 2, WINDOW - 1) + 1;
+    window.found = [None; WINDOW];
+    let count = fill(scope, first + 2 * number, &mut window.found);
     window.start = number;
     window.end = number + count as u32;
-    window.found = [None; WINDOW];
-    seek_in_tags(
-        scope.table.bytes(),
-        words,
-        scope.open_tags,
-        scope.depth as usize + 1,
-        scope.end,
-        at,
-        &mut window.found,
-        count,
-    );
 }
 
-/// The record of the nearest declaration of the prefix of the nearest tag's name with a number, out of a window, which is
-/// moved on where it does not reach as far; the parts are those of the name's record, and the record of the tag's first
-/// name has the index `first`.
+/// The record of the nearest declaration of the prefix of the nearest tag's name with a number, out of a window, which
+/// is moved on where it does not reach as far; the parts are those of the name's record, and the record of the tag's
+/// first name has the index `first`.
 pub fn declaration_in_window<W: Words>(
     scope: &Scope<'_, '_, W>,
     window: &mut Window,

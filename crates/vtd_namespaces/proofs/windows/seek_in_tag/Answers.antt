@@ -40,7 +40,7 @@ loop-round-preserved g c =
       found = λ rs s place t hold k p l has.
           found_more c.args.bytes.now rs (c.args.tag + 1) c.loop-round.start end t p (take count round) _ _ _ has.some c.gather_prefixes-gathered.ensures.more
           (prefix_round c.args.bytes.now rs (c.args.tag + 1) c.loop-round.start end count round (omega (arith, c.gather_prefixes-gathered.ensures.within, c.gather_prefixes-gathered.ensures.len)) (c.gather_prefixes-gathered.ensures.prefixes rs s))
-          (c.gather_prefixes-gathered.ensures.kind rs s) (c.seek.ensures.found rs s k p l has) (c.loop-round.invariant.found rs s place t hold k p l has);
+          (c.gather_prefixes-gathered.ensures.kind rs s) (c.seek.ensures.found rs s k p (omega (arith, l, c.loop-round.invariant.len)) has) (c.loop-round.invariant.found rs s place t hold k p l has);
     }
 
 pub returns-then-gathered-round-clause-found : goal.returns-then-gathered-round-clause-found
@@ -52,4 +52,4 @@ returns-then-gathered-round-clause-found g c = λ rs s place t hold k p l has.
     found_all c.args.bytes.now rs (c.args.tag + 1) end t p _ _ (c.gather_prefixes-gathered.ensures.end rs s (omega (arith, less, c.gather_prefixes-gathered.ensures.len)))
     (found_more c.args.bytes.now rs (c.args.tag + 1) c.loop-round.start end t p (take count round) _ _ _ has.some c.gather_prefixes-gathered.ensures.more
     (prefix_round c.args.bytes.now rs (c.args.tag + 1) c.loop-round.start end count round (omega (arith, c.gather_prefixes-gathered.ensures.within, c.gather_prefixes-gathered.ensures.len)) (c.gather_prefixes-gathered.ensures.prefixes rs s))
-    (c.gather_prefixes-gathered.ensures.kind rs s) (c.seek.ensures.found rs s k p l has) (c.loop-round.invariant.found rs s place t hold k p l has))
+    (c.gather_prefixes-gathered.ensures.kind rs s) (c.seek.ensures.found rs s k p (omega (arith, l, c.loop-round.invariant.len)) has) (c.loop-round.invariant.found rs s place t hold k p l has))

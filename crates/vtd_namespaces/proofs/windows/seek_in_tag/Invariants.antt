@@ -17,7 +17,7 @@ invariant-loop-round g l = record {
   bound : l.tag + 1 + 2 * l.start < 2 ^ 32;
   known : AreFound (g.W.Words.lists l.words).records l.found;
   kept : KeepsFound l.fn.found l.found;
-  found : (rs : List Record) → Shows (g.W.Words.lists l.words).records rs → (place : ℕ) (t : Tag) → AreAttributeRecords l.bytes rs (l.tag + 1) place t.attributes → (k : ℕ) (p : List ℕ) → k < l.count → HasPrefix l.bytes (record_at (l.at + 2 * k) rs) p →
+  found : (rs : List Record) → Shows (g.W.Words.lists l.words).records rs → (place : ℕ) (t : Tag) → AreAttributeRecords l.bytes rs (l.tag + 1) place t.attributes → (k : ℕ) (p : List ℕ) → k < length l.fn.found → HasPrefix l.bytes (record_at (l.at + 2 * k) rs) p →
       IsFoundTo l.bytes rs (l.tag + 1) l.start t p (slice_index_or l.fn.found k None) (slice_index_or l.found k None);
 }
 

@@ -21,7 +21,7 @@ loop-level-preserved g c = record {
   known = c.seek_in_tag.ensures.known;
   found = λ nest s hs h o m k p l has.
       level_more c.args.bytes.now _ nest s c.args.open_tags.now hs p c.loop-level.level _ _ c.loop-level-test.true
-      (λ at t hold. (rw c.tag_at-tag.ensures at c.seek_in_tag.ensures.found) (records nest (first_place c.args.bytes.now)) (nest_shown _ _ nest c.requires.few s) at t hold k p l has) (c.seek_in_tag.ensures.kept k) (c.loop-level.invariant.found nest s hs h o m k p l has);
+      (λ at t hold. (rw c.tag_at-tag.ensures at c.seek_in_tag.ensures.found) (records nest (first_place c.args.bytes.now)) (nest_shown _ _ nest c.requires.few s) at t hold k p (omega (arith, l, c.loop-level.invariant.len)) has) (c.seek_in_tag.ensures.kept k) (c.loop-level.invariant.found nest s hs h o m k p l has);
 }
 
 pub returns-clause-found : goal.returns-clause-found

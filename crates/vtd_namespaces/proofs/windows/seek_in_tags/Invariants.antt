@@ -16,5 +16,5 @@ invariant-loop-level g l = record {
   len : length l.found ≡ length l.fn.found;
   known : AreFound (g.W.Words.lists l.words).records l.found;
   found : (nest : Forest) → IsNestOf l.bytes (g.W.Words.lists l.words) nest → (hs : List Holder) → Chain (nodes_of l.bytes nest) hs → Opened l.open_tags hs → length hs ≡ l.levels →
-      (k : ℕ) (p : List ℕ) → k < l.count → HasPrefix l.bytes (record_at (l.at + 2 * k) (records nest (first_place l.bytes))) p → IsFoundOr (nodes_of l.bytes nest) l.open_tags hs p l.level (slice_index_or l.found k None);
+      (k : ℕ) (p : List ℕ) → k < length l.fn.found → HasPrefix l.bytes (record_at (l.at + 2 * k) (records nest (first_place l.bytes))) p → IsFoundOr (nodes_of l.bytes nest) l.open_tags hs p l.level (slice_index_or l.found k None);
 }
