@@ -6,7 +6,7 @@ use Rattle.vtd_namespaces.specs.Scope.{tags_in}
 use Rattle.vtd_namespaces.proofs.AttributeLemmas.{attends}
 use Rattle.vtd_namespaces.proofs.InspectLemmas.{none_inspected, all_inspected, next_inspected, differ}
 use Rattle.vtd_namespaces.proofs.SieveLemmas.{known_new, known_record, noted_more}
-use Rattle.vtd_namespaces.specs.Offences.{AreNearest, AreDeclarations}
+use Rattle.vtd_namespaces.specs.Offences.{AreNearest, AreNotes}
 use Rattle.vtd_namespaces.proofs.NotedLemmas.{nearest_for, nearest_more, declarations_more, nothing_noted}
 use Rattle.vtd_namespaces.proofs.WindowLemmas.{no_window}
 use Rattle.vtd_namespaces.proofs.offences.attributes_offence_in_many.Goals as goal
@@ -20,7 +20,7 @@ loop-parts-init g c = record {
   inspected = λ nest x xs s e at hold h. none_inspected c.args.scope.now.table.now.bytes (records nest (first_place c.args.scope.now.table.now.bytes)) c.args.first at (tags_in (x ∷ xs)) x.tag.attributes hold;
   noted = λ nest x xs s e at hold h. tt;
   nearest = λ nest x xs s e at hold h m d l. let z : ⊥ = omega (arith, l) in absurd z;
-  noted_are = nothing_noted c.args.scope.now.table.now.bytes (g.W.Words.lists c.args.scope.now.table.now.words) 65536;
+  noted_are = nothing_noted c.args.scope.now.table.now.bytes (g.W.Words.lists c.args.scope.now.table.now.words) 131072;
 }
 
 pub returns-then-attribute_offends : goal.returns-then-attribute_offends
@@ -69,7 +69,7 @@ loop-parts-preserved g c =
           (nearest_more c.args.scope.now.table.now.bytes nest (x ∷ xs) x.tag.attributes n.done n.left n.attribute c.loop-parts.number c.loop-parts.noted c.declaration_in_window-declaration.result n.split n.many
           (nearest_for c.args.scope.now.table.now.bytes nest (x ∷ xs) c.in-Some.parts n.attribute c.declaration_in_window-declaration.result o (c.declaration_in_window-declaration.ensures.found nest (x ∷ xs) s n.attribute (known_record _ c.in-Some.parts n.attribute o)))
           (c.loop-parts.invariant.nearest nest x xs s e at hold h));
-      noted_are = subst (AreDeclarations c.args.scope.now.table.now.bytes (g.W.Words.lists c.args.scope.now.table.now.words)) (sym c.note.ensures)
+      noted_are = subst (AreNotes c.args.scope.now.table.now.bytes (g.W.Words.lists c.args.scope.now.table.now.words)) (sym c.note.ensures)
           (declarations_more c.args.scope.now.table.now.bytes (g.W.Words.lists c.args.scope.now.table.now.words) c.loop-parts.noted c.loop-parts.number c.declaration_in_window-declaration.result c.declaration_in_window-declaration.ensures.declares c.loop-parts.invariant.noted_are);
     }
 
