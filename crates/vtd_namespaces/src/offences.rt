@@ -286,8 +286,8 @@ const MANY: u32 = 64;
 /// Of how many attributes the declarations are noted where they are few.
 const FEW: usize = 64;
 
-/// Of how many attributes the declarations are noted where they are many: 512 KiB of stack.
-const NOTED: usize = 131_072;
+/// Of how many attributes the declarations are noted where they are many: 384 KiB of stack.
+const NOTED: usize = 98_304;
 
 /// Where the first name of an attribute or a declaration of the nearest tag begins that offends; no two of them have
 /// one name, and the record of the first of them has the index `first`. Each is compared with those before it only

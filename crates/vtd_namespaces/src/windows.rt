@@ -1,8 +1,8 @@
 //! The nearest declarations of the prefixes of many names: of a window of them at a time (Namespaces in XML 1.0,
 //! section 6.1).
 //!
-//! The prefixes that each open tag declares are put into rounds, which are sorted, and those of the window are sought in
-//! each round by halves: a prefix costs at most 13 comparisons a round. So k names in r rounds of declarations cost at
+//! The prefixes that each open tag declares are put into rounds, which are sorted, and those of the window are sought
+//! in each round by halves: a prefix costs at most 13 comparisons a round. So k names in r rounds of declarations cost at
 //! most 13 * k * r comparisons besides the sorts, of which there is one for each round and each window.
 
 ghost use Rattle.std.specs.Prelude.{◌≡◌, ℕ, ◌+◌, ◌*◌, ◌<◌, ◌≤◌, ◌^◌, ◌⊎◌, ◌++◌, true, List, length, codes};

@@ -20,7 +20,7 @@ loop-parts-init g c = record {
   inspected = λ nest x xs s e at hold h. none_inspected c.args.scope.now.table.now.bytes (records nest (first_place c.args.scope.now.table.now.bytes)) c.args.first at (tags_in (x ∷ xs)) x.tag.attributes hold;
   noted = λ nest x xs s e at hold h. tt;
   nearest = λ nest x xs s e at hold h m d l. let z : ⊥ = omega (arith, l) in absurd z;
-  noted_are = nothing_noted c.args.scope.now.table.now.bytes (g.W.Words.lists c.args.scope.now.table.now.words) 131072;
+  noted_are = nothing_noted c.args.scope.now.table.now.bytes (g.W.Words.lists c.args.scope.now.table.now.words) 98304;
 }
 
 pub returns-then-attribute_offends : goal.returns-then-attribute_offends
