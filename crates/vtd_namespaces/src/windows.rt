@@ -2,8 +2,8 @@
 //! section 6.1).
 //!
 //! The prefixes that each open tag declares are put into rounds, which are sorted, and those of the window are sought
-//! in each round by halves: a prefix costs at most 13 comparisons a round. So k names in r rounds of declarations cost at
-//! most 13 * k * r comparisons besides the sorts, of which there is one for each round and each window.
+//! in each round by halves: a prefix costs at most 13 comparisons a round. So k names in r rounds of declarations cost
+//! at most 13 * k * r comparisons besides the sorts, of which there is one for each round and each window.
 
 ghost use Rattle.std.specs.Prelude.{◌≡◌, ℕ, ◌+◌, ◌*◌, ◌<◌, ◌≤◌, ◌^◌, ◌⊎◌, ◌++◌, true, List, length, codes};
 ghost use Rattle.std.specs.Prelude.{encode_utf8_all, IsSome, IfSome, None};
@@ -301,9 +301,9 @@ fn fill<W: Words>(scope: &Scope<'_, '_, W>, at: u32, found: &mut [Option<u32>]) 
     ensures declarations { AreDeclarations scope.now.table.now.bytes (W.lists scope.now.table.now.words) found.new }
     ensures nearest { (nest : Forest) (hs : List Holder) → IsScope scope.now.table.now.bytes
         (W.lists scope.now.table.now.words) scope.now.open_tags.now scope.now.depth nest hs →
-        (k : ℕ) (p : List ℕ) → k < result →
-        HasPrefix scope.now.table.now.bytes (record_at (at + 2 * k) (records nest (first_place scope.now.table.now.bytes)))
-        p → IsNearest (nodes_of scope.now.table.now.bytes nest) hs p (slice_index_or found.new k None) }
+        (k : ℕ) (p : List ℕ) → k < result → HasPrefix scope.now.table.now.bytes
+        (record_at (at + 2 * k) (records nest (first_place scope.now.table.now.bytes))) p →
+        IsNearest (nodes_of scope.now.table.now.bytes nest) hs p (slice_index_or found.new k None) }
 {
     let words = scope.table.words();
     let count = names_from(words, at + 2, found.len() - 1) + 1;
