@@ -1,4 +1,4 @@
-use Rattle.std.proofs.Common.{◌≡◌, ◌∙◌, ◌<◌, ◌+◌, ◌*◌, ◌-◌, ap, refl, sym, not, length, drop, arith, true, false, rules}
+use Rattle.std.proofs.Common.{◌≡◌, ◌∙◌, ◌+◌, ◌*◌, ◌-◌, ap, refl, sym, not, length, drop, arith, rules}
 use Rattle.std.proofs.lemmas.List.{length-take}
 use Rattle.vtd_text.specs.Fingerprints.{is_taken, is_mark_for, mark_of, bucket_of}
 use Rattle.vtd_text.proofs.FingerprintLemmas.{by_fingerprint, noted_by, still_taken}
