@@ -47,7 +47,7 @@ declares_default name prefix cs p e f z =
     let none : p ≡ [] = empty_encoded p (sym (ap length f) ∙ z) in
     ap₂ bytes_eq e (sym default_encoded) ∙ eq_encoded cs (codes "xmlns") ∙ ap (λ q. bytes_eq cs (declaring q)) (sym none)
 
-with_mark : (prefix p : List ℕ) → prefix ≡ encode_utf8_all p → (length prefix ≡ 0 → ⊥) → encode_utf8_all (declaring p) ≡ codes "xmlns:" ++ prefix
+pub with_mark : (prefix p : List ℕ) → prefix ≡ encode_utf8_all p → (length prefix ≡ 0 → ⊥) → encode_utf8_all (declaring p) ≡ codes "xmlns:" ++ prefix
 with_mark prefix [] f z = absurd (z (ap length f))
 with_mark prefix (c ∷ p) f z = encodes-append (codes "xmlns:") (c ∷ p) ∙ ap₂ (λ x y. x ++ y) mark_encoded (sym f)
 

@@ -18,6 +18,7 @@ pub mod HolderLemmas
 pub mod UriLemmas
 pub mod ResolverLemmas
 pub mod MemoLemmas
+pub mod WindowLemmas
 pub mod RepeatLemmas
 pub mod SieveLemmas
 pub mod RoundLemmas

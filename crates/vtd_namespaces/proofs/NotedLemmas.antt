@@ -1,5 +1,5 @@
 -- The declarations that are noted for a tag's attributes.
-use Rattle.std.proofs.Common.{◌≡◌, ℕ, zero, suc, ◌+◌, ◌<◌, ◌≤◌, Bool, true, false, cond, List, [], ◌∷◌, ◌++◌, length, set, get_or, refl, ap, ap₂, sym, ◌∙◌, subst, arith, replicate, Option, None, IfSome, ⊎_elim, get_or-set_same, get_or-set_other, length-set}
+use Rattle.std.proofs.Common.{◌≡◌, ℕ, zero, suc, ◌+◌, ◌*◌, ◌<◌, ◌≤◌, Bool, true, false, cond, List, [], ◌∷◌, ◌++◌, length, set, get_or, refl, ap, ap₂, sym, ◌∙◌, subst, arith, replicate, Option, Some, None, IfSome, ⊎_elim, get_or-set_same, get_or-set_other, length-set}
 use Rattle.std.proofs.Math.Seq.{get_or-append_seam}
 use Rattle.xml_model.specs.Chars.{prefix_of}
 use Rattle.xml_model.specs.Items.{Attribute}
@@ -10,7 +10,10 @@ use Rattle.vtd_words.specs.declared.packing.Parts.{Parts}
 use Rattle.vtd_words.specs.Packed.{record_of}
 use Rattle.vtd_words.specs.Lists.{Lists}
 use Rattle.vtd_text.specs.NameRecords.{IsDeclaration}
-use Rattle.vtd_namespaces.specs.Offences.{NearestOf, NearestFor, AreNearest, AreDeclarations}
+use Rattle.vtd_namespaces.specs.Offences.{NearestOf, NearestFor, AreNearest, AreNotes}
+use Rattle.std.specs.Option.{unwrap_or}
+use Rattle.vtd_text.proofs.FingerprintLemmas.{zeros}
+use Rattle.vtd_namespaces.specs.Reach.{some_of}
 use Rattle.vtd_namespaces.proofs.DeclarationLemmas.{token_two}
 use Rattle.vtd_namespaces.proofs.OffenceLemmas.{OtherName, size_nothing}
 use Rattle.vtd_namespaces.proofs.RoundLemmas.{below_or}
@@ -34,30 +37,45 @@ nearest_for bytes nest hs p a o n h d some =
     by true e t = Rattle.std.proofs.lemmas.Bool.false≢true (sym d ∙ e)
     by false e t = omega (arith, n.token ∙ ap (λ (x : Bool). cond x 3 2) e, t)
 
+-- a declaration's record is not the first one
+back : (bytes : List ℕ) (nest : Forest) (hs : List Holder) (a : Attribute) (o : Option ℕ) → NearestFor bytes nest hs a o → NearestFor bytes nest hs a (some_of (unwrap_or o 0))
+back bytes nest hs a None h = h
+back bytes nest hs a (Some (suc n)) h = h
+back bytes nest hs a (Some zero) h = λ d some.
+    let n = h d some in
+    let index : 0 ≡ n.entry.index + 1 + 2 * n.declared.number = n.declared.index in
+    let z : ⊥ = omega (arith, index) in
+    absurd z
+
+back_declared : (bytes : List ℕ) (lists : Lists) (o : Option ℕ) → IfSome o (IsDeclaration bytes lists) → IfSome (some_of (unwrap_or o 0)) (IsDeclaration bytes lists)
+back_declared bytes lists None h = tt
+back_declared bytes lists (Some zero) h = tt
+back_declared bytes lists (Some (suc n)) h = h
+
 -- one more is noted
-pub nearest_more : (bytes : List ℕ) (nest : Forest) (hs : List Holder) (attributes done left : List Attribute) (a : Attribute) (count : ℕ) (old : List (Option ℕ)) (o : Option ℕ) → attributes ≡ done ++ (a ∷ left) → length done ≡ count →
-    NearestFor bytes nest hs a o → AreNearest bytes nest hs attributes count old → AreNearest bytes nest hs attributes (count + 1) (set old count o)
+pub nearest_more : (bytes : List ℕ) (nest : Forest) (hs : List Holder) (attributes done left : List Attribute) (a : Attribute) (count : ℕ) (old : List ℕ) (o : Option ℕ) → attributes ≡ done ++ (a ∷ left) → length done ≡ count →
+    NearestFor bytes nest hs a o → AreNearest bytes nest hs attributes count old → AreNearest bytes nest hs attributes (count + 1) (set old count (unwrap_or o 0))
 nearest_more bytes nest hs attributes done left a count old o split many is h = λ m d l w. ⊎_elim
-    (λ p. subst (NearestFor bytes nest hs (get_or attributes m d)) (sym (get_or-set_other old count m o None (λ e. omega (arith, e, p)))) (h m d p (omega (arith, w, length-set old count o))))
+    (λ p. subst (λ x. NearestFor bytes nest hs (get_or attributes m d) (some_of x)) (sym (get_or-set_other old count m (unwrap_or o 0) 0 (λ e. omega (arith, e, p)))) (h m d p (omega (arith, w, length-set old count (unwrap_or o 0)))))
     (λ p.
     let e : count ≡ m = omega (arith, p, l) in
-    let inside : count < length old = omega (arith, w, e, length-set old count o) in
+    let inside : count < length old = omega (arith, w, e, length-set old count (unwrap_or o 0)) in
     let there : get_or attributes m d ≡ a = ap₂ (λ l k. get_or l k d) split (sym e ∙ sym many) ∙ get_or-append_seam done a left d in
-    let here : get_or (set old count o) m None ≡ o = ap (λ k. get_or (set old count o) k None) (sym e) ∙ get_or-set_same old count o None inside in
-    subst (NearestFor bytes nest hs (get_or attributes m d)) (sym here) (subst (λ b. NearestFor bytes nest hs b o) (sym there) is)) (below_or m count)
+    let here : get_or (set old count (unwrap_or o 0)) m 0 ≡ unwrap_or o 0 = ap (λ k. get_or (set old count (unwrap_or o 0)) k 0) (sym e) ∙ get_or-set_same old count (unwrap_or o 0) 0 inside in
+    subst (λ x. NearestFor bytes nest hs (get_or attributes m d) (some_of x)) (sym here) (subst (λ b. NearestFor bytes nest hs b (some_of (unwrap_or o 0))) (sym there) (back bytes nest hs a o is))) (below_or m count)
 
-pub declarations_more : (bytes : List ℕ) (lists : Lists) (old : List (Option ℕ)) (n : ℕ) (o : Option ℕ) → IfSome o (IsDeclaration bytes lists) → AreDeclarations bytes lists old → AreDeclarations bytes lists (set old n o)
+pub declarations_more : (bytes : List ℕ) (lists : Lists) (old : List ℕ) (n : ℕ) (o : Option ℕ) → IfSome o (IsDeclaration bytes lists) → AreNotes bytes lists old → AreNotes bytes lists (set old n (unwrap_or o 0))
 declarations_more bytes lists old n o is h = λ m. ⊎_elim
     (λ e. ⊎_elim
-    (λ w. subst (λ x. IfSome x (IsDeclaration bytes lists)) (sym (ap (λ k. get_or (set old n o) k None) e ∙ get_or-set_same old n o None w)) is)
-    (λ w. subst (λ l. IfSome (get_or l m None) (IsDeclaration bytes lists)) (set_past old n o w) (h m)) (below_or n (length old)))
-    (λ e. subst (λ x. IfSome x (IsDeclaration bytes lists)) (sym (get_or-set_other old n m o None e)) (h m)) (Rattle.vtd_namespaces.proofs.MemoLemmas.equal_or m n)
+    (λ w. subst (λ x. IfSome (some_of x) (IsDeclaration bytes lists)) (sym (ap (λ k. get_or (set old n (unwrap_or o 0)) k 0) e ∙ get_or-set_same old n (unwrap_or o 0) 0 w)) (back_declared bytes lists o is))
+    (λ w. subst (λ l. IfSome (some_of (get_or l m 0)) (IsDeclaration bytes lists)) (set_past old n (unwrap_or o 0) w) (h m)) (below_or n (length old)))
+    (λ e. subst (λ x. IfSome (some_of x) (IsDeclaration bytes lists)) (sym (get_or-set_other old n m (unwrap_or o 0) 0 e)) (h m)) (Rattle.vtd_namespaces.proofs.MemoLemmas.equal_or m n)
 
--- nothing is noted at first
-nothing_in : (n m : ℕ) → ◌≡◌ {A = Option ℕ} (get_or (replicate n None) m None) None
+-- nothing is noted or found at first
+pub nothing_noted : (bytes : List ℕ) (lists : Lists) (n : ℕ) → AreNotes bytes lists (replicate n 0)
+nothing_noted bytes lists n m = subst (λ x. IfSome (some_of x) (IsDeclaration bytes lists)) (sym (zeros n m)) tt
+
+pub nothing_in : (n m : ℕ) → ◌≡◌ {A = Option ℕ} (get_or (replicate n None) m None) None
 nothing_in zero m = refl
 nothing_in (suc n) zero = refl
 nothing_in (suc n) (suc m) = nothing_in n m
-
-pub nothing_noted : (bytes : List ℕ) (lists : Lists) (n : ℕ) → AreDeclarations bytes lists (replicate n None)
-nothing_noted bytes lists n m = subst (λ o. IfSome o (IsDeclaration bytes lists)) (sym (nothing_in n m)) tt

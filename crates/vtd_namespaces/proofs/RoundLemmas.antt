@@ -138,7 +138,7 @@ names_there bytes rs first start round h = record {
         let q = g k d w in
         record { entry = x; there = (k, w, get_or_default (d ∷ es) k x d w); name_is = q.name ∙ ap (name_of bytes rs first) e; number_is = q.number ∙ e }
 
-named_permuted : (old new : List (Bor (List ℕ) × ℕ)) → IsPermutation old new → (name : List ℕ) (n : ℕ) → IsNamed old name n → IsNamed new name n
+pub named_permuted : (old new : List (Bor (List ℕ) × ℕ)) → IsPermutation old new → (name : List ℕ) (n : ℕ) → IsNamed old name n → IsNamed new name n
 named_permuted old new p name n named = record { entry = named.entry; there = Contains-permutation old new named.entry p named.there; name_is = named.name_is; number_is = named.number_is }
 
 pub names_sorted : (bytes : List ℕ) (rs : List Record) (first start : ℕ) (old new : List (Bor (List ℕ) × ℕ)) → IsPermutation old new → length new ≡ length old → AreNamesFrom bytes rs first start (length old) old → HasNames bytes rs first start (start + length new) new

@@ -13,3 +13,4 @@ pub mod Reach
 pub mod Memos
 pub mod Offences
 pub mod Plain
+pub mod Windows

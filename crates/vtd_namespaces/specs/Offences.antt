@@ -11,6 +11,7 @@ use Rattle.xml_model.specs.Records.{Record, declares, kind_number}
 use Rattle.xml_model.specs.Tree.{Holder}
 use Rattle.vtd_words.specs.Lists.{Lists}
 use Rattle.vtd_words.specs.Table.{nodes_of}
+use Rattle.vtd_namespaces.specs.Reach.{some_of}
 use Rattle.vtd_namespaces.specs.Scope.{IsNearest}
 use Rattle.xml_model.specs.Names.{Expanded}
 use Rattle.xml_model.specs.Accepted.{expanded_of, seen_with, same_expanded, is_bound}
@@ -58,11 +59,15 @@ abbrev pub NearestFor : List ℕ → Forest → List Holder → Attribute → Op
 NearestFor bytes nest hs a declaration = declares a.name ≡ false → (prefix_of a.name ≡ [] → ⊥) →
     IsNearest (nodes_of bytes nest) hs (prefix_of a.name) declaration
 
--- a list has the nearest declarations of the prefixes of so many attributes, as far as it goes
-abbrev pub AreNearest : List ℕ → Forest → List Holder → List Attribute → ℕ → List (Option ℕ) → Type 0
+-- notes have the nearest declarations of the prefixes of so many attributes, as far as they go; 0 is for none
+abbrev pub AreNearest : List ℕ → Forest → List Holder → List Attribute → ℕ → List ℕ → Type 0
 AreNearest bytes nest hs attributes count noted = (m : ℕ) (d : Attribute) → m < count → m < length noted →
-    NearestFor bytes nest hs (slice_index_or attributes m d) (slice_index_or noted m None)
+    NearestFor bytes nest hs (slice_index_or attributes m d) (some_of (slice_index_or noted m 0))
+
+-- what is noted are declarations, by the records of their names
+abbrev pub AreNotes : List ℕ → Lists → List ℕ → Type 0
+AreNotes bytes lists noted = (m : ℕ) → IfSome (some_of (slice_index_or noted m 0)) (IsDeclaration bytes lists)
 
 -- what a list has are declarations, by the records of their names
 abbrev pub AreDeclarations : List ℕ → Lists → List (Option ℕ) → Type 0
-AreDeclarations bytes lists noted = (m : ℕ) → IfSome (slice_index_or noted m None) (IsDeclaration bytes lists)
+AreDeclarations bytes lists found = (m : ℕ) → IfSome (slice_index_or found m None) (IsDeclaration bytes lists)

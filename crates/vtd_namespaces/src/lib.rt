@@ -21,6 +21,7 @@ mod scope;
 mod sieve;
 mod uri;
 mod walk;
+mod windows;
 
 pub use check::check_names;
 pub use declarations::declarations_end;

@@ -25,7 +25,7 @@ use crate::records::{attribute_at, slice_of};
 use vtd_words::{Part, Words, parts_at};
 
 /// A name of a tag, and its number among the tag's names.
-type Numbered<'b> = (&'b [u8], u32);
+pub type Numbered<'b> = (&'b [u8], u32);
 
 /// How many names a round has in a tag of no more names: 24 KiB of stack.
 const FEW: usize = 1_024;
@@ -78,7 +78,7 @@ fn place_for<'b>(round: &[Numbered<'b>], name: &'b [u8]) -> usize
 }
 
 /// The least number that a name has in a sorted round.
-fn first_named<'b>(round: &[Numbered<'b>], name: &'b [u8]) -> Option<u32>
+pub fn first_named<'b>(round: &[Numbered<'b>], name: &'b [u8]) -> Option<u32>
     requires { IsSorted numbered_cmp round.now }
     ensures found { IfSome result (IsNamed round.now name.now) }
     ensures least { (n : ℕ) → IsNamed round.now name.now n → IsSomeAnd result (λ m. m ≤ n) }

@@ -98,7 +98,7 @@ fn place_for(bytes: &[u8], memo: &Memo, tag: u32, prefix: &[u8]) -> usize
 }
 
 /// The index of a name's record, or none where it is 0.
-fn option_of(index: u32) -> Option<u32>
+pub fn option_of(index: u32) -> Option<u32>
     ensures { result ≡ some_of index }
 {
     if index == 0 { None } else { Some(index) }

@@ -3,6 +3,7 @@
 ghost use Rattle.std.specs.Prelude.{◌≡◌, ℕ, ◌+◌, ◌*◌, ◌<◌, ◌≤◌, ◌^◌, true, false, List, [], ◌∷◌, ◌++◌, length, take};
 ghost use Rattle.std.specs.Prelude.{is_some, encode_utf8_all, bytes_eq, codes, IfSome, None, slice_set};
 ghost use Rattle.std.specs.List.{slice_index_or, AllByRecursion, list_any};
+ghost use Rattle.std.specs.Option.{unwrap_or};
 ghost use Rattle.xml_model.specs.Scan.{record_at};
 ghost use Rattle.vtd_words.specs.Packed.{record_of};
 ghost use Rattle.xml_model.specs.Items.{Attribute, first_place};
@@ -23,16 +24,17 @@ ghost use Rattle.vtd_namespaces.specs.Memos.{IsMemoOf};
 ghost use Rattle.vtd_namespaces.specs.NameRecords.{AreAttributeRecords, IsAttributeRecord, IsNameRecord, IsTagRecord};
 ghost use Rattle.vtd_namespaces.specs.Faults.{first_of};
 ghost use Rattle.vtd_namespaces.specs.Scope.{IsNearest, tags_in};
-ghost use Rattle.vtd_namespaces.specs.Reach.{IsScope};
-ghost use Rattle.vtd_namespaces.specs.Offences.{is_twin, seen_after, AreDeclarations, AreNearest};
+ghost use Rattle.vtd_namespaces.specs.Reach.{some_of, IsScope};
+ghost use Rattle.vtd_namespaces.specs.Offences.{is_twin, seen_after, AreNearest, AreNotes};
 ghost use Rattle.vtd_namespaces.specs.Offences.{IsFine, IsWritten, NearestFor, NearestOf};
 
-use crate::memo::{Memo, Prefix};
+use crate::memo::{Memo, Prefix, option_of};
 use crate::qnames::{after_prefix, is_qname, prefix_of};
 use crate::records::{attribute_at, slice_of};
 use crate::scope::Scope;
 use crate::sieve::note_attribute;
 use crate::uri::{XML_URI, XMLNS_URI};
+use crate::windows::{declaration_in_window, empty_window};
 use vtd_text::{Chars, FingerprintFilter, equals_str};
 use vtd_words::{Part, Parts, Table, Words, parts_at};
 use xml_model::TokenKind;
@@ -83,31 +85,31 @@ const DECLARES_XMLNS: &[u8] = b"xmlns:xmlns";
 /// a look along the open tags where nothing is.
 fn nearest_of<W: Words>(
     scope: &Scope<'_, '_, W>,
-    noted: &[Option<u32>],
+    noted: &[u32],
     number: u32,
     prefix: &[u8],
 ) -> Option<u32>
-    requires { AreDeclarations scope.now.table.now.bytes (W.lists scope.now.table.now.words) noted.now }
+    requires { AreNotes scope.now.table.now.bytes (W.lists scope.now.table.now.words) noted.now }
     ensures found { (nest : Forest) (hs : List Holder) → IsScope scope.now.table.now.bytes
         (W.lists scope.now.table.now.words) scope.now.open_tags.now scope.now.depth nest hs →
         (p : List ℕ) → prefix.now ≡ encode_utf8_all p →
         (number < length noted.now →
-        IsNearest (nodes_of scope.now.table.now.bytes nest) hs p (slice_index_or noted.now number None)) →
+        IsNearest (nodes_of scope.now.table.now.bytes nest) hs p (some_of (slice_index_or noted.now number 0))) →
         IsNearest (nodes_of scope.now.table.now.bytes nest) hs p result }
     ensures declares { IfSome result (IsDeclaration scope.now.table.now.bytes (W.lists scope.now.table.now.words)) }
 {
     if (number as usize) < noted.len() {
-        return noted[number as usize];
+        return option_of(noted[number as usize]);
     }
     scope.declaration(prefix)
 }
 
-/// Notes the declaration of the attribute with a number, where the notes go as far.
-fn note(noted: &mut [Option<u32>], number: u32, declaration: Option<u32>)
-    ensures { noted.new ≡ slice_set noted.old number declaration }
+/// Notes the declaration of the attribute with a number, where the notes go as far; 0 is for none.
+fn note(noted: &mut [u32], number: u32, declaration: Option<u32>)
+    ensures { noted.new ≡ slice_set noted.old number (unwrap_or declaration 0) }
 {
     if (number as usize) < noted.len() {
-        noted[number as usize] = declaration;
+        noted[number as usize] = declaration.unwrap_or(0);
     }
 }
 
@@ -116,14 +118,14 @@ fn note(noted: &mut [Option<u32>], number: u32, declaration: Option<u32>)
 /// Unique').
 fn is_twin_at<W: Words>(
     scope: &Scope<'_, '_, W>,
-    noted: &[Option<u32>],
+    noted: &[u32],
     number: u32,
     at: u32,
     name: &[u8],
     prefix_len: u32,
     declaration: Option<u32>,
 ) -> bool
-    requires noted { AreDeclarations scope.now.table.now.bytes (W.lists scope.now.table.now.words) noted.now }
+    requires noted { AreNotes scope.now.table.now.bytes (W.lists scope.now.table.now.words) noted.now }
     requires room { at < length (list_of Part.Records (W.lists scope.now.table.now.words)) }
     requires prefix { 0 < prefix_len }
     requires declaration { IfSome declaration
@@ -136,7 +138,7 @@ fn is_twin_at<W: Words>(
         (rs : List Record) → Shows (list_of Part.Records (W.lists scope.now.table.now.words)) rs →
         (place : ℕ) (b : Attribute) → IsAttributeRecord scope.now.table.now.bytes rs at place b →
         (number < length noted.now →
-        NearestFor scope.now.table.now.bytes nest hs b (slice_index_or noted.now number None)) →
+        NearestFor scope.now.table.now.bytes nest hs b (some_of (slice_index_or noted.now number 0))) →
         result ≡ is_twin (tags_in hs) a b }
 {
     let other = parts_at(scope.table.words(), at);
@@ -164,14 +166,14 @@ fn is_twin_at<W: Words>(
 /// `first`.
 fn has_twin<W: Words>(
     scope: &Scope<'_, '_, W>,
-    noted: &[Option<u32>],
+    noted: &[u32],
     first: u32,
     count: u32,
     name: &[u8],
     prefix_len: u32,
     declaration: Option<u32>,
 ) -> bool
-    requires noted { AreDeclarations scope.now.table.now.bytes (W.lists scope.now.table.now.words) noted.now }
+    requires noted { AreNotes scope.now.table.now.bytes (W.lists scope.now.table.now.words) noted.now }
     requires room { first + 2 * count ≤ length (list_of Part.Records (W.lists scope.now.table.now.words)) }
     requires bound { first + 2 * count < 2 ^ 32 }
     requires prefix { 0 < prefix_len }
@@ -208,14 +210,14 @@ fn has_twin<W: Words>(
 /// an attribute that has one.
 fn attribute_offends<W: Words>(
     scope: &Scope<'_, '_, W>,
-    noted: &[Option<u32>],
+    noted: &[u32],
     first: u32,
     number: u32,
     parts: Parts,
     is_new: bool,
     declaration: Option<u32>,
 ) -> bool
-    requires noted { AreDeclarations scope.now.table.now.bytes (W.lists scope.now.table.now.words) noted.now }
+    requires noted { AreNotes scope.now.table.now.bytes (W.lists scope.now.table.now.words) noted.now }
     requires room { first + 2 * number < length (list_of Part.Records (W.lists scope.now.table.now.words)) }
     requires bound { first + 2 * number < 2 ^ 32 }
     requires here { (rs : List Record) → Shows (list_of Part.Records (W.lists scope.now.table.now.words)) rs →
@@ -284,21 +286,15 @@ const MANY: u32 = 64;
 /// Of how many attributes the declarations are noted where they are few.
 const FEW: usize = 64;
 
-/// Of how many attributes the declarations are noted where they are many: 512 KiB of stack.
-const NOTED: usize = 65_536;
+/// Of how many attributes the declarations are noted where they are many: 384 KiB of stack.
+const NOTED: usize = 98_304;
 
 /// Where the first name of an attribute or a declaration of the nearest tag begins that offends; no two of them have
 /// one name, and the record of the first of them has the index `first`. Each is compared with those before it only
 /// where a filter takes its expanded name for one of theirs.
-fn attributes_offence_in_many<W: Words>(
-    scope: &Scope<'_, '_, W>,
-    memo: &mut Memo,
-    first: u32,
-) -> Option<u32>
-    requires known { IsMemoOf scope.now.table.now.bytes (W.lists scope.now.table.now.words).records memo.old }
+fn attributes_offence_in_many<W: Words>(scope: &Scope<'_, '_, W>, first: u32) -> Option<u32>
     requires first { first ≤ length (list_of Part.Records (W.lists scope.now.table.now.words)) }
-    ensures known { IsMemoOf scope.now.table.now.bytes (W.lists scope.now.table.now.words).records memo.new }
-    ensures offence { (nest : Forest) (x : Holder) (xs : List Holder) → IsScope scope.now.table.now.bytes
+    ensures { (nest : Forest) (x : Holder) (xs : List Holder) → IsScope scope.now.table.now.bytes
         (W.lists scope.now.table.now.words) scope.now.open_tags.now scope.now.depth nest (x ∷ xs) →
         first ≡ x.index + 1 → (at : ℕ) → AreAttributeRecords scope.now.table.now.bytes
         (records nest (first_place scope.now.table.now.bytes)) first at x.tag.attributes →
@@ -306,10 +302,11 @@ fn attributes_offence_in_many<W: Words>(
         result ≡ first_of (offending_attributes (tags_in (x ∷ xs)) at [] x.tag.attributes) }
 {
     let mut filter = FingerprintFilter::new();
-    let mut noted = [None; NOTED];
+    let mut noted = [0; NOTED];
+    let mut window = empty_window();
     let mut number = 0;
     while let Some(parts) = attribute_at(scope.table.words(), first + 2 * number) {
-        let declaration = prefix_declaration(scope, memo, parts);
+        let declaration = declaration_in_window(scope, &mut window, first, number, parts);
         let is_new = note_attribute(scope, &mut filter, parts, declaration);
         if attribute_offends(scope, &noted, first, number, parts, is_new, declaration) {
             return Some(parts.offset);
@@ -338,11 +335,11 @@ fn attributes_offence<W: Words>(
         repeated at [] x.tag.attributes ≡ [] →
         result ≡ first_of (offending_attributes (tags_in (x ∷ xs)) at [] x.tag.attributes) }
 {
-    let mut noted = [None; FEW];
+    let mut noted = [0; FEW];
     let mut number = 0;
     while let Some(parts) = attribute_at(scope.table.words(), first + 2 * number) {
         if number >= MANY && parts.prefix > 0 {
-            return attributes_offence_in_many(scope, memo, first);
+            return attributes_offence_in_many(scope, first);
         }
         let declaration = prefix_declaration(scope, memo, parts);
         if attribute_offends(scope, &noted, first, number, parts, false, declaration) {

@@ -1,10 +1,10 @@
 -- The first character of pieces, and what is left of them.
 use Rattle.std.proofs.Common.{◌≡◌, ℕ, true, false, inl, inr, List, [], ◌∷◌, ◌++◌, map, Option, Some, None, Bor, refl, sym, ap, subst, ◌∙◌}
-use Rattle.std.specs.Prelude.{◌==◌, ◌||◌, ◌<◌, not, cond, take, drop, option_map, MatchOption}
+use Rattle.std.specs.Prelude.{◌==◌, ◌||◌, ◌<◌, ◌≤◌, length, not, cond, take, drop, option_map, MatchOption}
 use Rattle.std.specs.List.{list_all, prefix_len}
 use Rattle.std.proofs.Common.{Bool, arith, lit<, ⊎_elim}
 use Rattle.std.proofs.Math.Numerals.{one-add}
-use Rattle.std.proofs.lemmas.List.{take-append-drop}
+use Rattle.std.proofs.lemmas.List.{take-append-drop, take-append-le, drop-append-le, length-append, append_assoc}
 use Rattle.xml_chars.proofs.TextLemmas.{Split, split_stop}
 use Rattle.std.proofs.lemmas.Bool.{cases_Bool, false≢true, and_parts, and_from, eqb-true, or_cases, not-false}
 use Rattle.xml_model.specs.Items.{Piece, literal, entity, decimal, hexadecimal, written_piece, written_pieces, meets_piece}
@@ -13,7 +13,7 @@ use Rattle.xml_chars.specs.Places.{is_reference}
 use Rattle.xml_chars.specs.Reading.{read_reference}
 use Rattle.std.specs.Str.{chars, IsUtf8, IsCharBoundary}
 use Rattle.std.proofs.lemmas.Option.{same_Some}
-use Rattle.std.proofs.lemmas.Str.{chars-nil}
+use Rattle.std.proofs.lemmas.Str.{chars-nil, chars-append, IsUtf8-append, IsUtf8-take, IsUtf8-drop, IsCharBoundary-from_drop}
 use Rattle.xml_chars.specs.Readers.{mapped, Gives}
 use Rattle.xml_chars.proofs.NameLaws.{reference_reads}
 use Rattle.vtd_text.specs.declared.token.Rule.{Rule}
@@ -307,20 +307,44 @@ prefix_passes p (c ∷ cs) = elim (cases_Bool (p c)) [
   | inr f ↦ rw f refl
 ]
 
--- the longest prefix whose bytes stand for themselves, and what follows it
+-- a prefix whose bytes stand for themselves, and what follows it
 pub record PlainSplit (rule : Rule) (bs : List ℕ) (n : ℕ) : Type 0 where
   pub boundary : IsCharBoundary bs n
   pub content : (cs : List ℕ) → HasContent rule (chars bs) cs → LeavesRest rule cs (chars (take n bs)) (chars (drop n bs))
 
-pub plain_split : (rule : Rule) (bs hay : List ℕ) (n : ℕ) → hay ≡ bs → IsUtf8 bs → n ≡ prefix_len (λ b. not (is_special rule b)) hay → PlainSplit rule bs n
-plain_split rule bs hay n e u is =
+-- a place in the first part of a text is a place in the text, and the characters on both sides of it
+pub record NearSplit (near far bs : List ℕ) (n m : ℕ) : Type 0 where
+  pub boundary : IsCharBoundary bs n
+  pub prefix : chars (take n bs) ≡ take m (chars near)
+  pub back : chars (drop n bs) ≡ drop m (chars near) ++ chars far
+
+near_split : (near far bs : List ℕ) (n m : ℕ) → bs ≡ near ++ far → IsUtf8 far → Split near n m → NearSplit near far bs n m
+near_split near far bs n m whole v s =
+    let within : n ≤ length near = s.boundary.0 in
+    let front : take n bs ≡ take n near = ap (take n) whole ∙ take-append-le n near far within in
+    let back : drop n bs ≡ drop n near ++ far = ap (drop n) whole ∙ drop-append-le n near far within in
+    let le : n ≤ length bs = omega (arith, ap (λ (l : List ℕ). length l) whole, length-append near far) in
+    record {
+      boundary = IsCharBoundary-from_drop bs n le (subst IsUtf8 (sym back) (IsUtf8-append (drop n near) far s.utf8 v));
+      prefix = ap chars front ∙ s.prefix;
+      back = ap chars back ∙ chars-append (drop n near) far s.utf8 ∙ ap (λ (l : List ℕ). l ++ chars far) s.back;
+    }
+
+-- the longest such prefix of the first part of a text
+pub plain_split : (rule : Rule) (bs near : List ℕ) (k n : ℕ) → near ≡ take k bs → IsUtf8 bs → IsCharBoundary bs k → n ≡ prefix_len (λ b. not (is_special rule b)) near → PlainSplit rule bs n
+plain_split rule bs near k n e u b is =
     let p : ℕ → Bool = λ b. not (is_special rule b) in
-    let s : Split bs n (prefix_len p (chars bs)) = split_stop p (special_low rule) bs n u (is ∙ ap (prefix_len p) e) in
-    let m = prefix_len p (chars bs) in
+    let m = prefix_len p (chars near) in
+    let far = drop k bs in
+    let whole : bs ≡ near ++ far = sym (take-append-drop k bs) ∙ ap (λ (l : List ℕ). l ++ far) (sym e) in
+    let w : IsUtf8 near = subst IsUtf8 (sym e) (IsUtf8-take bs k u b) in
+    let s : NearSplit near far bs n m = near_split near far bs n m whole (IsUtf8-drop bs k u b) (split_stop p (special_low rule) near n w is) in
+    let all : chars bs ≡ take m (chars near) ++ (drop m (chars near) ++ chars far) =
+    ap chars whole ∙ chars-append near far w ∙ ap (λ (l : List ℕ). l ++ chars far) (sym (take-append-drop m (chars near))) ∙ append_assoc (take m (chars near)) (drop m (chars near)) (chars far) in
     record {
       boundary = s.boundary;
       content = λ cs h.
           subst (λ (l : List ℕ). LeavesRest rule cs l (chars (drop n bs))) (sym s.prefix)
-          (subst (λ (l : List ℕ). LeavesRest rule cs (take m (chars bs)) l) (sym s.back)
-          (plain_prefix rule (take m (chars bs)) (drop m (chars bs)) (chars bs) cs (sym (take-append-drop m (chars bs))) (prefix_passes p (chars bs)) h));
+          (subst (λ (l : List ℕ). LeavesRest rule cs (take m (chars near)) l) (sym s.back)
+          (plain_prefix rule (take m (chars near)) (drop m (chars near) ++ chars far) (chars bs) cs all (prefix_passes p (chars near)) h));
     }

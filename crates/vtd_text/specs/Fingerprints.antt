@@ -1,17 +1,17 @@
--- A fingerprint filter (this project's own): a table of slots, where each key has one slot and a mark in it, and keys
--- may share both.
-use Rattle.std.specs.Prelude.{ℕ, ◌+◌, ◌*◌, ◌%◌, ◌/◌, ◌^◌, ◌==◌, ◌||◌, Bool, List, fold}
-use Rattle.std.specs.List.{slice_index_or}
+-- A fingerprint filter (this project's own): a table of buckets of slots, where each key has one bucket and a mark in
+-- one of its slots, and keys may share both.
+use Rattle.std.specs.Prelude.{ℕ, ◌+◌, ◌*◌, ◌%◌, ◌/◌, ◌^◌, ◌==◌, ◌||◌, Bool, List, fold, take, drop}
+use Rattle.std.specs.List.{list_any}
 
 -- a key's fingerprint of 32 bits, from that of its bytes, or code points, before the last
 abbrev pub mixed : ℕ → ℕ → ℕ
 mixed sum byte = (sum * 0x9E37_79B1 + byte) % 2 ^ 32
 
--- the slot of a key: the upper half of its fingerprint with one byte more, so that the last byte says too
-abbrev pub slot_of : List ℕ → ℕ
-slot_of key = mixed (fold mixed 0 key) 0 / 2 ^ 16
+-- the bucket of a key: the upper bits of its fingerprint with one byte more, so that the last byte says too
+abbrev pub bucket_of : List ℕ → ℕ
+bucket_of key = mixed (fold mixed 0 key) 0 / 2 ^ 19
 
--- the mark of a key in its slot: from 1 to 65,521
+-- the mark of a key in its bucket: from 1 to 65,521
 abbrev pub mark_of : List ℕ → ℕ
 mark_of key = fold mixed 0 key % 65_521 + 1
 
@@ -19,6 +19,10 @@ mark_of key = fold mixed 0 key % 65_521 + 1
 abbrev pub is_mark_for : ℕ → ℕ → Bool
 is_mark_for mark held = held == mark || held == 65_535
 
+-- the sixteen slots of a bucket
+abbrev pub in_bucket : ℕ → List ℕ → List ℕ
+in_bucket bucket slots = take 16 (drop (16 * bucket) slots)
+
 -- whether a key may have been noted: where not, no key that is the same was
 abbrev pub is_taken : List ℕ → List ℕ → Bool
-is_taken slots key = is_mark_for (mark_of key) (slice_index_or slots (slot_of key) 0)
+is_taken slots key = list_any (is_mark_for (mark_of key)) (in_bucket (bucket_of key) slots)

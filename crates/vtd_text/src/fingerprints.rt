@@ -1,8 +1,9 @@
 //! A fingerprint filter: it notes keys, holds none of them, and says of a key whether it may have been noted. It sits
-//! on the stack, 128 KiB, and no call takes memory.
+//! on the stack, 256 KiB, and no call takes memory.
 #![tactic(auto)]
 
 ghost use Rattle.std.specs.Prelude.{◌≡◌, ◌+◌, ◌%◌, ◌<◌, ◌^◌, ◌/◌, ℕ, List, true, false, not, length, fold};
+ghost use Rattle.std.specs.List.{list_any};
 ghost use Rattle.vtd_text.specs.Fingerprints.{mixed, is_taken, is_mark_for};
 
 use crate::chars::Chars;
@@ -10,7 +11,11 @@ use std::marker::Model;
 use vtd_words::Words;
 
 /// How many slots a filter has.
-const SLOTS: usize = 65_536;
+const SLOTS: usize = 131_072;
+
+/// How many slots a bucket has. A key may be in any slot of its bucket, so that of 50,000 keys hardly any seems noted
+/// that is not.
+const BUCKET: usize = 16;
 
 /// What a slot holds that no key has taken.
 const FREE: u16 = 0;
@@ -46,13 +51,14 @@ pub fn mix_chars<W: Words>(chars: Chars<'_, W>) -> u64
     fingerprint
 }
 
-/// The slot of a key, by its fingerprint; the last byte of the key says too.
-fn slot_of(fingerprint: u64) -> u16
+/// The bucket of a key, by its fingerprint; the last byte of the key says too.
+fn bucket_of(fingerprint: u64) -> usize
     requires { fingerprint < 2 ^ 32 }
-    ensures { result ≡ mixed fingerprint 0 / 2 ^ 16 }
+    ensures bucket { result ≡ mixed fingerprint 0 / 2 ^ 19 }
+    ensures within { result < 8192 }
 {
     let upper = (fingerprint * 0x9E37_79B1) % (1 << 32);
-    (upper >> 16) as u16
+    (upper >> 19) as usize
 }
 
 /// The mark of a key, by its fingerprint.
@@ -80,9 +86,34 @@ fn taken_by(held: u16, mark: u16) -> u16
     SHARED
 }
 
+/// Whether a slot of a bucket stands for a mark.
+fn has_mark(bucket: &[u16], mark: u16) -> bool
+    ensures { result ≡ list_any (is_mark_for mark) bucket.now }
+{
+    for held in bucket {
+        if is_mark_for(mark, *held) {
+            return true;
+        }
+    }
+    false
+}
+
+/// The first slot of a bucket that no key has taken; else the last one.
+fn free_place(bucket: &[u16]) -> usize
+    requires { 0 < length bucket.now }
+    ensures { result < length bucket.now }
+{
+    for (place, held) in bucket.iter().enumerate() {
+        if *held == FREE {
+            return place;
+        }
+    }
+    bucket.len() - 1
+}
+
 /// A set of keys by their fingerprints. A key that was noted is never forgotten; a key that seems noted may be another
-/// one with the same slot and the same mark, or with a slot that keys of several marks share, so that whoever needs to
-/// know compares. Contracts see what the slots hold, and read it by `is_taken`.
+/// one with the same bucket and the same mark, or with a bucket one of whose slots keys of several marks share, so that
+/// whoever needs to know compares. Contracts see what the slots hold, and read it by `is_taken`.
 #[derive(Drop)]
 pub struct FingerprintFilter {
     slots: [u16; SLOTS],
@@ -109,8 +140,8 @@ impl FingerprintFilter {
         requires { fingerprint < 2 ^ 32 }
         ensures { (key : List ℕ) → fingerprint ≡ fold mixed 0 key → result ≡ is_taken self.now key }
     {
-        let held = self.slots[slot_of(fingerprint) as usize];
-        is_mark_for(mark_of(fingerprint), held)
+        let first = BUCKET * bucket_of(fingerprint);
+        has_mark(&self.slots[first..first + BUCKET], mark_of(fingerprint))
     }
 
     /// Notes a key of bytes; true where no key that was noted before is the same.
@@ -129,10 +160,14 @@ impl FingerprintFilter {
         ensures noted { (key : List ℕ) → fingerprint ≡ fold mixed 0 key → is_taken self.new key ≡ true }
         ensures kept { (other : List ℕ) → is_taken self.old other ≡ true → is_taken self.new other ≡ true }
     {
-        let slot = slot_of(fingerprint) as usize;
+        let first = BUCKET * bucket_of(fingerprint);
         let mark = mark_of(fingerprint);
-        let held = self.slots[slot];
-        self.slots[slot] = taken_by(held, mark);
-        !is_mark_for(mark, held)
+        let bucket = &self.slots[first..first + BUCKET];
+        if has_mark(bucket, mark) {
+            return false;
+        }
+        let slot = first + free_place(bucket);
+        self.slots[slot] = taken_by(self.slots[slot], mark);
+        true
     }
 }

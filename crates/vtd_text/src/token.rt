@@ -2,9 +2,9 @@
 #![tactic(auto)]
 
 ghost use Rattle.std.specs.Prelude.{◌≡◌, ℕ, cond, ◌==◌, ◌||◌, List, [], length, ◌<◌, ◌≤◌, IfSome, MatchOption, Some};
-ghost use Rattle.std.specs.Prelude.{not};
+ghost use Rattle.std.specs.Prelude.{not, take};
 ghost use Rattle.std.specs.List.{prefix_len};
-ghost use Rattle.std.specs.Str.{chars};
+ghost use Rattle.std.specs.Str.{chars, IsCharBoundary};
 ghost use Rattle.xml_model.specs.Content.{char_of};
 ghost use Rattle.xml_chars.specs.Readers.{Gives, mapped};
 ghost use Rattle.xml_chars.specs.Reading.{read_reference};
@@ -112,6 +112,18 @@ fn plain_len(rule: Rule, bytes: &[u8]) -> usize
     }
 }
 
+/// How many bytes of a text are looked through at once. A caller copies them while they are still in the processor's
+/// cache; of a long text the whole would have left it by then.
+const LOOK_AHEAD: usize = 16 * 1024;
+
+/// The longest prefix of a text that has at most `LOOK_AHEAD` bytes: a text is cut between two characters.
+fn near(text: &str) -> &str
+    ensures prefix { result.now ≡ take (length result.now) text.now }
+    ensures boundary { IsCharBoundary text.now (length result.now) }
+{
+    text.split_at(text.floor_char_boundary(LOOK_AHEAD)).0
+}
+
 /// What is left of a token.
 #[derive(Clone, Copy, Drop)]
 pub(crate) struct TokenChars<'a> {
@@ -132,15 +144,14 @@ impl<'a> TokenChars<'a> {
         Some(c)
     }
 
-    /// Takes a prefix, perhaps an empty one, whose characters stand for themselves.
+    /// Takes a prefix of at most `LOOK_AHEAD` bytes, perhaps an empty one, whose characters stand for themselves.
     pub(crate) fn next_plain(&mut self) -> &'a str
         ensures content { (content : List ℕ) → HasContent self.old.rule (chars self.old.text.now) content →
             LeavesRest self.old.rule content (chars result.now) (chars self.new.text.now) }
         ensures rule { self.new.rule ≡ self.old.rule }
     {
-        let (prefix, rest) = self
-            .text
-            .split_at(plain_len(self.rule, self.text.as_bytes()));
+        let plain = plain_len(self.rule, near(self.text).as_bytes());
+        let (prefix, rest) = self.text.split_at(plain);
         self.text = rest;
         prefix
     }

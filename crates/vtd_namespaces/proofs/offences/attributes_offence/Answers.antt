@@ -6,7 +6,7 @@ use Rattle.vtd_namespaces.specs.Scope.{tags_in}
 use Rattle.vtd_namespaces.proofs.SieveLemmas.{not_known, known_record}
 use Rattle.vtd_namespaces.proofs.AttributeLemmas.{attends}
 use Rattle.vtd_namespaces.proofs.InspectLemmas.{none_inspected, all_inspected, next_inspected, differ}
-use Rattle.vtd_namespaces.specs.Offences.{AreNearest, AreDeclarations}
+use Rattle.vtd_namespaces.specs.Offences.{AreNearest, AreNotes}
 use Rattle.vtd_namespaces.proofs.NotedLemmas.{nearest_for, nearest_more, declarations_more, nothing_noted}
 use Rattle.vtd_namespaces.proofs.offences.attributes_offence.Goals as goal
 
@@ -52,7 +52,7 @@ loop-parts-preserved g c =
           (nearest_more c.args.scope.now.table.now.bytes nest (x ∷ xs) x.tag.attributes n.done n.left n.attribute c.loop-parts.number c.loop-parts.noted c.prefix_declaration-declaration.result n.split n.many
           (nearest_for c.args.scope.now.table.now.bytes nest (x ∷ xs) c.in-Some.parts n.attribute c.prefix_declaration-declaration.result o (c.prefix_declaration-declaration.ensures.found nest (x ∷ xs) s n.attribute (known_record _ c.in-Some.parts n.attribute o)))
           (c.loop-parts.invariant.nearest nest x xs s e at hold h));
-      noted_are = subst (AreDeclarations c.args.scope.now.table.now.bytes (g.W.Words.lists c.args.scope.now.table.now.words)) (sym c.note.ensures)
+      noted_are = subst (AreNotes c.args.scope.now.table.now.bytes (g.W.Words.lists c.args.scope.now.table.now.words)) (sym c.note.ensures)
           (declarations_more c.args.scope.now.table.now.bytes (g.W.Words.lists c.args.scope.now.table.now.words) c.loop-parts.noted c.loop-parts.number c.prefix_declaration-declaration.result c.prefix_declaration-declaration.ensures.declares c.loop-parts.invariant.noted_are);
     }
 

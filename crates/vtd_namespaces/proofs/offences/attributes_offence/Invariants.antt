@@ -8,7 +8,7 @@ use Rattle.vtd_namespaces.specs.NameRecords.{AreAttributeRecords}
 use Rattle.vtd_namespaces.specs.Scope.{tags_in}
 use Rattle.vtd_namespaces.specs.Memos.{IsMemoOf}
 use Rattle.vtd_namespaces.specs.Reach.{IsScope}
-use Rattle.vtd_namespaces.specs.Offences.{AreNearest, AreDeclarations}
+use Rattle.vtd_namespaces.specs.Offences.{AreNearest, AreNotes}
 use Rattle.vtd_namespaces.proofs.InspectLemmas.{Inspected}
 use Rattle.vtd_namespaces.proofs.offences.attributes_offence.Given as goal
 
@@ -23,7 +23,7 @@ invariant-loop-parts g l = record {
   nearest : (nest : Forest) (x : Holder) (xs : List Holder) → IsScope l.scope.table.now.bytes (g.W.Words.lists l.scope.table.now.words) l.scope.open_tags.now l.scope.depth nest (x ∷ xs) → l.first ≡ x.index + 1 →
       (at : ℕ) → AreAttributeRecords l.scope.table.now.bytes (records nest (first_place l.scope.table.now.bytes)) l.first at x.tag.attributes → repeated at [] x.tag.attributes ≡ [] →
       AreNearest l.scope.table.now.bytes nest (x ∷ xs) x.tag.attributes l.number l.noted;
-  noted_are : AreDeclarations l.scope.table.now.bytes (g.W.Words.lists l.scope.table.now.words) l.noted;
+  noted_are : AreNotes l.scope.table.now.bytes (g.W.Words.lists l.scope.table.now.words) l.noted;
 }
 
 abbrev pub decreases-loop-parts : goal.decreases-loop-parts

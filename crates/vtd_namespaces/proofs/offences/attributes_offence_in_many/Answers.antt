@@ -6,23 +6,25 @@ use Rattle.vtd_namespaces.specs.Scope.{tags_in}
 use Rattle.vtd_namespaces.proofs.AttributeLemmas.{attends}
 use Rattle.vtd_namespaces.proofs.InspectLemmas.{none_inspected, all_inspected, next_inspected, differ}
 use Rattle.vtd_namespaces.proofs.SieveLemmas.{known_new, known_record, noted_more}
-use Rattle.vtd_namespaces.specs.Offences.{AreNearest, AreDeclarations}
+use Rattle.vtd_namespaces.specs.Offences.{AreNearest, AreNotes}
 use Rattle.vtd_namespaces.proofs.NotedLemmas.{nearest_for, nearest_more, declarations_more, nothing_noted}
+use Rattle.vtd_namespaces.proofs.WindowLemmas.{no_window}
 use Rattle.vtd_namespaces.proofs.offences.attributes_offence_in_many.Goals as goal
 
 pub loop-parts-init : goal.loop-parts-init
 loop-parts-init g c = record {
-  known = c.requires.known;
+  window = no_window _ _ _ _ _ c.empty_window-window.result.start c.empty_window-window.result.end c.empty_window-window.result.found c.empty_window-window.ensures.end c.empty_window-window.ensures.none;
+  from = omega (arith, c.empty_window-window.ensures.start);
   room = omega arith;
   bound = omega arith;
   inspected = λ nest x xs s e at hold h. none_inspected c.args.scope.now.table.now.bytes (records nest (first_place c.args.scope.now.table.now.bytes)) c.args.first at (tags_in (x ∷ xs)) x.tag.attributes hold;
   noted = λ nest x xs s e at hold h. tt;
   nearest = λ nest x xs s e at hold h m d l. let z : ⊥ = omega (arith, l) in absurd z;
-  noted_are = nothing_noted c.args.scope.now.table.now.bytes (g.W.Words.lists c.args.scope.now.table.now.words) 65536;
+  noted_are = nothing_noted c.args.scope.now.table.now.bytes (g.W.Words.lists c.args.scope.now.table.now.words) 98304;
 }
 
-pub returns-then-attribute_offends-clause-offence : goal.returns-then-attribute_offends-clause-offence
-returns-then-attribute_offends-clause-offence g c = λ nest x xs s e at hold h.
+pub returns-then-attribute_offends : goal.returns-then-attribute_offends
+returns-then-attribute_offends g c = λ nest x xs s e at hold h.
     let here = rw c.words.ensures.value at c.in-Some.ensures.some in
     let rs = records nest (first_place c.args.scope.now.table.now.bytes) in
     let n = next_inspected c.args.scope.now.table.now.bytes rs c.args.first c.loop-parts.number at (tags_in (x ∷ xs)) x.tag.attributes c.in-Some.parts (c.loop-parts.invariant.inspected nest x xs s e at hold h) (here rs (nest_shown _ _ nest s.few s.shown)) c.in-Some.ensures.kind in
@@ -30,14 +32,15 @@ returns-then-attribute_offends-clause-offence g c = λ nest x xs s e at hold h.
     n.hit
     (sym (c.attribute_offends.ensures nest x xs s e n.done n.left n.attribute n.split n.many (c.loop-parts.invariant.nearest nest x xs s e at hold h) n.fine (differ c.args.scope.now.table.now.bytes rs c.args.first c.loop-parts.number at (tags_in (x ∷ xs)) x.tag.attributes c.in-Some.parts n h)
     (λ k some. known_new (tags_in (x ∷ xs)) c.loop-parts.filter x.tag.attributes n.done n.left n.attribute c.loop-parts.number n.split n.many (c.loop-parts.invariant.noted nest x xs s e at hold h)
-    (c.note_attribute-is_new.ensures.new nest (x ∷ xs) s n.attribute o.token (known_record _ c.in-Some.parts n.attribute o) (c.prefix_declaration-declaration.ensures.found nest (x ∷ xs) s n.attribute (known_record _ c.in-Some.parts n.attribute o)) k) some) (c.prefix_declaration-declaration.ensures.found nest (x ∷ xs) s n.attribute (known_record _ c.in-Some.parts n.attribute o)))
+    (c.note_attribute-is_new.ensures.new nest (x ∷ xs) s n.attribute o.token (known_record _ c.in-Some.parts n.attribute o) (c.declaration_in_window-declaration.ensures.found nest (x ∷ xs) s n.attribute (known_record _ c.in-Some.parts n.attribute o)) k) some) (c.declaration_in_window-declaration.ensures.found nest (x ∷ xs) s n.attribute (known_record _ c.in-Some.parts n.attribute o)))
     ∙ c.if-attribute_offends.true)
 
 pub loop-parts-preserved : goal.loop-parts-preserved
 loop-parts-preserved g c =
     let room = rw c.words.ensures.value at c.in-Some.ensures.room in
     record {
-      known = c.prefix_declaration-declaration.ensures.known;
+      window = c.declaration_in_window-declaration.ensures.filled;
+      from = omega (arith, c.declaration_in_window-declaration.ensures.start);
       room = omega (arith, room);
       bound = omega (arith, c.in-Some.ensures.bound);
       inspected = λ nest x xs s e at hold h.
@@ -48,7 +51,7 @@ loop-parts-preserved g c =
           n.miss
           (sym (c.attribute_offends.ensures nest x xs s e n.done n.left n.attribute n.split n.many (c.loop-parts.invariant.nearest nest x xs s e at hold h) n.fine (differ c.args.scope.now.table.now.bytes rs c.args.first c.loop-parts.number at (tags_in (x ∷ xs)) x.tag.attributes c.in-Some.parts n h)
           (λ k some. known_new (tags_in (x ∷ xs)) c.loop-parts.filter x.tag.attributes n.done n.left n.attribute c.loop-parts.number n.split n.many (c.loop-parts.invariant.noted nest x xs s e at hold h)
-          (c.note_attribute-is_new.ensures.new nest (x ∷ xs) s n.attribute o.token (known_record _ c.in-Some.parts n.attribute o) (c.prefix_declaration-declaration.ensures.found nest (x ∷ xs) s n.attribute (known_record _ c.in-Some.parts n.attribute o)) k) some) (c.prefix_declaration-declaration.ensures.found nest (x ∷ xs) s n.attribute (known_record _ c.in-Some.parts n.attribute o)))
+          (c.note_attribute-is_new.ensures.new nest (x ∷ xs) s n.attribute o.token (known_record _ c.in-Some.parts n.attribute o) (c.declaration_in_window-declaration.ensures.found nest (x ∷ xs) s n.attribute (known_record _ c.in-Some.parts n.attribute o)) k) some) (c.declaration_in_window-declaration.ensures.found nest (x ∷ xs) s n.attribute (known_record _ c.in-Some.parts n.attribute o)))
           ∙ c.if-attribute_offends.false);
       noted = λ nest x xs s e at hold h.
           let here = rw c.words.ensures.value at c.in-Some.ensures.some in
@@ -56,22 +59,22 @@ loop-parts-preserved g c =
           let n = next_inspected c.args.scope.now.table.now.bytes rs c.args.first c.loop-parts.number at (tags_in (x ∷ xs)) x.tag.attributes c.in-Some.parts (c.loop-parts.invariant.inspected nest x xs s e at hold h) (here rs (nest_shown _ _ nest s.few s.shown)) c.in-Some.ensures.kind in
           let o = (attends _ _ _ _ nest x xs s c.args.first c.loop-parts.number e n.done n.left n.attribute n.split n.many c.in-Some.parts here).other in
           noted_more (tags_in (x ∷ xs)) c.loop-parts.filter c.note_attribute-is_new.new.filter x.tag.attributes n.done n.left n.attribute c.loop-parts.number n.split n.many c.note_attribute-is_new.ensures.kept (c.loop-parts.invariant.noted nest x xs s e at hold h)
-          (c.note_attribute-is_new.ensures.noted nest (x ∷ xs) s n.attribute o.token (known_record _ c.in-Some.parts n.attribute o) (c.prefix_declaration-declaration.ensures.found nest (x ∷ xs) s n.attribute (known_record _ c.in-Some.parts n.attribute o)));
+          (c.note_attribute-is_new.ensures.noted nest (x ∷ xs) s n.attribute o.token (known_record _ c.in-Some.parts n.attribute o) (c.declaration_in_window-declaration.ensures.found nest (x ∷ xs) s n.attribute (known_record _ c.in-Some.parts n.attribute o)));
       nearest = λ nest x xs s e at hold h.
           let here = rw c.words.ensures.value at c.in-Some.ensures.some in
           let rs = records nest (first_place c.args.scope.now.table.now.bytes) in
           let n = next_inspected c.args.scope.now.table.now.bytes rs c.args.first c.loop-parts.number at (tags_in (x ∷ xs)) x.tag.attributes c.in-Some.parts (c.loop-parts.invariant.inspected nest x xs s e at hold h) (here rs (nest_shown _ _ nest s.few s.shown)) c.in-Some.ensures.kind in
           let o = (attends _ _ _ _ nest x xs s c.args.first c.loop-parts.number e n.done n.left n.attribute n.split n.many c.in-Some.parts here).other in
           subst (AreNearest c.args.scope.now.table.now.bytes nest (x ∷ xs) x.tag.attributes (c.loop-parts.number + 1)) (sym c.note.ensures)
-          (nearest_more c.args.scope.now.table.now.bytes nest (x ∷ xs) x.tag.attributes n.done n.left n.attribute c.loop-parts.number c.loop-parts.noted c.prefix_declaration-declaration.result n.split n.many
-          (nearest_for c.args.scope.now.table.now.bytes nest (x ∷ xs) c.in-Some.parts n.attribute c.prefix_declaration-declaration.result o (c.prefix_declaration-declaration.ensures.found nest (x ∷ xs) s n.attribute (known_record _ c.in-Some.parts n.attribute o)))
+          (nearest_more c.args.scope.now.table.now.bytes nest (x ∷ xs) x.tag.attributes n.done n.left n.attribute c.loop-parts.number c.loop-parts.noted c.declaration_in_window-declaration.result n.split n.many
+          (nearest_for c.args.scope.now.table.now.bytes nest (x ∷ xs) c.in-Some.parts n.attribute c.declaration_in_window-declaration.result o (c.declaration_in_window-declaration.ensures.found nest (x ∷ xs) s n.attribute (known_record _ c.in-Some.parts n.attribute o)))
           (c.loop-parts.invariant.nearest nest x xs s e at hold h));
-      noted_are = subst (AreDeclarations c.args.scope.now.table.now.bytes (g.W.Words.lists c.args.scope.now.table.now.words)) (sym c.note.ensures)
-          (declarations_more c.args.scope.now.table.now.bytes (g.W.Words.lists c.args.scope.now.table.now.words) c.loop-parts.noted c.loop-parts.number c.prefix_declaration-declaration.result c.prefix_declaration-declaration.ensures.declares c.loop-parts.invariant.noted_are);
+      noted_are = subst (AreNotes c.args.scope.now.table.now.bytes (g.W.Words.lists c.args.scope.now.table.now.words)) (sym c.note.ensures)
+          (declarations_more c.args.scope.now.table.now.bytes (g.W.Words.lists c.args.scope.now.table.now.words) c.loop-parts.noted c.loop-parts.number c.declaration_in_window-declaration.result c.declaration_in_window-declaration.ensures.declares c.loop-parts.invariant.noted_are);
     }
 
-pub returns-clause-offence : goal.returns-clause-offence
-returns-clause-offence g c = λ nest x xs s e at hold h.
+pub returns : goal.returns
+returns g c = λ nest x xs s e at hold h.
     let none = rw c.words.ensures.value at c.in_default.ensures.none in
     let rs = records nest (first_place c.args.scope.now.table.now.bytes) in
     all_inspected c.args.scope.now.table.now.bytes rs c.args.first c.loop-parts.number at (tags_in (x ∷ xs)) x.tag.attributes (c.loop-parts.invariant.inspected nest x xs s e at hold h) (none rs (nest_shown _ _ nest s.few s.shown))

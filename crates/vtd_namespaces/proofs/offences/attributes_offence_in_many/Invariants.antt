@@ -7,16 +7,17 @@ use Rattle.std.specs.List.{AllByRecursion}
 use Rattle.xml_model.specs.Accepted.{repeated}
 use Rattle.vtd_namespaces.specs.NameRecords.{AreAttributeRecords}
 use Rattle.vtd_namespaces.specs.Scope.{tags_in}
-use Rattle.vtd_namespaces.specs.Memos.{IsMemoOf}
 use Rattle.vtd_namespaces.specs.Reach.{IsScope}
 use Rattle.vtd_namespaces.specs.Offences.{IsNoted}
-use Rattle.vtd_namespaces.specs.Offences.{AreNearest, AreDeclarations}
+use Rattle.vtd_namespaces.specs.Offences.{AreNearest, AreNotes}
+use Rattle.vtd_namespaces.specs.Windows.{IsWindow}
 use Rattle.vtd_namespaces.proofs.InspectLemmas.{Inspected}
 use Rattle.vtd_namespaces.proofs.offences.attributes_offence_in_many.Given as goal
 
 abbrev pub invariant-loop-parts : goal.invariant-loop-parts
 invariant-loop-parts g l = record {
-  known : IsMemoOf l.scope.table.now.bytes (g.W.Words.lists l.scope.table.now.words).records l.memo;
+  window : IsWindow l.scope.table.now.bytes (g.W.Words.lists l.scope.table.now.words) l.scope.open_tags.now l.scope.depth l.first l.window.start l.window.end l.window.found;
+  from : l.window.start ≤ l.number;
   room : l.first + 2 * l.number ≤ length (g.W.Words.lists l.scope.table.now.words).records;
   bound : l.first + 2 * l.number < 2 ^ 32;
   inspected : (nest : Forest) (x : Holder) (xs : List Holder) → IsScope l.scope.table.now.bytes (g.W.Words.lists l.scope.table.now.words) l.scope.open_tags.now l.scope.depth nest (x ∷ xs) → l.first ≡ x.index + 1 →
@@ -28,7 +29,7 @@ invariant-loop-parts g l = record {
   nearest : (nest : Forest) (x : Holder) (xs : List Holder) → IsScope l.scope.table.now.bytes (g.W.Words.lists l.scope.table.now.words) l.scope.open_tags.now l.scope.depth nest (x ∷ xs) → l.first ≡ x.index + 1 →
       (at : ℕ) → AreAttributeRecords l.scope.table.now.bytes (records nest (first_place l.scope.table.now.bytes)) l.first at x.tag.attributes → repeated at [] x.tag.attributes ≡ [] →
       AreNearest l.scope.table.now.bytes nest (x ∷ xs) x.tag.attributes l.number l.noted;
-  noted_are : AreDeclarations l.scope.table.now.bytes (g.W.Words.lists l.scope.table.now.words) l.noted;
+  noted_are : AreNotes l.scope.table.now.bytes (g.W.Words.lists l.scope.table.now.words) l.noted;
 }
 
 abbrev pub decreases-loop-parts : goal.decreases-loop-parts
