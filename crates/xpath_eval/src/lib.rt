@@ -2,6 +2,8 @@
 #![tactic(auto)]
 
 mod entry;
+mod parts;
 mod recursion;
+mod signs;
 
 pub use entry::evaluate;

@@ -1,30 +1,35 @@
 //! The value of an expression, part by part.
 
-ghost use Rattle.std.specs.Prelude.{◌≡◌, true, length, IfOk};
+ghost use Rattle.std.specs.Prelude.{◌≡◌, true, length, IfOk, None};
 ghost use Rattle.xml_model.specs.declared.Axis.TheVariants as axes;
 ghost use Rattle.xpath_tokens.specs.declared.StepAxis.TheVariants.{Known};
 ghost use Rattle.xpath_grammar.specs.declared.expr.StepTest.TheVariants as written;
+ghost use Rattle.xpath_grammar.specs.Checking.{prefix_of};
 ghost use Rattle.xpath_grammar.specs.Tree.{none, tree_of, trees_of, walk_of};
 ghost use Rattle.xpath_values.specs.Answers.{and_then};
 ghost use Rattle.xpath_meaning.specs.Meaning.{mean, filtered, walked, listed, kept, step_from};
 ghost use Rattle.xpath_meaning.specs.Scope.{AreFewOf, AreValuesOf, Finds, IsOf, IsPlace, ListMeans, Means, source_of};
 ghost use Rattle.xpath_predicates.specs.Asks.{PassesAt};
 ghost use Rattle.xpath_sweeps.specs.Sweeps.{is_sweep};
+ghost use Rattle.xpath_eval.specs.Parts.{Follows, after_first};
 
+use crate::parts::first_part;
+use crate::signs::{after_signs, signed};
 use vtd_words::Words;
 use xml_model::{Axis, Node, NodeList};
 use xpath_calls::answered;
 use xpath_grammar::{Expr, Exprs, StepAxis, StepTest, Steps};
 use xpath_meaning::{
-    Place, Scope, Values, append, keep, literal, negated, no_nodes, no_values, nodes_in,
-    nodes_value, numeral, operated, place_at, start, truth_value, with_value,
+    Place, Scope, Values, append, keep, literal, no_nodes, no_values, nodes_in, nodes_value,
+    numeral, operated, place_at, start, truth_value, with_value,
 };
 use xpath_nodes::{Walker, compared, in_order, united};
 use xpath_predicates::passes;
 use xpath_sweeps::{is_scan, is_sweep, step_all, stepped_to, takes_first};
 use xpath_values::{Value, ValueFault, truth_of};
 
-/// The value of an expression at a place.
+/// The value of an expression at a place. What is left to do once its first part has a value has functions of its own,
+/// which are not put in line, so that a chain of operators takes little stack for each.
 #[cycle(evaluation)]
 pub fn value_at<W: Words>(
     scope: &Scope<'_, '_, W>,
@@ -38,64 +43,108 @@ pub fn value_at<W: Words>(
     ensures of { IfOk result (IsOf scope.now) }
     ensures walker { walker.new ≡ walker.old }
 {
+    match first_part(expr) {
+        Some(part) => {
+            let first = value_at(scope, walker, place, part)?;
+            value_after(scope, walker, place, expr, first)
+        }
+        None => other_value(scope, walker, place, expr),
+    }
+}
+
+/// The value of an expression whose first part has this value, at a place.
+#[cycle(evaluation)]
+#[inline(never)]
+fn value_after<W: Words>(
+    scope: &Scope<'_, '_, W>,
+    walker: &mut Walker<'_, '_, W>,
+    place: Place,
+    expr: &Expr,
+    first: Value,
+) -> Result<Value, ValueFault>
+    requires place { IsPlace scope.now place }
+    requires first { IsOf scope.now first }
+    requires walker { walker.old ≡ source_of scope.now }
+    ensures follows { Follows scope.now place first result (after_first (tree_of expr.now)) }
+    ensures of { IfOk result (IsOf scope.now) }
+    ensures walker { walker.new ≡ walker.old }
+{
     match expr {
-        Expr::Or(left, right) => {
-            let left = value_at(scope, walker, place, left)?;
-            if truth_of(&left) {
+        Expr::Or(_, right) => {
+            if truth_of(&first) {
                 return truth_value(scope, Ok(true));
             }
-            let right = value_at(scope, walker, place, right)?;
-            truth_value(scope, Ok(truth_of(&right)))
+            let second = value_at(scope, walker, place, right)?;
+            truth_value(scope, Ok(truth_of(&second)))
         }
-        Expr::And(left, right) => {
-            let left = value_at(scope, walker, place, left)?;
-            if !truth_of(&left) {
+        Expr::And(_, right) => {
+            if !truth_of(&first) {
                 return truth_value(scope, Ok(false));
             }
-            let right = value_at(scope, walker, place, right)?;
-            truth_value(scope, Ok(truth_of(&right)))
+            let second = value_at(scope, walker, place, right)?;
+            truth_value(scope, Ok(truth_of(&second)))
         }
-        Expr::Compare(how, left, right) => {
-            let left = value_at(scope, walker, place, left)?;
-            let right = value_at(scope, walker, place, right)?;
-            compared(scope, *how, left, right)
+        Expr::Compare(how, _, right) => {
+            let second = value_at(scope, walker, place, right)?;
+            compared(scope, *how, first, second)
         }
-        Expr::Arithmetic(how, left, right) => {
-            let left = value_at(scope, walker, place, left)?;
-            let right = value_at(scope, walker, place, right)?;
-            operated(scope, *how, left, right)
+        Expr::Arithmetic(how, _, right) => {
+            let second = value_at(scope, walker, place, right)?;
+            operated(scope, *how, first, second)
         }
+        Expr::Union(_, right) => {
+            let second = value_at(scope, walker, place, right)?;
+            united(scope, first, second)
+        }
+        Expr::From { start: _, steps } => {
+            let found = walked(scope, walker, nodes_in(scope, first), steps)?;
+            Ok(nodes_value(scope, found))
+        }
+        Expr::Filter {
+            start: _,
+            predicates,
+        } => {
+            let found = filtered(scope, walker, nodes_in(scope, first), predicates)?;
+            Ok(nodes_value(scope, found))
+        }
+        _ => Ok(first),
+    }
+}
+
+/// The value of an expression that has no other at its start, at a place. A variable is refused before.
+#[cycle(evaluation)]
+#[inline(never)]
+fn other_value<W: Words>(
+    scope: &Scope<'_, '_, W>,
+    walker: &mut Walker<'_, '_, W>,
+    place: Place,
+    expr: &Expr,
+) -> Result<Value, ValueFault>
+    requires place { IsPlace scope.now place }
+    requires first { prefix_of (tree_of expr.now) ≡ None }
+    requires walker { walker.old ≡ source_of scope.now }
+    ensures means { Means scope.now place result (mean (tree_of expr.now)) }
+    ensures of { IfOk result (IsOf scope.now) }
+    ensures walker { walker.new ≡ walker.old }
+{
+    match expr {
         Expr::Negate(inner) => {
-            let value = value_at(scope, walker, place, inner)?;
-            negated(scope, value)
-        }
-        Expr::Union(left, right) => {
-            let left = value_at(scope, walker, place, left)?;
-            let right = value_at(scope, walker, place, right)?;
-            united(scope, left, right)
+            let (is_odd, part) = after_signs(inner);
+            let value = value_at(scope, walker, place, part)?;
+            signed(scope, is_odd, value)
         }
         Expr::Path { absolute, steps } => {
             let nodes = start(scope, place, *absolute)?;
             let found = walked(scope, walker, nodes, steps)?;
             Ok(nodes_value(scope, found))
         }
-        Expr::From { start, steps } => {
-            let value = value_at(scope, walker, place, start)?;
-            let found = walked(scope, walker, nodes_in(scope, value), steps)?;
-            Ok(nodes_value(scope, found))
-        }
-        Expr::Filter { start, predicates } => {
-            let value = value_at(scope, walker, place, start)?;
-            let found = filtered(scope, walker, nodes_in(scope, value), predicates)?;
-            Ok(nodes_value(scope, found))
-        }
         Expr::Literal(text) => literal(scope, text),
         Expr::Number(spelling) => numeral(scope, spelling),
-        Expr::Variable(_) => Ok(nodes_value(scope, no_nodes(scope))),
         Expr::Call { name, arguments } => {
             let values = values_at(scope, walker, place, arguments, no_values(scope))?;
             answered(scope, walker, place, name, values)
         }
+        _ => Ok(nodes_value(scope, no_nodes(scope))),
     }
 }
 
@@ -115,14 +164,14 @@ fn values_at<W: Words>(
     ensures of { IfOk result (AreValuesOf scope.now) }
     ensures walker { walker.new ≡ walker.old }
 {
-    match list {
-        Exprs::End => Ok(done),
-        Exprs::More(first, rest) => {
-            let value = value_at(scope, walker, place, first)?;
-            let done = with_value(scope, done, value)?;
-            values_at(scope, walker, place, rest, done)
-        }
+    let mut values = done;
+    let mut rest = list;
+    while let Exprs::More(first, after) = rest {
+        let value = value_at(scope, walker, place, first)?;
+        values = with_value(scope, values, value)?;
+        rest = after;
     }
+    Ok(values)
 }
 
 /// The nodes that steps find from some nodes.
@@ -139,32 +188,33 @@ fn walked<W: Words>(
     ensures of { IfOk result (AreFewOf scope.now) }
     ensures walker { walker.new ≡ walker.old }
 {
-    match steps {
-        Steps::End => Ok(nodes),
-        Steps::More(step, rest) => {
-            if let Steps::More(after, others) = &**rest {
-                if is_scan(nodes.held.as_slice(), step, after) {
-                    let found = scanned(
-                        scope,
-                        walker,
-                        nodes.held.as_slice(),
-                        &after.test,
-                        &after.predicates,
-                    )?;
-                    return walked(scope, walker, found, others);
-                }
+    let mut found = nodes;
+    let mut rest = steps;
+    while let Steps::More(step, after) = rest {
+        if let Steps::More(second, others) = &**after {
+            if is_scan(found.held.as_slice(), step, second) {
+                found = scanned(
+                    scope,
+                    walker,
+                    found.held.as_slice(),
+                    &second.test,
+                    &second.predicates,
+                )?;
+                rest = others;
+                continue;
             }
-            let found = step_from(
-                scope,
-                walker,
-                nodes.held.as_slice(),
-                step.axis,
-                &step.test,
-                &step.predicates,
-            )?;
-            walked(scope, walker, found, rest)
         }
+        found = step_from(
+            scope,
+            walker,
+            found.held.as_slice(),
+            step.axis,
+            &step.test,
+            &step.predicates,
+        )?;
+        rest = after;
     }
+    Ok(found)
 }
 
 /// The nodes that the step to each node below or at some nodes, and then one to children, find: all of them first, and
@@ -297,13 +347,13 @@ fn filtered<W: Words>(
     ensures of { IfOk result (AreFewOf scope.now) }
     ensures walker { walker.new ≡ walker.old }
 {
-    match predicates {
-        Exprs::End => Ok(nodes),
-        Exprs::More(first, rest) => {
-            let found = kept(scope, walker, nodes.held.as_slice(), first)?;
-            filtered(scope, walker, found, rest)
-        }
+    let mut found = nodes;
+    let mut rest = predicates;
+    while let Exprs::More(first, after) = rest {
+        found = kept(scope, walker, found.held.as_slice(), first)?;
+        rest = after;
     }
+    Ok(found)
 }
 
 /// The nodes that a predicate passes.
