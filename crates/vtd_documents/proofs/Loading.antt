@@ -1,17 +1,17 @@
 -- A file loads one document, or has one fault.
-use Rattle.std.proofs.Common.{◌⊎◌, ◌≡◌, ◌↔◌, ℕ, List, inl, inr, refl, subst}
+use Rattle.std.proofs.Common.{◌⊎◌, ◌≡◌, ◌↔◌, ℕ, false, List, Result, Ok, Err, IfOk, IfErr, inl, inr, refl, subst}
 use Rattle.vtd_words.specs.Numbers.{AreBytes}
 use Rattle.vtd_index.specs.Index.{IsFault, IsFileBy, IsIndexBy}
 use Rattle.vtd_index.specs.Opening.{IsLoadFault, IsOpened}
 use Rattle.vtd_index.specs.declared.faults.IndexFault.{IndexFault}
 use Rattle.vtd_index.specs.declared.head.Version.{Version}
 use Rattle.vtd_index.specs.declared.head.Version.TheVariants.{One, Two}
-use Rattle.vtd_builder.specs.Documents.{Document}
 use Rattle.vtd_index.specs.declared.opening.Opened.{Opened}
 use Rattle.vtd_index.specs.declared.opening.Opened.TheVariants as opens
 use Rattle.vtd_index.specs.declared.opening.LoadFault.{LoadFault}
 use Rattle.vtd_index.specs.declared.opening.LoadFault.TheVariants as loads
 use Rattle.vtd_index.proofs.Verdicts.{not_both, one_document, one_version, some_answer}
+use Rattle.vtd_held.specs.Holding.{is_filed, opened_bytes}
 use Rattle.vtd_documents.specs.Loads.{IsFileOf}
 
 pub file_of_index : (version : Version) (file bytes : List ℕ) → IsIndexBy version file bytes → IsFileOf file bytes
@@ -44,15 +44,23 @@ pub load_fault : (file : List ℕ) (given : LoadFault) → ((fault : IndexFault)
 load_fault file (loads.Index fault) f m = (f fault).0 refl
 load_fault file loads.NoMemory f m = m refl
 
--- a file that was opened, by its case
-pub view_loaded : (file : List ℕ) (given : Opened) (held : Document) → given ≡ opens.View held → IsOpened file given → IsFileOf file held.bytes
-view_loaded file given held e h =
-    let P : Opened → Type 0 = λ x. IsOpened file x in
-    let v = subst P e h in
-    file_of_index Two file held.bytes v.index
+-- what a call answers of a file
+pub load_faults : {T B : Type 0} (file : List ℕ) (result : Result T (B × LoadFault))
+    → IfErr result (λ e. (fault : IndexFault) → (e.1 ≡ loads.Index fault) ↔ IsFault file fault)
+    → IfErr result (λ e. e.1 ≡ loads.NoMemory → IsFileBy One file) → IfErr result (λ e. IsLoadFault file e.1)
+load_faults file (Ok held) f m = tt
+load_faults file (Err e) f m = load_fault file e.1 f m
 
-pub built_loaded : (file : List ℕ) (given : Opened) (held : Document) → given ≡ opens.Built held → IsOpened file given → IsFileOf file held.bytes
-built_loaded file given held e h =
-    let P : Opened → Type 0 = λ x. IsOpened file x in
-    let v = subst P e h in
-    file_of_index One file held.bytes v.index
+opened_file : (file : List ℕ) (held : Opened) → IsOpened file held → IsFileOf file (opened_bytes held)
+opened_file file (opens.View loaded) h = file_of_index Two file loaded.bytes h.index
+opened_file file (opens.Built doc) h = file_of_index One file doc.bytes h.index
+
+pub load_answer : {E : Type 0} (file : List ℕ) (result : Result Opened E) → IfOk result (IsOpened file)
+    → IfOk result (λ held. IsFileOf file (opened_bytes held))
+load_answer file (Ok held) h = opened_file file held h
+load_answer file (Err e) h = tt
+
+-- what was copied came of a file of the first version
+pub copied_file : (file : List ℕ) (held : Opened) → is_filed held ≡ false → IsOpened file held → IsLoadFault file loads.NoMemory
+copied_file file (opens.View loaded) e h = absurd (cc)
+copied_file file (opens.Built doc) e h = (doc.bytes, h.index)

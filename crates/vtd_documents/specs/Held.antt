@@ -6,13 +6,6 @@ use Rattle.xml_model.specs.Accepted.{Accepted}
 use Rattle.vtd_listing.specs.Nodes.{node_listing}
 use Rattle.vtd_listing.specs.Escapes.{value_line}
 use Rattle.xpath_values.specs.Values.{Meant, string_of}
-use Rattle.vtd_documents.specs.declared.document.Kept.{Kept}
-use Rattle.vtd_documents.specs.declared.document.Kept.TheVariants as kept
-
--- the bytes of a document, wherever they are
-abbrev pub bytes_of : Kept → List ℕ
-bytes_of (kept.Built doc) = doc.bytes
-bytes_of (kept.Filed loaded) = loaded.bytes
 
 -- The bytes are accepted whole, and this holds of their nest.
 abbrev pub OfNest : List ℕ → (Forest → Type 0) → Type 0

@@ -15,7 +15,8 @@ ghost use Rattle.vtd_queries.specs.Operations.{Operates};
 ghost use Rattle.vtd_queries.specs.Questions.{Asks, AsksNodes};
 ghost use Rattle.vtd_documents.specs.Held.{AreLines, IsLine, OfNest};
 ghost use Rattle.vtd_documents.specs.Loads.{IsFileOf};
-ghost use Rattle.vtd_index.specs.Opening.{IsLoadFault};
+ghost use Rattle.vtd_held.specs.Holding.{opened_bytes, shown_bytes};
+ghost use Rattle.vtd_index.specs.Opening.{IsLoadFault, IsOpened};
 
 use crate::answers::{
     length_of_index, line_of_string, lines_of_elements, lines_of_nodes, operate_on, record_count,
@@ -23,37 +24,28 @@ use crate::answers::{
 };
 use std::alloc::Global;
 use std::marker::Model;
-use vtd_builder::Doc;
-use vtd_index::{LoadFault, Loaded, Opened, open_index};
+use vtd_held::Shown;
+use vtd_index::{LoadFault, Opened, open_index};
 use vtd_modifier::Operation;
 use vtd_outside::{Failed, Files};
 use vtd_queries::{Operated, OperationFault, QueryFault};
 use xml_model::{Bytes, NoMemory};
 use xpath_grammar::Bindings;
 
-/// Where a document and its words are.
-#[derive(Drop)]
-enum Kept {
-    /// The words were built of the bytes.
-    Built(Doc),
-    /// Both lie in an index file.
-    Filed(Loaded),
-}
-
 /// A document of fewer than 2 to the power 30 bytes that no check refuses, whose words were built or lie in an index
-/// file. Contracts see its bytes.
+/// file, lent. Contracts see its bytes.
 #[derive(Drop)]
-pub struct Document {
-    kept: Kept,
+pub struct Document<'a> {
+    shown: Shown<'a>,
 }
 
-impl Model for Document {
+impl<'a> Model for Document<'a> {
     ghost use Rattle.std.specs.Prelude.{ℕ, List};
-    ghost use Rattle.vtd_documents.specs.Held.{bytes_of};
+    ghost use Rattle.vtd_held.specs.Holding.{shown_bytes};
 
     ghost Value = { List ℕ };
 
-    ghost view = { λ d. bytes_of d.kept };
+    ghost view = { λ d. shown_bytes d.shown };
 }
 
 /// Nothing is done: what a file holds are bytes.
@@ -61,37 +53,30 @@ fn of_bytes(file: &[u8])
     ensures { AreBytes file.now }
 {}
 
-impl Document {
-    /// A document that was built.
-    pub fn built(doc: Doc) -> Document
-        ensures { result ≡ doc.bytes }
-    {
-        Document {
-            kept: Kept::Built(doc),
-        }
-    }
+/// The document of an index file. The words of a file of the second version stay where they lie: it takes no memory, and
+/// copies nothing. Of one of the first the document is copied and built.
+///
+/// # Errors
+/// `Index` with the fault of the file, exactly where it is the index file of no document; `NoMemory` only where it is one
+/// of the first version. The file comes back.
+pub fn load(alloc: Global, file: Vec<u8>) -> Result<Opened, (Vec<u8>, LoadFault)>
+    requires { vec_len file < 2 ^ 32 }
+    ensures of_bytes { AreBytes file.items }
+    ensures index { IfOk result (λ document. IsFileOf file.items (opened_bytes document)) }
+    ensures opened { IfOk result (IsOpened file.items) }
+    ensures given_back { IfErr result (λ e. e.0 ≡ file) }
+    ensures fault { IfErr result (λ e. IsLoadFault file.items e.1) }
+{
+    of_bytes(file.as_slice());
+    open_index(alloc, file)
+}
 
-    /// The document of an index file. The words of a file of the second version stay where they lie: it takes no memory,
-    /// and copies nothing. Of one of the first the document is copied and built.
-    ///
-    /// # Errors
-    /// `Index` with the fault of the file, exactly where it is the index file of no document; `NoMemory` only where it is
-    /// one of the first version. The file comes back.
-    pub fn load(alloc: Global, file: Vec<u8>) -> Result<Document, (Vec<u8>, LoadFault)>
-        requires { vec_len file < 2 ^ 32 }
-        ensures of_bytes { AreBytes file.items }
-        ensures index { IfOk result (IsFileOf file.items) }
-        ensures given_back { IfErr result (λ e. e.0 ≡ file) }
-        ensures fault { IfErr result (λ e. IsLoadFault file.items e.1) }
+impl<'a> Document<'a> {
+    /// A document that is lent.
+    pub fn of(shown: Shown<'a>) -> Document<'a>
+        ensures { result ≡ shown_bytes shown }
     {
-        of_bytes(file.as_slice());
-        match open_index(alloc, file) {
-            Ok(Opened::View(loaded)) => Ok(Document {
-                kept: Kept::Filed(loaded),
-            }),
-            Ok(Opened::Built(doc)) => Ok(Document::built(doc)),
-            Err(fault) => Err(fault),
-        }
+        Document { shown }
     }
 
     /// The document's bytes.
@@ -99,9 +84,9 @@ impl Document {
         ensures value { result.now ≡ self.now }
         ensures few { length self.now < 2 ^ 30 }
     {
-        match &self.kept {
-            Kept::Built(doc) => doc.bytes(),
-            Kept::Filed(loaded) => loaded.parts().bytes(),
+        match &self.shown {
+            Shown::Built(doc) => doc.bytes(),
+            Shown::Filed(loaded) => loaded.parts().bytes(),
         }
     }
 
@@ -109,9 +94,9 @@ impl Document {
     pub fn records(&self) -> u32
         ensures { OfNest self.now (λ nest. result ≡ length (records nest (first_place self.now))) }
     {
-        match &self.kept {
-            Kept::Built(doc) => record_count(&doc.nav()),
-            Kept::Filed(loaded) => record_count(&loaded.parts().nav()),
+        match &self.shown {
+            Shown::Built(doc) => record_count(&doc.nav()),
+            Shown::Filed(loaded) => record_count(&loaded.parts().nav()),
         }
     }
 
@@ -123,9 +108,9 @@ impl Document {
     pub fn element_lines(&self, alloc: Global) -> Result<Vec<u8>, NoMemory>
         ensures { IfOk result (λ lines. OfNest self.now (λ nest. lines.items ≡ listed nest (first_place self.now))) }
     {
-        match &self.kept {
-            Kept::Built(doc) => lines_of_elements(alloc, &doc.nav()),
-            Kept::Filed(loaded) => lines_of_elements(alloc, &loaded.parts().nav()),
+        match &self.shown {
+            Shown::Built(doc) => lines_of_elements(alloc, &doc.nav()),
+            Shown::Filed(loaded) => lines_of_elements(alloc, &loaded.parts().nav()),
         }
     }
 
@@ -143,9 +128,9 @@ impl Document {
         ensures { OfNest self.now (λ nest.
             Meets AreLines (AsksNodes self.now nest bindings.now text.now) result) }
     {
-        match &self.kept {
-            Kept::Built(doc) => lines_of_nodes(alloc, &doc.nav(), bindings, text),
-            Kept::Filed(loaded) => lines_of_nodes(alloc, &loaded.parts().nav(), bindings, text),
+        match &self.shown {
+            Shown::Built(doc) => lines_of_nodes(alloc, &doc.nav(), bindings, text),
+            Shown::Filed(loaded) => lines_of_nodes(alloc, &loaded.parts().nav(), bindings, text),
         }
     }
 
@@ -161,9 +146,9 @@ impl Document {
     ) -> Result<Bytes, QueryFault>
         ensures { OfNest self.now (λ nest. Meets IsLine (Asks self.now nest bindings.now text.now) result) }
     {
-        match &self.kept {
-            Kept::Built(doc) => line_of_string(alloc, &doc.nav(), bindings, text),
-            Kept::Filed(loaded) => line_of_string(alloc, &loaded.parts().nav(), bindings, text),
+        match &self.shown {
+            Shown::Built(doc) => line_of_string(alloc, &doc.nav(), bindings, text),
+            Shown::Filed(loaded) => line_of_string(alloc, &loaded.parts().nav(), bindings, text),
         }
     }
 
@@ -182,9 +167,9 @@ impl Document {
             Makes (Operates self.now nest bindings.now text.now operation.entry) result) }
         ensures within { IfOk result (λ made. All (IsWithin (length self.now)) made.splices) }
     {
-        match &self.kept {
-            Kept::Built(doc) => operate_on(alloc, &doc.nav(), bindings, text, operation),
-            Kept::Filed(loaded) => {
+        match &self.shown {
+            Shown::Built(doc) => operate_on(alloc, &doc.nav(), bindings, text, operation),
+            Shown::Filed(loaded) => {
                 operate_on(alloc, &loaded.parts().nav(), bindings, text, operation)
             }
         }
@@ -194,9 +179,9 @@ impl Document {
     pub fn index_length(&self) -> u64
         ensures { OfNest self.now (λ nest. result ≡ length (index_of self.now nest)) }
     {
-        match &self.kept {
-            Kept::Built(doc) => length_of_index(&doc.nav()),
-            Kept::Filed(loaded) => length_of_index(&loaded.parts().nav()),
+        match &self.shown {
+            Shown::Built(doc) => length_of_index(&doc.nav()),
+            Shown::Filed(loaded) => length_of_index(&loaded.parts().nav()),
         }
     }
 
@@ -214,9 +199,9 @@ impl Document {
         ensures cause { HasFileCause false (F.seen files.old).missed (F.seen files.new).missed
             (F.seen files.old).proper (F.seen files.new).proper result }
     {
-        match &self.kept {
-            Kept::Built(doc) => write_index_of(name, &doc.nav(), files),
-            Kept::Filed(loaded) => write_index_of(name, &loaded.parts().nav(), files),
+        match &self.shown {
+            Shown::Built(doc) => write_index_of(name, &doc.nav(), files),
+            Shown::Filed(loaded) => write_index_of(name, &loaded.parts().nav(), files),
         }
     }
 }

@@ -4,4 +4,4 @@
 mod answers;
 mod document;
 
-pub use document::Document;
+pub use document::{Document, load};

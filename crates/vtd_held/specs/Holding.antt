@@ -32,3 +32,8 @@ shown_bytes (shown.Filed loaded) = loaded.now.bytes
 abbrev pub opened_bytes : Opened → List ℕ
 opened_bytes (opens.View loaded) = loaded.bytes
 opened_bytes (opens.Built doc) = doc.bytes
+
+-- whether it lies in an index file
+abbrev pub is_filed : Opened → Bool
+is_filed (opens.View loaded) = true
+is_filed (opens.Built doc) = false

@@ -1,7 +1,7 @@
 //! A document that was built, with its changes, or that lies in an index file until it is changed.
 
-ghost use Rattle.std.specs.Prelude.{◌≡◌, ◌<◌, ◌≤◌, ◌^◌, ◌++◌, ◌↔◌, [], length, vec_len, true, IfErr, IfOk, OnErr, OnOk};
-ghost use Rattle.std.specs.Prelude.{IsErrOf};
+ghost use Rattle.std.specs.Prelude.{◌≡◌, ◌<◌, ◌≤◌, ◌^◌, ◌++◌, ◌↔◌, [], length, vec_len, true, false, IfErr, IfOk};
+ghost use Rattle.std.specs.Prelude.{IsErrOf, OnErr, OnOk};
 ghost use Rattle.std.specs.List.{All};
 ghost use Rattle.xml_model.specs.declared.DocFault.{DocFault};
 ghost use Rattle.xml_model.specs.Nest.{Forest};
@@ -10,7 +10,8 @@ ghost use Rattle.vtd_edits.specs.Splices.{AreEdits, IsWithin, Refuses};
 ghost use Rattle.vtd_history.specs.Steps.{with_range};
 ghost use Rattle.vtd_revisions.specs.Timelines.{changed, opened, UndoneTo, RedoneTo};
 ghost use Rattle.vtd_history.specs.Versions.{IsAcceptedDocument};
-ghost use Rattle.vtd_held.specs.Holding.{is_built, opened_bytes, shown_bytes, timeline_in, IsKept};
+ghost use Rattle.vtd_held.specs.Holding.{is_built, is_filed, opened_bytes, shown_bytes};
+ghost use Rattle.vtd_held.specs.Holding.{timeline_in, IsKept};
 
 use std::alloc::Global;
 use std::marker::Model;
@@ -56,6 +57,16 @@ impl Model for Held {
     ghost view = { λ h. timeline_in h.kept };
 
     ghost invariant = { λ h. IsKept h.kept };
+}
+
+/// A document that was read, lent.
+pub fn show(document: &Opened) -> Shown<'_>
+    ensures { shown_bytes result ≡ opened_bytes document.now }
+{
+    match document {
+        Opened::View(loaded) => Shown::Filed(loaded),
+        Opened::Built(doc) => Shown::Built(doc),
+    }
 }
 
 /// A document that lies in an index file, for which nothing is staged.
@@ -141,6 +152,27 @@ impl Held {
         Held {
             alloc,
             kept: filed(alloc, loaded),
+        }
+    }
+
+    /// A document that was read, with nothing staged and nothing to undo. Where it lies in an index file it takes no
+    /// memory.
+    ///
+    /// # Errors
+    /// `NoMemory` only where the document was built.
+    pub fn of(alloc: Global, document: Opened) -> Result<Held, NoMemory>
+        ensures held { IfOk result (λ h. h ≡ opened (opened_bytes document)) }
+        ensures no_memory { OnErr result (is_filed document ≡ false) }
+    {
+        match document {
+            Opened::View(loaded) => Ok(Held::of_file(alloc, loaded)),
+            Opened::Built(doc) => {
+                let revisions = Revisions::of(alloc, doc)?;
+                Ok(Held {
+                    alloc,
+                    kept: Kept::Built(revisions),
+                })
+            }
         }
     }
 

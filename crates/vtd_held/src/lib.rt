@@ -3,4 +3,4 @@
 
 mod held;
 
-pub use held::{Held, Shown};
+pub use held::{Held, Shown, show};

@@ -6,7 +6,7 @@ use Rattle.vtd_lines.specs.Fields.{fields, unescaped}
 use Rattle.vtd_lines.specs.declared.commands.Command.{Command}
 use Rattle.vtd_lines.specs.declared.commands.Command.TheVariants.{Elements, Ns, Select, Value, Remove, Replace}
 use Rattle.vtd_lines.specs.declared.commands.Command.TheVariants.{Before, After, First, Last, Attr, Set, Rename}
-use Rattle.vtd_lines.specs.declared.commands.Command.TheVariants.{Discard, Apply, Save, Index, Open, Load}
+use Rattle.vtd_lines.specs.declared.commands.Command.TheVariants.{Discard, Apply, Undo, Redo, Save, Index, Open, Load}
 use Rattle.vtd_lines.specs.declared.commands.TwoFields.{TwoFields}
 use Rattle.vtd_lines.specs.declared.commands.TwoFields.TheVariants as two
 use Rattle.vtd_lines.specs.declared.commands.OneField.{OneField}
@@ -24,7 +24,9 @@ abbrev pub bare_command : List ℕ → Result Command Wrong
 bare_command word =
     cond (bytes_eq word (codes "elements")) (Ok Elements)
     (cond (bytes_eq word (codes "discard")) (Ok Discard)
-    (cond (bytes_eq word (codes "apply")) (Ok Apply) (Err no_such_command)))
+    (cond (bytes_eq word (codes "apply")) (Ok Apply)
+    (cond (bytes_eq word (codes "undo")) (Ok Undo)
+    (cond (bytes_eq word (codes "redo")) (Ok Redo) (Err no_such_command)))))
 
 -- a command of one text, which may hold a wrong escape
 abbrev pub of_one : (List ℕ → Command) → Option (List ℕ) → Result Command Wrong

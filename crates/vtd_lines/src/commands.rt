@@ -104,6 +104,10 @@ pub enum Command {
     Discard,
     /// Makes the new bytes the document, for which nothing is staged.
     Apply,
+    /// Makes document and staging what they were before the last change.
+    Undo,
+    /// Makes document and staging what they were before the last `undo`.
+    Redo,
     /// Writes the new bytes to a file.
     Save {
         /// The name of the file.
@@ -191,6 +195,8 @@ fn bare_command(word: &str) -> Result<Command, LineFault>
         "elements" => Ok(Command::Elements),
         "discard" => Ok(Command::Discard),
         "apply" => Ok(Command::Apply),
+        "undo" => Ok(Command::Undo),
+        "redo" => Ok(Command::Redo),
         _ => Err(LineFault::Command),
     }
 }

@@ -10,7 +10,7 @@ use Rattle.xml_model.specs.Accepted.{Accepted, IsRefusal}
 use Rattle.vtd_script.specs.Faults.{fault_line}
 use Rattle.vtd_lines.specs.Lines.{lines}
 use Rattle.vtd_lines.specs.Commands.{read}
-use Rattle.vtd_script.specs.States.{Work, State, state_of}
+use Rattle.vtd_script.specs.States.{Work, State, first_work, state_of}
 use Rattle.vtd_script.specs.Steps.{asks_any_file, asks_for, document_limit}
 use Rattle.vtd_script.specs.Runs.{EndsBy, EndsKnown, Reached}
 use Rattle.vtd_script.specs.declared.endings.End.{End}
@@ -91,11 +91,10 @@ made_none or count before oa t = record { sent = []; taken = nothing_more before
 
 pub made_accepted : (or : Type 0) (count : ℕ) (bytes : List ℕ) (work : Work) (before : List ℕ) (out_after : Option (List ℕ)) (status : Status)
     → bytes ≡ generated count → length bytes ≤ document_limit → ((nest : Forest) × Accepted 8 bytes nest)
-    → work ≡ record { bytes = bytes; bound = []; staged = [] } → Carries or (state_of work no_files) before out_after status
+    → work ≡ first_work bytes → Carries or (state_of work no_files) before out_after status
     → Generates or count before out_after status
 made_accepted or count bytes work before oa status b l a w c =
-    let first : List ℕ → Work = λ x. record { bytes = x; bound = []; staged = [] } in
-    let same : work ≡ first (generated count) = w ∙ ap first b in
+    let same : work ≡ first_work (generated count) = w ∙ ap (λ (x : List ℕ). first_work x) b in
     let P : List ℕ → Type 0 = λ x. (nest : Forest) × Accepted 8 x nest in
     let fits = subst (λ (x : List ℕ). length x ≤ document_limit) b l in
     let nest = subst P b a in

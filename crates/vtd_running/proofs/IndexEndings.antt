@@ -9,7 +9,7 @@ use Rattle.vtd_index.specs.declared.faults.IndexFault.{IndexFault}
 use Rattle.vtd_outside.specs.Causes.{Rose, RoseAlone, is_missing}
 use Rattle.vtd_outside.specs.Known.{NameMap, OpenFile}
 use Rattle.vtd_outside.specs.Gathered.{GathersFile}
-use Rattle.vtd_script.specs.States.{Work, state_of, refused_line}
+use Rattle.vtd_script.specs.States.{Work, first_work, state_of, refused_line}
 use Rattle.vtd_script.specs.Steps.{index_limit, index_refusal}
 use Rattle.vtd_running.specs.Form.{Form, index_file}
 use Rattle.vtd_running.specs.Meaning.{EndsWith, RunsScript, RunsIndexName, Runs, Ran, document_long_line}
@@ -24,7 +24,7 @@ use Rattle.vtd_running.proofs.Endings.{done_nothing, nothing_more}
 
 pub reads_index : (known : Option NameMap) (files : NameMap) (name : List ℕ) (opened : Option OpenFile) (file : List ℕ) (work : Work)
     → known ≡ Some files → GathersFile known name opened file → length file ≤ index_limit → AreBytes file → IsFileOf file work.bytes
-    → work ≡ record { bytes = work.bytes; bound = []; staged = [] } → ReadsIndex files name (Ok work)
+    → work ≡ first_work work.bytes → ReadsIndex files name (Ok work)
 reads_index known files name opened file work k g l y i f =
     let P : Option NameMap → Type 0 = λ o. GathersFile o name opened file in
     record { file = file; there = (subst P k g).0; within = l; of_bytes = y; index = i; first = f }

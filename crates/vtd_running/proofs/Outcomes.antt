@@ -19,7 +19,8 @@ use Rattle.vtd_script.proofs.RunLaws as laws
 use Rattle.vtd_generator.specs.Generated.{generated, generated_script}
 use Rattle.vtd_running.specs.Form.{Form, document, generation, index_file, no_form}
 use Rattle.vtd_running.specs.Statuses.{status_of, IsMeant}
-use Rattle.vtd_script.specs.Steps.{document_limit}
+use Rattle.std.proofs.lemmas.List.Elements.{All-nil}
+use Rattle.vtd_script.specs.Steps.{HasDocument, document_limit}
 use Rattle.vtd_running.specs.Meaning.{Outcome, EndsWith, RunsScript, RunsDocument, RunsGenerated, RunsUsage, Runs, Ran, Means}
 use Rattle.vtd_running.specs.Meaning.{script_limit, script_long_line, document_long_line, usage_line, first_state}
 use Rattle.vtd_running.specs.Meaning.{script_unread, script_unkept, script_long, carried, document_long, document_unfit, accepted}
@@ -307,11 +308,16 @@ some_script keep s text meaning = elim (within_or_not script_limit (length text)
   | inr l ↦ (_, tt, script_long l script_long_line statuses.Refused (inl (refl, refl)))
 ]
 
+-- a session that begins has no revision but the document
+first_has : (bytes : List ℕ) (files : NameMap) (nest : Forest) → Accepted 8 bytes nest → HasDocument (first_state bytes files)
+first_has bytes files nest a = record { nest = nest; accepted = a; done = All-nil _; undone = All-nil _ }
+
 some_document : (keep : Bool) (files : NameMap) (bytes text : List ℕ) → Some' (RunsDocument ⊥ ⊥ ⊥ keep files bytes text)
 some_document keep files bytes text = elim (within_or_not document_limit (length bytes)) [
   | inl l ↦ elim (some.some_answer bytes 8 (omega arith)) [
     | inl a ↦
-        let r = some_script keep (first_state bytes files) text (laws.some_meaning keep (first_state bytes files) (lines text) a) in
+        let r = some_script keep (first_state bytes files) text (laws.some_meaning keep (first_state bytes files) (lines text)
+        (first_has bytes files a.0 a.1)) in
         (r.0, r.1, accepted l a.0 a.1 r.0 r.2)
     | inr r ↦ (_, tt, document_unfit l r.0 r.2 (fault_line r.0) statuses.Refused (inl (refl, refl)))
   ]
@@ -322,7 +328,8 @@ some_index_answer : (keep : Bool) (files : NameMap) (file text : List ℕ) → l
     → Some' (RunsIndex ⊥ ⊥ ⊥ keep files file text)
 some_index_answer keep files file text l y = elim (some_load file y) [
   | inl i ↦
-      let r = some_script keep (first_state i.0 files) text (laws.some_meaning keep (first_state i.0 files) (lines text) (i.1.nest, i.1.accepted)) in
+      let r = some_script keep (first_state i.0 files) text (laws.some_meaning keep (first_state i.0 files) (lines text)
+      (first_has i.0 files i.1.nest i.1.accepted)) in
       (r.0, r.1, index_accepted l y i.0 i.1 r.0 r.2)
   | inr f ↦ (_, tt, index_unfit l y f.0 f.1 (refused_line (index_refusal f.0)) statuses.Refused (inl (refl, refl)))
 ]

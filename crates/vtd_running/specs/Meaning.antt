@@ -14,7 +14,7 @@ use Rattle.vtd_index.specs.declared.faults.IndexFault.{IndexFault}
 use Rattle.vtd_lines.specs.Lines.{lines}
 use Rattle.vtd_listing.specs.Listing.{line_feed}
 use Rattle.vtd_script.specs.Faults.{fault_line}
-use Rattle.vtd_script.specs.States.{State, state_of, refused_line}
+use Rattle.vtd_script.specs.States.{first_work, State, state_of, refused_line}
 use Rattle.vtd_script.specs.Steps.{document_limit, index_limit, index_refusal}
 use Rattle.vtd_script.specs.Runs.{Ends, IsPrefix}
 use Rattle.vtd_script.specs.declared.endings.End.{End}
@@ -59,7 +59,7 @@ EndsWith rose line status sent result =
 
 -- a session that begins over a document: nothing but `xml` is bound, and nothing is staged
 abbrev pub first_state : List ℕ → NameMap → State
-first_state bytes files = state_of (record { bytes = bytes; bound = []; staged = [] }) files
+first_state bytes files = state_of (first_work bytes) files
 
 -- A script over a session, which is read to its end before its first line is carried out: it could not be read; there
 -- was no memory for it; it is too long; or its lines were carried out, as their table of endings says.

@@ -4,7 +4,7 @@ use Rattle.vtd_outside.specs.Causes.{RoseAlone}
 use Rattle.vtd_outside.specs.Known.{NameMap}
 use Rattle.xml_model.specs.Nest.{Forest}
 use Rattle.xml_model.specs.Accepted.{Accepted, IsRefusal}
-use Rattle.vtd_script.specs.States.{Work, State}
+use Rattle.vtd_script.specs.States.{first_work, Work, State}
 use Rattle.vtd_script.specs.Steps.{document_limit, index_limit}
 use Rattle.vtd_words.specs.Numbers.{AreBytes}
 use Rattle.vtd_index.specs.Index.{IsFault}
@@ -31,7 +31,7 @@ pub record Begins (files : NameMap) (name : List ℕ) (work : Work) : Type 0 whe
   pub within : length bytes ≤ document_limit
   pub nest : Forest
   pub accepted : Accepted 8 bytes nest
-  pub first : work ≡ record { bytes = bytes; bound = []; staged = [] }
+  pub first : work ≡ first_work bytes
 
 -- Why no session begins over the file of a name, or that one does.
 abbrev pub ReadsDocument : NameMap → List ℕ → Result Work NoDocument → Type 0
@@ -57,7 +57,7 @@ pub record BeginsIndex (files : NameMap) (name : List ℕ) (work : Work) : Type 
   pub within : length file ≤ index_limit
   pub of_bytes : AreBytes file
   pub index : IsFileOf file work.bytes
-  pub first : work ≡ record { bytes = work.bytes; bound = []; staged = [] }
+  pub first : work ≡ first_work work.bytes
 
 -- Why no session begins over the index file of a name, or that one does.
 abbrev pub ReadsIndex : NameMap → List ℕ → Result Work NoIndex → Type 0

@@ -44,7 +44,7 @@ pub fn read_index<F: Files>(alloc: Global, files: &mut F, name: &str) -> Result<
     };
     match Session::start_index(alloc, file) {
         Ok(session) => Ok(session),
-        Err((_, LoadFault::Index(fault))) => Err(NoIndex::Unfit(fault)),
-        Err((_, LoadFault::NoMemory)) => Err(NoIndex::NoMemory),
+        Err(LoadFault::Index(fault)) => Err(NoIndex::Unfit(fault)),
+        Err(LoadFault::NoMemory) => Err(NoIndex::NoMemory),
     }
 }

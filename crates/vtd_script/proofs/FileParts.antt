@@ -10,6 +10,8 @@ use Rattle.xml_model.specs.declared.DocFault.{DocFault}
 use Rattle.xml_acceptance.proofs.OneAnswer as documents
 use Rattle.vtd_words.specs.Numbers.{AreBytes}
 use Rattle.vtd_index.specs.Index.{IsFault}
+use Rattle.vtd_held.specs.Holding.{opened_bytes}
+use Rattle.vtd_index.specs.declared.opening.Opened.{Opened}
 use Rattle.vtd_documents.specs.Loads.{IsFileOf}
 use Rattle.vtd_index.specs.declared.faults.IndexFault.{IndexFault}
 use Rattle.vtd_outside.specs.declared.GatherFault.{GatherFault}
@@ -20,68 +22,78 @@ use Rattle.vtd_outside.specs.Gathered.{GathersFile, GathersFilePrefix}
 use Rattle.vtd_edits.specs.declared.splice.Splice.{Splice}
 use Rattle.vtd_script.specs.States.{Work, State, state_of, Answer, printed, refused, missing}
 use Rattle.vtd_script.specs.Steps.{Does, Opens, Takes, TakesIndex, accepted, document_limit, document_line, has_file, index_limit, index_refusal}
-use Rattle.vtd_script.specs.Steps.{index_taken, index_unfit, name_of, refusal_of, unfit, with_document}
-use Rattle.vtd_script.specs.Changes.{GivesBytes, HasLine, IsTooLong, MakesDocument, OpensDocument, Prepares, ReadsDocument, ReadsFile, ReadsIndex}
-use Rattle.vtd_script.specs.Changes.{stops_at_file}
+use Rattle.vtd_script.specs.Steps.{index_taken, index_unfit, name_of, refusal_of, unfit, with_applied, with_document}
+use Rattle.vtd_script.specs.Changes.{GivesBytes, IsTooLong, MakesDocument, OpensDocument, Prepares, ReadsDocument, ReadsFile, ReadsIndex}
 use Rattle.vtd_lines.specs.declared.commands.Command.{Command}
 use Rattle.vtd_script.specs.declared.refusals.Refusal.{Refusal}
 use Rattle.vtd_script.specs.declared.refusals.Refusal.TheVariants as no
+use Rattle.vtd_script.specs.declared.ready.Built.{Built}
 use Rattle.vtd_script.specs.declared.ready.Made.{Made}
-use Rattle.vtd_script.specs.declared.ready.Ready.{Ready}
-use Rattle.vtd_script.specs.declared.ready.Change.TheVariants as change
 use Rattle.vtd_script.specs.declared.ready.Stop.{Stop}
 use Rattle.vtd_script.specs.declared.ready.Stop.TheVariants as stop
-use Rattle.vtd_script.proofs.Parts.{prepares_nothing}
 
 -- a document with its line, of the bytes that it was built of
-pub reads_lined : (bytes built : List ℕ) (result : Result Made Stop) → built ≡ bytes → HasLine built result → ReadsDocument bytes result
-reads_lined bytes built (Ok made) b h =
-    let P : List ℕ → Type 0 = λ x. (made.document ≡ x) × ((nest : Forest) × Accepted 8 x nest
-    × (made.lines ≡ document_line (length x) (length (records nest (first_place x))))) in
-    subst P b h
-reads_lined bytes built (Err (stop.Refused refusal)) b h = absurd cc
-reads_lined bytes built (Err stop.File) b h = absurd cc
-reads_lined bytes built (Err stop.NoMemory) b h = tt
+abbrev pub IsLined : List ℕ → List ℕ → Type 0
+IsLined bytes lines = (nest : Forest) × Accepted 8 bytes nest × (lines ≡ document_line (length bytes) (length (records nest (first_place bytes))))
 
-pub lined_no_file : (bytes : List ℕ) (result : Result Made Stop) → HasLine bytes result → stops_at_file result ≡ false
-lined_no_file bytes (Ok made) h = refl
-lined_no_file bytes (Err (stop.Refused refusal)) h = refl
-lined_no_file bytes (Err stop.File) h = absurd cc
-lined_no_file bytes (Err stop.NoMemory) h = refl
+pub lined_as : (bytes built lines : List ℕ) → built ≡ bytes → IsLined built lines → IsLined bytes lines
+lined_as bytes built lines b h = let P : List ℕ → Type 0 = λ x. IsLined x lines in subst P b h
 
 -- and of the index file that it lies in
-pub index_lined : (file bytes : List ℕ) (result : Result Made Stop) → IsFileOf file bytes → HasLine bytes result → ReadsIndex file result
-index_lined file bytes (Ok made) i h =
-    let P : List ℕ → Type 0 = λ x. (j : IsFileOf file x) × (made.lines ≡ document_line (length x) (length (records j.nest (first_place x)))) in
-    let same : h.1.0 ≡ i.nest = documents.one_document bytes h.1.0 i.nest h.1.1.document i.accepted.document in
-    subst P (sym h.0) (i, h.1.2 ∙ ap (λ (n : Forest). document_line (length bytes) (length (records n (first_place bytes)))) same)
-index_lined file bytes (Err (stop.Refused refusal)) i h = absurd cc
-index_lined file bytes (Err stop.File) i h = absurd cc
-index_lined file bytes (Err stop.NoMemory) i h = tt
+pub index_lined : (file bytes lines : List ℕ) → IsFileOf file bytes → IsLined bytes lines
+    → (i : IsFileOf file bytes) × (lines ≡ document_line (length bytes) (length (records i.nest (first_place bytes))))
+index_lined file bytes lines i h =
+    let same : h.0 ≡ i.nest = documents.one_document bytes h.0 i.nest h.1.document i.accepted.document in
+    (i, h.2 ∙ ap (λ (n : Forest). document_line (length bytes) (length (records n (first_place bytes)))) same)
 
--- a document that was read
-takes_made : (bytes built lines : List ℕ) (s : State) → length bytes ≤ document_limit → built ≡ bytes
-    → ((nest : Forest) × Accepted 8 bytes nest × (lines ≡ document_line (length bytes) (length (records nest (first_place bytes)))))
-    → Takes bytes s (printed lines (with_document built s))
-takes_made bytes built lines s l b h =
-    let P : List ℕ → Type 0 = λ ls. Takes bytes s (printed ls (with_document built s)) in
-    let Q : List ℕ → Type 0 = λ x. Takes bytes s (printed (document_line (length bytes) (length (records h.0 (first_place bytes)))) (with_document x s)) in
+-- a document that was read, which becomes the document in this way
+takes_made : (become : List ℕ → State → State) (bytes built lines : List ℕ) (s : State) → length bytes ≤ document_limit → built ≡ bytes
+    → IsLined bytes lines → Takes become bytes s (printed lines (become built s))
+takes_made become bytes built lines s l b h =
+    let P : List ℕ → Type 0 = λ ls. Takes become bytes s (printed ls (become built s)) in
+    let Q : List ℕ → Type 0 = λ x. Takes become bytes s (printed (document_line (length bytes) (length (records h.0 (first_place bytes)))) (become x s)) in
     subst P (sym h.2) (subst Q (sym b) (accepted l h.0 h.1))
 
-takes_unfit : (bytes : List ℕ) (s : State) (refusal : Refusal) → length bytes ≤ document_limit
-    → ((fault : DocFault) × IsRefusal bytes fault × (refusal ≡ refusal_of fault)) → Takes bytes s (refused refusal)
-takes_unfit bytes s refusal l h = let P : Refusal → Type 0 = λ x. Takes bytes s (refused x) in subst P (sym h.2) (unfit l h.0 h.1)
+takes_unfit : (become : List ℕ → State → State) (bytes : List ℕ) (s : State) (refusal : Refusal) → length bytes ≤ document_limit
+    → ((fault : DocFault) × IsRefusal bytes fault × (refusal ≡ refusal_of fault)) → Takes become bytes s (refused refusal)
+takes_unfit become bytes s refusal l h = let P : Refusal → Type 0 = λ x. Takes become bytes s (refused x) in subst P (sym h.2) (unfit l h.0 h.1)
 
-pub made_document : (bytes : List ℕ) (result : Result Made Stop) → length bytes ≤ document_limit → ReadsDocument bytes result
-    → MakesDocument (Takes bytes) result
-made_document bytes (Ok made) l h = λ s. takes_made bytes made.document made.lines s l h.0 h.1
-made_document bytes (Err (stop.Refused refusal)) l h = λ s. takes_unfit bytes s refusal l h
-made_document bytes (Err stop.File) l h = absurd h
-made_document bytes (Err stop.NoMemory) l h = tt
+pub made_document : (become : List ℕ → State → State) (bytes : List ℕ) (result : Result Built Stop) → length bytes ≤ document_limit
+    → ReadsDocument bytes result → MakesDocument (Takes become bytes) become result
+made_document become bytes (Ok built) l h = λ s. takes_made become bytes built.document.bytes built.lines s l h.0 h.1
+made_document become bytes (Err (stop.Refused refusal)) l h = λ s. takes_unfit become bytes s refusal l h
+made_document become bytes (Err stop.File) l h = absurd h
+made_document become bytes (Err stop.NoMemory) l h = tt
 
-pub made_from : (bytes given : List ℕ) (result : Result Made Stop) → given ≡ bytes → length given ≤ document_limit → ReadsDocument given result
-    → MakesDocument (Takes bytes) result
-made_from bytes given result e l h = let P : List ℕ → Type 0 = λ b. MakesDocument (Takes b) result in subst P e (made_document given result l h)
+pub made_from : (bytes given : List ℕ) (result : Result Built Stop) → given ≡ bytes → length given ≤ document_limit → ReadsDocument given result
+    → MakesDocument (Takes with_applied bytes) with_applied result
+made_from bytes given result e l h =
+    let P : List ℕ → Type 0 = λ b. MakesDocument (Takes with_applied b) with_applied result in subst P e (made_document with_applied given result l h)
+
+-- A document was read with its line, which becomes the document of any state; or why none was.
+abbrev pub GivesMade : (State → Answer → Type 0) → Result Made Stop → Type 0
+GivesMade Gives (Ok made) = (s : State) → Gives s (printed made.lines (with_document (opened_bytes made.document) s))
+GivesMade Gives (Err (stop.Refused refusal)) = (s : State) → Gives s (refused refusal)
+GivesMade Gives (Err stop.File) = ⊥
+GivesMade Gives (Err stop.NoMemory) = Unit {0}
+
+-- the document of bytes that were read
+pub document_made : (bytes given lines : List ℕ) (document : Opened) (made : Made) → given ≡ bytes → length bytes ≤ document_limit
+    → opened_bytes document ≡ given → IsLined given lines → made.document ≡ document → made.lines ≡ lines
+    → GivesMade (Takes with_document bytes) (Ok made)
+document_made bytes given lines document made e l o h d r =
+    let built : opened_bytes made.document ≡ bytes = ap opened_bytes d ∙ o ∙ e in
+    let lined : IsLined bytes made.lines = (let P : List ℕ → Type 0 = λ x. IsLined bytes x in subst P (sym r) (lined_as bytes given lines e h)) in
+    λ s. takes_made with_document bytes (opened_bytes made.document) made.lines s l built lined
+
+pub document_stop : (bytes given : List ℕ) (x : Stop) → given ≡ bytes → length bytes ≤ document_limit → ReadsDocument given (Err x)
+    → GivesMade (Takes with_document bytes) (Err x)
+document_stop bytes given x e l h = let P : List ℕ → Type 0 = λ b. ReadsDocument b (Err x) in by x (subst P e h)
+  where
+    by : (y : Stop) → ReadsDocument bytes (Err y) → GivesMade (Takes with_document bytes) (Err y)
+    by (stop.Refused refusal) h = λ s. takes_unfit with_document bytes s refusal l h
+    by stop.File h = absurd h
+    by stop.NoMemory h = tt
 
 -- the document of an index file
 index_made : (file bytes lines : List ℕ) (s : State) → length file ≤ index_limit → AreBytes file
@@ -96,20 +108,16 @@ unfit_index : (file : List ℕ) (s : State) (refusal : Refusal) → length file 
 unfit_index file s refusal l y h =
     let P : Refusal → Type 0 = λ x. TakesIndex file s (refused x) in subst P (sym h.2) (index_unfit l y h.0 h.1)
 
-pub made_index : (file : List ℕ) (result : Result Made Stop) → length file ≤ index_limit → AreBytes file → ReadsIndex file result
-    → MakesDocument (TakesIndex file) result
-made_index file (Ok made) l y h = λ s. index_made file made.document made.lines s l y h
+made_index : (file : List ℕ) (result : Result Made Stop) → length file ≤ index_limit → AreBytes file → ReadsIndex file result
+    → GivesMade (TakesIndex file) result
+made_index file (Ok made) l y h = λ s. index_made file (opened_bytes made.document) made.lines s l y h
 made_index file (Err (stop.Refused refusal)) l y h = λ s. unfit_index file s refusal l y h
 made_index file (Err stop.File) l y h = absurd h
 made_index file (Err stop.NoMemory) l y h = tt
 
 -- the same, where the bytes are given elsewhere
-pub document_given : (bytes given : List ℕ) (result : Result Made Stop) → given ≡ bytes → length bytes ≤ document_limit → ReadsDocument given result
-    → MakesDocument (Takes bytes) result
-document_given bytes given result e l h = let P : List ℕ → Type 0 = λ b. ReadsDocument b result in made_document bytes result l (subst P e h)
-
 pub index_given : (file given : List ℕ) (result : Result Made Stop) → given ≡ file → length file ≤ index_limit → AreBytes given → ReadsIndex given result
-    → MakesDocument (TakesIndex file) result
+    → GivesMade (TakesIndex file) result
 index_given file given result e l y h =
     let P : List ℕ → Type 0 = λ b. ReadsIndex b result in
     let Q : List ℕ → Type 0 = λ b. AreBytes b in
@@ -159,7 +167,7 @@ unstaged Gives staged file bytes s a u e t =
     subst Q (sym u) (subst P (sym e) t)
 
 pub opens_made : (Gives : List ℕ → State → Answer → Type 0) (rose : Type 0) (limit : ℕ) (file bytes : List ℕ) (s : State) (result : Result Made Stop)
-    → GivesBytes limit s file bytes → MakesDocument (Gives bytes) result → OpensDocument Gives rose s file result
+    → GivesBytes limit s file bytes → GivesMade (Gives bytes) result → OpensDocument Gives rose s file result
 opens_made Gives rose limit file bytes s (Ok made) g h = unstaged Gives s.work.staged (s.files (name_of file)) bytes s _ g.unstaged g.there (h s)
 opens_made Gives rose limit file bytes s (Err (stop.Refused refusal)) g h =
     unstaged Gives s.work.staged (s.files (name_of file)) bytes s _ g.unstaged g.there (h s)
@@ -200,15 +208,6 @@ opens_stop Gives rose limit file s stop.File long h = elim h [
 opens_stop Gives rose limit file s stop.NoMemory long h = tt
 
 -- a command that reads a file
-pub prepares_opened : (Gives : List ℕ → State → Answer → Type 0) (rose : Type 0) (command : Command) (file : List ℕ) (work now : Work) (files : NameMap)
-    (made : Made) (ready : Ready)
-    → ((a : Answer) → Opens Gives work.staged (files (name_of file)) (state_of work files) a → Does command (state_of work files) a)
-    → OpensDocument Gives rose (state_of work files) file (Ok made) → now ≡ record { bytes = made.document; bound = work.bound; staged = [] }
-    → ready.change ≡ change.Nothing → ready.lines ≡ made.lines → Prepares rose command (state_of work files) (state_of now files) (Ok ready)
-prepares_opened Gives rose command file work now files made ready to h w n l =
-    let P : Work → Type 0 = λ x. Opens Gives work.staged (files (name_of file)) (state_of work files) (printed made.lines (state_of x files)) in
-    prepares_nothing rose command (state_of work files) (state_of now files) ready made.lines n l (to _ (subst P (sym w) h))
-
 pub stops_opened : (Gives : List ℕ → State → Answer → Type 0) (rose : Type 0) (command : Command) (file : List ℕ) (work : Work) (files : NameMap)
     (x : Stop) → has_file command ≡ true
     → ((a : Answer) → Opens Gives work.staged (files (name_of file)) (state_of work files) a → Does command (state_of work files) a)

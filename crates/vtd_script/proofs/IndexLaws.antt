@@ -16,6 +16,7 @@ use Rattle.vtd_index.proofs.Verdicts.{one_fault}
 use Rattle.vtd_script.specs.States.{State, Answer, printed, refused, missing, state_after}
 use Rattle.vtd_script.specs.Steps.{HasDocument, Indexes, PutsIndex, TakesIndex, document_line, index_limit, index_no_file, index_put, index_refusal}
 use Rattle.vtd_script.specs.Steps.{index_taken, index_too_long, index_unfit, indexed_line, not_put, with_document, with_file}
+use Rattle.vtd_script.proofs.UndoLaws.{kept_files, kept_opened}
 use Rattle.vtd_script.specs.declared.refusals.Refusal.TheVariants as no
 
 -- the answer of an index file that is taken
@@ -88,7 +89,7 @@ some_takes_index file s = elim (cases_lt index_limit (length file)) [
 pub kept_takes_index : (file : List ℕ) (s : State) (a : Answer) → TakesIndex file s a → HasDocument s → HasDocument (state_after s a)
 kept_takes_index file s a (index_too_long l) w = w
 kept_takes_index file s a (index_unfit l y f r) w = w
-kept_takes_index file s a (index_taken l y bytes i) w = (i.nest, i.accepted)
+kept_takes_index file s a (index_taken l y bytes i) w = kept_opened s bytes i.nest i.accepted
 kept_takes_index file s a (index_no_file l n) w = w
 
 one_puts_index : (name file : List ℕ) (s : State) (a b : Answer) → PutsIndex name file s a → PutsIndex name file s b → a ≡ b
@@ -110,11 +111,11 @@ some_puts_index name file s = elim (cases_lt index_limit (length file)) [
 ]
 
 pub some_indexes : (name : List ℕ) (s : State) → HasDocument s → (a : Answer) × Indexes name s a
-some_indexes name s w = let h = some_puts_index name (index_of s.work.bytes w.0) s in (h.0, (w.0, w.1, h.1))
+some_indexes name s w = let h = some_puts_index name (index_of s.work.bytes w.nest) s in (h.0, (w.nest, w.accepted, h.1))
 
 kept_puts_index : (name file : List ℕ) (s : State) (a : Answer) → PutsIndex name file s a → HasDocument s → HasDocument (state_after s a)
 kept_puts_index name file s a (not_put l) w = w
-kept_puts_index name file s a (index_put l) w = w
+kept_puts_index name file s a (index_put l) w = kept_files s _ w
 
 pub kept_indexes : (name : List ℕ) (s : State) (a : Answer) → Indexes name s a → HasDocument s → HasDocument (state_after s a)
 kept_indexes name s a h w = kept_puts_index name (index_of s.work.bytes h.0) s a h.2 w

@@ -1,11 +1,13 @@
 pub mod EscapeLaws
 pub mod StageLemmas
+pub mod UndoLaws
 pub mod IndexLaws
 pub mod StepLaws
 pub mod RunLaws
 pub mod Parts
 pub mod FileParts
 pub mod IndexParts
+pub mod ChangeParts
 pub mod AskLemmas
 pub mod StageParts
 pub mod Loop

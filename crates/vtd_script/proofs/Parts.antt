@@ -3,7 +3,6 @@ use Rattle.std.proofs.Common.{◌⊎◌, ◌≡◌, ◌↔◌, ℕ, Bool, true, 
 use Rattle.std.proofs.Common.{Result, Ok, Err, OnErr, refl, sym, ap, ap₂, subst, ◌∙◌, inl, inr}
 use Rattle.std.proofs.lemmas.List.{append-nil, take-append-drop}
 use Rattle.xml_model.specs.Items.{first_place}
-use Rattle.xml_model.specs.Records.{records}
 use Rattle.xml_model.specs.Nest.{Forest}
 use Rattle.xml_model.specs.Accepted.{Accepted}
 use Rattle.vtd_outside.specs.declared.Failed.{Failed}
@@ -16,14 +15,14 @@ use Rattle.vtd_outside.specs.Gathered.{Sends}
 use Rattle.vtd_outside.specs.Written.{Writes}
 use Rattle.vtd_script.specs.States.{Work, State, state_of, Answer, skipped, printed, refused, missing, refused_line, new_bytes}
 use Rattle.vtd_script.specs.Steps.{Binds, Tells, Answers, Does, Step, asked_by, asks_for, ok_line, with_binding, with_file, has_file, asks_file, name_of}
-use Rattle.vtd_script.specs.Steps.{Takes, document_line, saved_line}
+use Rattle.vtd_script.specs.Steps.{saved_line}
 use Rattle.vtd_listing.specs.Listing.{listed}
 use Rattle.vtd_script.specs.Queries.{query_refusal}
 use Rattle.vtd_queries.specs.Meets.{IsRefused}
 use Rattle.vtd_queries.specs.declared.faults.QueryFault.{QueryFault}
 use Rattle.vtd_queries.specs.declared.faults.QueryFault.TheVariants as queries
 use Rattle.vtd_script.specs.Runs.{IsPrefix, StepsKnown}
-use Rattle.vtd_script.specs.Changes.{Asks, Changes, ChangesKnown, MakesDocument, Prepares, CompletesKnown, Told, query_stop, PreparesStaging}
+use Rattle.vtd_script.specs.Changes.{Asks, Changes, ChangesKnown, Prepares, CompletesKnown, Told, query_stop, PreparesStaging}
 use Rattle.vtd_script.specs.Changes.{RefusesKnown, stops_at_file, touches_file}
 use Rattle.vtd_script.specs.Changes.{StaysUnlessDone, StaysUnlessReady, FileCounts, fails_at_file, writes}
 use Rattle.vtd_lines.specs.Commands.{Wrong, line_too_long, line_no_text, no_such_command, no_such_escape, read}
@@ -31,12 +30,11 @@ use Rattle.vtd_lines.specs.Readings.{Reads}
 use Rattle.vtd_lines.specs.declared.commands.LineFault.{LineFault}
 use Rattle.vtd_lines.specs.declared.commands.LineFault.TheVariants as why
 use Rattle.vtd_lines.specs.declared.commands.Command.{Command}
-use Rattle.vtd_lines.specs.declared.commands.Command.TheVariants.{Apply, Elements, Save}
+use Rattle.vtd_lines.specs.declared.commands.Command.TheVariants.{Elements, Save}
 use Rattle.xpath_grammar.specs.declared.bindings.BindFault.{BindFault}
 use Rattle.xpath_grammar.specs.declared.bindings.BindFault.TheVariants.{Name}
 use Rattle.vtd_script.specs.declared.refusals.Refusal.{Refusal}
 use Rattle.vtd_script.specs.declared.refusals.Refusal.TheVariants as no
-use Rattle.vtd_script.specs.declared.ready.Made.{Made}
 use Rattle.vtd_script.specs.declared.ready.Ready.{Ready}
 use Rattle.vtd_script.specs.declared.ready.Change.{Change}
 use Rattle.vtd_script.specs.declared.ready.Change.TheVariants as change
@@ -162,25 +160,8 @@ prepares_file rose name s ready lines n l d = (
   λ w. (refl, refl),
 )
 
-pub prepares_apply : (work now : Work) (files : NameMap) (made : Made) (ready : Ready) → MakesDocument (Takes (new_bytes work)) (Ok made)
-    → now ≡ record { bytes = made.document; bound = work.bound; staged = [] } → ready.change ≡ change.Nothing → ready.lines ≡ made.lines
-    → Prepares ⊥ Apply (state_of work files) (state_of now files) (Ok ready)
-prepares_apply work now files made ready h w n l =
-    let P : Work → Type 0 = λ x. Takes (new_bytes work) (state_of work files) (printed made.lines (state_of x files)) in
-    prepares_nothing ⊥ Apply (state_of work files) (state_of now files) ready made.lines n l (subst P (sym w) (h (state_of work files)))
-
-pub stops_apply : (work : Work) (files : NameMap) (x : Stop) → MakesDocument (Takes (new_bytes work)) (Err x)
-    → Prepares ⊥ Apply (state_of work files) (state_of work files) (Err x)
-stops_apply work files (stop.Refused refusal) h = (refl, h (state_of work files))
-stops_apply work files stop.File h = absurd h
-stops_apply work files stop.NoMemory h = refl
-
-pub makes_no_file : (bytes : List ℕ) (x : Stop) → MakesDocument (Takes bytes) (Err x) → stops_at_file {T = Ready} (Err x) ≡ false
-makes_no_file bytes (stop.Refused refusal) h = refl
-makes_no_file bytes stop.File h = absurd h
-makes_no_file bytes stop.NoMemory h = refl
-
-pub counts_same : (x : Stop) (mb ma pb pa : ℕ) → FileCounts (stops_at_file {T = Made} (Err x)) mb ma pb pa → FileCounts (stops_at_file {T = Ready} (Err x)) mb ma pb pa
+pub counts_same : {T U : Type 0} (x : Stop) (mb ma pb pa : ℕ) → FileCounts (stops_at_file {T = T} (Err x)) mb ma pb pa
+    → FileCounts (stops_at_file {T = U} (Err x)) mb ma pb pa
 counts_same (stop.Refused refusal) mb ma pb pa h = h
 counts_same stop.File mb ma pb pa h = h
 counts_same stop.NoMemory mb ma pb pa h = h
@@ -441,15 +422,8 @@ prepares_listed bytes lines s ready e n l h =
     let t = subst P e h in
     prepares_nothing ⊥ Elements s s ready lines n l (t.0, t.1, ap (λ (xs : List ℕ). printed xs s) t.2)
 
--- the document of bytes, with its line
-pub reads_made : (bytes built lines held : List ℕ) → built ≡ bytes → held ≡ lines
-    → ((nest : Forest) × Accepted 8 built nest × (lines ≡ document_line (length built) (length (records nest (first_place built)))))
-    → (nest : Forest) × Accepted 8 bytes nest × (held ≡ document_line (length bytes) (length (records nest (first_place bytes))))
-reads_made bytes built lines held b l h =
-    let P : List ℕ → Type 0 = λ x. (nest : Forest) × Accepted 8 x nest × (held ≡ document_line (length x) (length (records nest (first_place x)))) in
-    subst P b (h.0, h.1, l ∙ h.2)
-
-pub counts_read : (result : Result Made Stop) (mb ma pb pa : ℕ) → stops_at_file result ≡ false → ma ≡ mb → pa ≡ pb → FileCounts (stops_at_file result) mb ma pb pa
+-- a file that was read, where nothing stops at it
+pub counts_read : {T : Type 0} (result : Result T Stop) (mb ma pb pa : ℕ) → stops_at_file result ≡ false → ma ≡ mb → pa ≡ pb → FileCounts (stops_at_file result) mb ma pb pa
 counts_read result mb ma pb pa n m p = let P : Bool → Type 0 = λ b. FileCounts b mb ma pb pa in subst P (sym n) (m, p)
 
 -- what is told of an expression, or why nothing is

@@ -28,9 +28,13 @@ use Rattle.vtd_script.specs.Queries.{Selects, Values, selected, valued}
 use Rattle.vtd_script.specs.States.{State, Answer, skipped, printed, refused, missing, state_after, new_bytes}
 use Rattle.vtd_script.specs.Steps.{HasDocument, asks_for, Lists, Tells, shown, Puts, overlaps, text_long, put, StagesMade, Stages, Binds, Does, Answers, Step, ok_line, with_binding, name_of}
 use Rattle.vtd_script.proofs.IndexLaws.{kept_indexes, kept_takes_index, one_indexes, one_takes_index, some_indexes, some_takes_index}
-use Rattle.vtd_script.specs.Steps.{Takes, TakesIndex, too_long, unfit, accepted, Opens, document_limit, document_line, refusal_of, with_document}
+use Rattle.vtd_script.specs.Steps.{Takes, TakesIndex, too_long, unfit, accepted, Opens, document_limit, document_line, refusal_of}
+use Rattle.vtd_script.specs.Steps.{with_applied, with_document, with_staged}
+use Rattle.vtd_script.proofs.UndoLaws.{kept_bound, kept_changed, kept_files, kept_opened, kept_redoing, kept_undoing, one_redoing, one_undoing}
+use Rattle.vtd_script.proofs.UndoLaws.{some_redoing, some_undoing}
 use Rattle.vtd_lines.specs.declared.commands.Command.{Command}
-use Rattle.vtd_lines.specs.declared.commands.Command.TheVariants.{Elements, Ns, Select, Value, Remove, Replace, Before, After, First, Last, Attr, Set, Rename, Discard, Apply, Save, Index, Open, Load}
+use Rattle.vtd_lines.specs.declared.commands.Command.TheVariants.{Elements, Ns, Select, Value, Remove, Replace, Before, After, First, Last, Attr, Set, Rename, Discard, Apply, Undo, Redo}
+use Rattle.vtd_lines.specs.declared.commands.Command.TheVariants.{Save, Index, Open, Load}
 use Rattle.vtd_script.specs.declared.refusals.Refusal.{Refusal}
 use Rattle.vtd_script.specs.declared.refusals.Refusal.TheVariants as no
 
@@ -88,17 +92,17 @@ last_layer (docs.Namespace at) = omega arith
 not_both : (bytes : List ℕ) (nest : Forest) (fault : DocFault) → Accepted 8 bytes nest → IsRefusal bytes fault → ⊥
 not_both bytes nest fault a r = answers.not_both 8 bytes nest fault a (last_layer fault) r
 
-one_takes : (bytes : List ℕ) (s : State) (a b : Answer) → Takes bytes s a → Takes bytes s b → a ≡ b
-one_takes bytes s a b (too_long l) (too_long m) = refl
-one_takes bytes s a b (too_long l) (unfit m fault r) = absurd (omega arith)
-one_takes bytes s a b (too_long l) (accepted m nest r) = absurd (omega arith)
-one_takes bytes s a b (unfit l fault q) (too_long m) = absurd (omega arith)
-one_takes bytes s a b (unfit l fault q) (unfit m other r) = ap (λ (f : DocFault). refused (refusal_of f)) (one_refusal bytes fault other q r)
-one_takes bytes s a b (unfit l fault q) (accepted m nest r) = absurd (not_both bytes nest fault r q)
-one_takes bytes s a b (accepted l nest q) (too_long m) = absurd (omega arith)
-one_takes bytes s a b (accepted l nest q) (unfit m fault r) = absurd (not_both bytes nest fault q r)
-one_takes bytes s a b (accepted l nest q) (accepted m other r) =
-    ap (λ (n : Forest). printed (document_line (length bytes) (length (records n (first_place bytes)))) (with_document bytes s))
+one_takes : (become : List ℕ → State → State) (bytes : List ℕ) (s : State) (a b : Answer) → Takes become bytes s a → Takes become bytes s b → a ≡ b
+one_takes become bytes s a b (too_long l) (too_long m) = refl
+one_takes become bytes s a b (too_long l) (unfit m fault r) = absurd (omega arith)
+one_takes become bytes s a b (too_long l) (accepted m nest r) = absurd (omega arith)
+one_takes become bytes s a b (unfit l fault q) (too_long m) = absurd (omega arith)
+one_takes become bytes s a b (unfit l fault q) (unfit m other r) = ap (λ (f : DocFault). refused (refusal_of f)) (one_refusal bytes fault other q r)
+one_takes become bytes s a b (unfit l fault q) (accepted m nest r) = absurd (not_both bytes nest fault r q)
+one_takes become bytes s a b (accepted l nest q) (too_long m) = absurd (omega arith)
+one_takes become bytes s a b (accepted l nest q) (unfit m fault r) = absurd (not_both bytes nest fault q r)
+one_takes become bytes s a b (accepted l nest q) (accepted m other r) =
+    ap (λ (n : Forest). printed (document_line (length bytes) (length (records n (first_place bytes)))) (become bytes s))
     (one_document bytes nest other q.document r.document)
 
 one_opens : (Gives : List ℕ → State → Answer → Type 0) (staged : List Splice) (file : Option (List ℕ)) (s : State) (a b : Answer)
@@ -122,10 +126,13 @@ one_does (Attr expr text) s a b h k = one_stages _ _ s a b h k
 one_does (Set expr text) s a b h k = one_stages _ _ s a b h k
 one_does (Rename expr name) s a b h k = one_stages _ _ s a b h k
 one_does Discard s a b h k = h ∙ sym k
-one_does Apply s a b h k = one_takes (new_bytes s.work) s a b h k
+one_does Apply s a b h k = one_takes with_applied (new_bytes s.work) s a b h k
+one_does Undo s a b h k = one_undoing s a b h k
+one_does Redo s a b h k = one_redoing s a b h k
 one_does (Save file) s a b h k = h ∙ sym k
 one_does (Index file) s a b h k = one_indexes (name_of file) s a b h k
-one_does (Open file) s a b h k = one_opens Takes s.work.staged (s.files (name_of file)) s a b (λ bytes x y. one_takes bytes s a b x y) h k
+one_does (Open file) s a b h k =
+    one_opens (Takes with_document) s.work.staged (s.files (name_of file)) s a b (λ bytes x y. one_takes with_document bytes s a b x y) h k
 one_does (Load file) s a b h k = one_opens TakesIndex s.work.staged (s.files (name_of file)) s a b (λ bytes x y. one_takes_index bytes s a b x y) h k
 
 one_answers : (asked : Option (Result Command Refusal)) (s : State) (a b : Answer) → Answers asked s a → Answers asked s b → a ≡ b
@@ -161,15 +168,15 @@ some_made (Err fault) s = (refused (operation_refusal fault), refl)
 
 some_stages : (text : List ℕ) (operation : Operation) (s : State) → HasDocument s → (a : Answer) × Stages text operation s a
 some_stages text operation s w =
-    let h = some_operation s.work.bytes w.0 s.work.bound text operation in
+    let h = some_operation s.work.bytes w.nest s.work.bound text operation in
     let m = some_made h.0 s in
-    (m.0, record { nest = w.0; accepted = w.1; found = h.0; operates = h.1; stages = m.1 })
+    (m.0, record { nest = w.nest; accepted = w.accepted; found = h.0; operates = h.1; stages = m.1 })
 
-some_takes : (bytes : List ℕ) (s : State) → (a : Answer) × Takes bytes s a
-some_takes bytes s = elim (cases_lt document_limit (length bytes)) [
+some_takes : (become : List ℕ → State → State) (bytes : List ℕ) (s : State) → (a : Answer) × Takes become bytes s a
+some_takes become bytes s = elim (cases_lt document_limit (length bytes)) [
   | inl l ↦ (refused no.FileLong, too_long l)
   | inr l ↦ (elim (some_answer bytes 8 (omega arith)) [
-    | inl n ↦ (printed (document_line (length bytes) (length (records n.0 (first_place bytes)))) (with_document bytes s), accepted l n.0 n.1)
+    | inl n ↦ (printed (document_line (length bytes) (length (records n.0 (first_place bytes)))) (become bytes s), accepted l n.0 n.1)
     | inr f ↦ (refused (refusal_of f.0), unfit l f.0 f.2)
   ])
 ]
@@ -181,10 +188,10 @@ some_opens Gives [] (Some bytes) s some = some bytes
 some_opens Gives (splice ∷ staged) file s some = (refused no.Staged, refl)
 
 some_does : (command : Command) (s : State) → HasDocument s → (a : Answer) × Does command s a
-some_does Elements s w = (printed (listed w.0 (first_place s.work.bytes)) s, (w.0, w.1, refl))
+some_does Elements s w = (printed (listed w.nest (first_place s.work.bytes)) s, (w.nest, w.accepted, refl))
 some_does (Ns prefix uri) s w = some_binds (can_bind prefix uri) prefix uri s
-some_does (Select expr) s w = some_tells _ s (some_selects s.work.bytes s.work.bound (encode_utf8_all expr) w.0 w.1)
-some_does (Value expr) s w = some_tells _ s (some_told s.work.bytes s.work.bound (encode_utf8_all expr) w.0 w.1)
+some_does (Select expr) s w = some_tells _ s (some_selects s.work.bytes s.work.bound (encode_utf8_all expr) w.nest w.accepted)
+some_does (Value expr) s w = some_tells _ s (some_told s.work.bytes s.work.bound (encode_utf8_all expr) w.nest w.accepted)
 some_does (Remove expr) s w = some_stages (encode_utf8_all expr) operations.Remove s w
 some_does (Replace expr text) s w = some_stages (encode_utf8_all expr) (operations.Replace (borrowed (encode_utf8_all text))) s w
 some_does (Before expr text) s w = some_stages (encode_utf8_all expr) (operations.Before (borrowed (encode_utf8_all text))) s w
@@ -195,10 +202,12 @@ some_does (Attr expr text) s w = some_stages (encode_utf8_all expr) (operations.
 some_does (Set expr text) s w = some_stages (encode_utf8_all expr) (operations.Set (borrowed (encode_utf8_all text))) s w
 some_does (Rename expr name) s w = some_stages (encode_utf8_all expr) (operations.Rename (borrowed (encode_utf8_all name))) s w
 some_does Discard s w = (_, refl)
-some_does Apply s w = some_takes (new_bytes s.work) s
+some_does Apply s w = some_takes with_applied (new_bytes s.work) s
+some_does Undo s w = some_undoing s
+some_does Redo s w = some_redoing s
 some_does (Save file) s w = (_, refl)
 some_does (Index file) s w = some_indexes (name_of file) s w
-some_does (Open file) s w = some_opens Takes s.work.staged (s.files (name_of file)) s (λ bytes. some_takes bytes s)
+some_does (Open file) s w = some_opens (Takes with_document) s.work.staged (s.files (name_of file)) s (λ bytes. some_takes with_document bytes s)
 some_does (Load file) s w = some_opens TakesIndex s.work.staged (s.files (name_of file)) s (λ bytes. some_takes_index bytes s)
 
 some_answers : (asked : Option (Result Command Refusal)) (s : State) → HasDocument s → (a : Answer) × Answers asked s a
@@ -215,7 +224,7 @@ kept_by : (s : State) (a b : Answer) → a ≡ b → HasDocument (state_after s 
 kept_by s a b e w = let P : Answer → Type 0 = λ x. HasDocument (state_after s x) in subst P (sym e) w
 
 kept_binds : (can : Bool) (prefix uri : List ℕ) (s : State) (a : Answer) → Binds can prefix uri s a → HasDocument s → HasDocument (state_after s a)
-kept_binds true prefix uri s a h w = kept_by s a _ h w
+kept_binds true prefix uri s a h w = kept_by s a _ h (kept_bound s _ s.files w)
 kept_binds false prefix uri s a h w = kept_by s a _ h w
 
 kept_shown : (s : State) (told : Result (List ℕ) Refusal) → HasDocument s → HasDocument (state_after s (shown s told))
@@ -228,16 +237,21 @@ kept_tells P s a h w = kept_by s a _ h.2 (kept_shown s h.0 w)
 kept_puts : (splices : List Splice) (count : ℕ) (s : State) (a : Answer) → Puts splices count s a → HasDocument s → HasDocument (state_after s a)
 kept_puts splices count s a (overlaps earlier later h) w = w
 kept_puts splices count s a (text_long p l) w = w
-kept_puts splices count s a (put p l) w = w
+kept_puts splices count s a (put p l) w = kept_changed s s.work.bytes splices w.nest w.accepted w
 
 kept_made : (found : Result Operated OperationFault) (s : State) (a : Answer) → StagesMade found s a → HasDocument s → HasDocument (state_after s a)
 kept_made (Ok made) s a h w = kept_puts (s.work.staged ++ made.splices) made.count s a h w
 kept_made (Err fault) s a h w = kept_by s a _ h w
 
-kept_takes : (bytes : List ℕ) (s : State) (a : Answer) → Takes bytes s a → HasDocument s → HasDocument (state_after s a)
+kept_applied : (bytes : List ℕ) (s : State) (a : Answer) → Takes with_applied bytes s a → HasDocument s → HasDocument (state_after s a)
+kept_applied bytes s a (too_long l) w = w
+kept_applied bytes s a (unfit l fault r) w = w
+kept_applied bytes s a (accepted l nest r) w = kept_changed s bytes [] nest r w
+
+kept_takes : (bytes : List ℕ) (s : State) (a : Answer) → Takes with_document bytes s a → HasDocument s → HasDocument (state_after s a)
 kept_takes bytes s a (too_long l) w = w
 kept_takes bytes s a (unfit l fault r) w = w
-kept_takes bytes s a (accepted l nest r) w = (nest, r)
+kept_takes bytes s a (accepted l nest r) w = kept_opened s bytes nest r
 
 kept_opens : (Gives : List ℕ → State → Answer → Type 0) (staged : List Splice) (file : Option (List ℕ)) (s : State) (a : Answer)
     → ((bytes : List ℕ) → Gives bytes s a → HasDocument (state_after s a)) → Opens Gives staged file s a → HasDocument s → HasDocument (state_after s a)
@@ -259,11 +273,13 @@ kept_does (Last expr text) s a h w = kept_made h.found s a h.stages w
 kept_does (Attr expr text) s a h w = kept_made h.found s a h.stages w
 kept_does (Set expr text) s a h w = kept_made h.found s a h.stages w
 kept_does (Rename expr name) s a h w = kept_made h.found s a h.stages w
-kept_does Discard s a h w = kept_by s a _ h w
-kept_does Apply s a h w = kept_takes (new_bytes s.work) s a h w
-kept_does (Save file) s a h w = kept_by s a _ h w
+kept_does Discard s a h w = kept_by s a _ h (kept_changed s s.work.bytes [] w.nest w.accepted w)
+kept_does Apply s a h w = kept_applied (new_bytes s.work) s a h w
+kept_does Undo s a h w = kept_undoing s a h w
+kept_does Redo s a h w = kept_redoing s a h w
+kept_does (Save file) s a h w = kept_by s a _ h (kept_files s _ w)
 kept_does (Index file) s a h w = kept_indexes (name_of file) s a h w
-kept_does (Open file) s a h w = kept_opens Takes s.work.staged (s.files (name_of file)) s a (λ bytes t. kept_takes bytes s a t w) h w
+kept_does (Open file) s a h w = kept_opens (Takes with_document) s.work.staged (s.files (name_of file)) s a (λ bytes t. kept_takes bytes s a t w) h w
 kept_does (Load file) s a h w = kept_opens TakesIndex s.work.staged (s.files (name_of file)) s a (λ bytes t. kept_takes_index bytes s a t w) h w
 
 kept_answers : (asked : Option (Result Command Refusal)) (s : State) (a : Answer) → Answers asked s a → HasDocument s → HasDocument (state_after s a)

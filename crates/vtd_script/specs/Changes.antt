@@ -14,6 +14,7 @@ use Rattle.vtd_outside.specs.Known.{NameMap, put_into}
 use Rattle.vtd_outside.specs.Written.{LeavesPrefix}
 use Rattle.vtd_index.specs.Index.{index_of, IsFault}
 use Rattle.vtd_documents.specs.Loads.{IsFileOf}
+use Rattle.vtd_held.specs.Holding.{opened_bytes}
 use Rattle.vtd_index.specs.declared.faults.IndexFault.{IndexFault}
 use Rattle.vtd_queries.specs.declared.faults.QueryFault.{QueryFault}
 use Rattle.vtd_queries.specs.declared.faults.QueryFault.TheVariants as queries
@@ -36,6 +37,7 @@ use Rattle.vtd_script.specs.declared.endings.Ending.{Ending}
 use Rattle.vtd_script.specs.declared.endings.Ending.TheVariants as endings
 use Rattle.vtd_script.specs.declared.endings.StepFault.{StepFault}
 use Rattle.vtd_script.specs.declared.endings.StepFault.TheVariants as faults
+use Rattle.vtd_script.specs.declared.ready.Built.{Built}
 use Rattle.vtd_script.specs.declared.ready.Made.{Made}
 use Rattle.vtd_script.specs.declared.ready.Ready.{Ready}
 use Rattle.vtd_script.specs.declared.ready.Change.{Change}
@@ -91,12 +93,6 @@ PreparesStaging answers s now (Err (stop.Refused refusal)) = (now ≡ s) × answ
 PreparesStaging answers s now (Err stop.File) = ⊥
 PreparesStaging answers s now (Err stop.NoMemory) = now ≡ s
 
--- a document with its line, or there was no memory for it
-abbrev pub HasLine : List ℕ → Result Made Stop → Type 0
-HasLine bytes (Ok made) = (made.document ≡ bytes) × ((nest : Forest) × Accepted 8 bytes nest ×
-    (made.lines ≡ document_line (length bytes) (length (records nest (first_place bytes)))))
-HasLine bytes (Err fault) = fault ≡ stop.NoMemory
-
 -- The bytes of a file, where nothing is staged and they are not too many.
 pub record GivesBytes (limit : ℕ) (s : State) (file bytes : List ℕ) : Type 0 where
   pub unstaged : s.work.staged ≡ []
@@ -121,9 +117,9 @@ ReadsFile limit file_rose s file (Err stop.File) =
 ReadsFile limit file_rose s file (Err stop.NoMemory) = Unit {0}
 
 -- Bytes that are not too many are read as a document, with its line, or refused.
-abbrev pub ReadsDocument : List ℕ → Result Made Stop → Type 0
-ReadsDocument bytes (Ok made) = (made.document ≡ bytes) × ((nest : Forest) × Accepted 8 bytes nest ×
-    (made.lines ≡ document_line (length bytes) (length (records nest (first_place bytes)))))
+abbrev pub ReadsDocument : List ℕ → Result Built Stop → Type 0
+ReadsDocument bytes (Ok built) = (built.document.bytes ≡ bytes) × ((nest : Forest) × Accepted 8 bytes nest ×
+    (built.lines ≡ document_line (length bytes) (length (records nest (first_place bytes)))))
 ReadsDocument bytes (Err (stop.Refused refusal)) =
     (fault : DocFault) × IsRefusal bytes fault × (refusal ≡ refusal_of fault)
 ReadsDocument bytes (Err stop.File) = ⊥
@@ -131,25 +127,27 @@ ReadsDocument bytes (Err stop.NoMemory) = Unit {0}
 
 -- The document of an index file that is not too long was read, with its line, or the file is refused.
 abbrev pub ReadsIndex : List ℕ → Result Made Stop → Type 0
-ReadsIndex file (Ok made) = (i : IsFileOf file made.document)
-    × (made.lines ≡ document_line (length made.document) (length (records i.nest (first_place made.document))))
+ReadsIndex file (Ok made) = (i : IsFileOf file (opened_bytes made.document))
+    × (made.lines ≡ document_line (length (opened_bytes made.document))
+    (length (records i.nest (first_place (opened_bytes made.document)))))
 ReadsIndex file (Err (stop.Refused refusal)) =
     (fault : IndexFault) × IsFault file fault × (refusal ≡ index_refusal fault)
 ReadsIndex file (Err stop.File) = ⊥
 ReadsIndex file (Err stop.NoMemory) = Unit {0}
 
--- A document was made with its line, which becomes the document; or why none was.
-abbrev pub MakesDocument : (State → Answer → Type 0) → Result Made Stop → Type 0
-MakesDocument Gives (Ok made) = (s : State) → Gives s (printed made.lines (with_document made.document s))
-MakesDocument Gives (Err (stop.Refused refusal)) = (s : State) → Gives s (refused refusal)
-MakesDocument Gives (Err stop.File) = ⊥
-MakesDocument Gives (Err stop.NoMemory) = Unit {0}
+-- A document was built with its line, which becomes the document in this way; or why none was.
+abbrev pub MakesDocument : (State → Answer → Type 0) → (List ℕ → State → State) → Result Built Stop → Type 0
+MakesDocument Gives become (Ok built) =
+    (s : State) → Gives s (printed built.lines (become built.document.bytes s))
+MakesDocument Gives become (Err (stop.Refused refusal)) = (s : State) → Gives s (refused refusal)
+MakesDocument Gives become (Err stop.File) = ⊥
+MakesDocument Gives become (Err stop.NoMemory) = Unit {0}
 
 -- A file gave a document with its line, which becomes the document of a state; or why it does not.
 abbrev pub OpensDocument :
     (List ℕ → State → Answer → Type 0) → Type 0 → State → List ℕ → Result Made Stop → Type 0
 OpensDocument Gives file_rose s file (Ok made) = Opens Gives s.work.staged (s.files (name_of file)) s
-    (printed made.lines (with_document made.document s))
+    (printed made.lines (with_document (opened_bytes made.document) s))
 OpensDocument Gives file_rose s file (Err (stop.Refused refusal)) =
     Opens Gives s.work.staged (s.files (name_of file)) s (refused refusal)
 OpensDocument Gives file_rose s file (Err stop.File) =

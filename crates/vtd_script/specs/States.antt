@@ -4,17 +4,39 @@ use Rattle.std.specs.Fmt.{decimal}
 use Rattle.vtd_outside.specs.Known.{NameMap}
 use Rattle.vtd_edits.specs.Splices.{spliced}
 use Rattle.vtd_edits.specs.declared.splice.Splice.{Splice}
+use Rattle.vtd_revisions.specs.Timelines.{Revision, Timeline, changed, opened}
 use Rattle.vtd_script.specs.Faults.{width_word}
 use Rattle.vtd_listing.specs.Listing.{line_feed}
 use Rattle.vtd_script.specs.declared.refusals.Refusal.{Refusal}
 use Rattle.vtd_script.specs.declared.refusals.Refusal.TheVariants as no
 
--- what a session holds: the document's bytes, the prefixes that were set with their URIs, and the staged splices in
--- their order
+-- what a session holds: the document's bytes, the prefixes that were set with their URIs, the staged splices in their
+-- order, the revisions that `undo` gives, the next one last, and those that `redo` gives, likewise
 pub record Work : Type 0 where
   pub bytes : List ℕ
   pub bound : List (List ℕ × List ℕ)
   pub staged : List Splice
+  pub done : List Revision
+  pub undone : List Revision
+
+-- a document with its revisions, for which prefixes are bound
+abbrev pub work_of : List (List ℕ × List ℕ) → Timeline → Work
+work_of bound t = record { bytes = t.bytes; bound = bound; staged = t.staged; done = t.done; undone = t.undone }
+
+abbrev pub timeline_of : Work → Timeline
+timeline_of w = record { bytes = w.bytes; staged = w.staged; done = w.done; undone = w.undone }
+
+-- a document for which nothing is bound, and before which nothing was
+abbrev pub first_work : List ℕ → Work
+first_work bytes = work_of [] (opened bytes)
+
+-- after a change of the document or of what is staged; what is bound stays
+abbrev pub changed_work : List ℕ → List Splice → Work → Work
+changed_work bytes staged w = work_of w.bound (changed bytes staged (timeline_of w))
+
+-- with another document, before which nothing was; what is bound stays
+abbrev pub opened_work : List ℕ → Work → Work
+opened_work bytes w = work_of w.bound (opened bytes)
 
 -- the bytes that the staged splices make of the document
 abbrev pub new_bytes : Work → List ℕ
@@ -64,6 +86,8 @@ refusal_words (no.Overlap earlier later) = codes "overlap " ++ decimal earlier +
 refusal_words no.TextLong = codes "text-long"
 refusal_words no.FileLong = codes "file-long"
 refusal_words no.IndexLong = codes "index-long"
+refusal_words no.NoUndo = codes "no-undo"
+refusal_words no.NoRedo = codes "no-redo"
 refusal_words (no.Utf8 at) = codes "utf8 " ++ decimal at
 refusal_words (no.Syntax at) = codes "syntax " ++ decimal at
 refusal_words (no.Entity at) = codes "entity " ++ decimal at

@@ -2,7 +2,7 @@
 use Rattle.std.specs.Prelude.{◌≡◌, ℕ, ◌<◌, ◌≤◌, Bool, true, false, List, [], ◌∷◌, ◌++◌, length, codes, encode_utf8_all}
 use Rattle.std.specs.Prelude.{Option, Some, None, Result, Ok, Err}
 use Rattle.std.specs.Borrow.{Bor}
-use Rattle.std.specs.List.{list_any}
+use Rattle.std.specs.List.{list_any, All}
 use Rattle.std.specs.Fmt.{decimal}
 use Rattle.xml_model.specs.Items.{first_place}
 use Rattle.xml_model.specs.Nest.{Forest}
@@ -20,6 +20,8 @@ use Rattle.vtd_index.specs.declared.faults.IndexFault.TheVariants as index
 use Rattle.xpath_grammar.specs.Bindings.{can_bind, bound_in}
 use Rattle.vtd_listing.specs.Listing.{line_feed, listed}
 use Rattle.vtd_script.specs.States.{State, Answer, skipped, printed, refused, missing, new_bytes}
+use Rattle.vtd_script.specs.States.{changed_work, opened_work, timeline_of, work_of}
+use Rattle.vtd_revisions.specs.Timelines.{Revision, Timeline, UndoneTo, RedoneTo}
 use Rattle.vtd_edits.specs.Splices.{AreApart, HasFirstOverlap, text_limit, text_size}
 use Rattle.vtd_modifier.specs.declared.operation.Operation.{Operation}
 use Rattle.vtd_modifier.specs.declared.operation.Operation.TheVariants as operations
@@ -32,31 +34,37 @@ use Rattle.vtd_lines.specs.Commands.{Wrong, line_too_long, line_no_text, no_such
 use Rattle.vtd_lines.specs.declared.commands.Command.{Command}
 use Rattle.vtd_lines.specs.declared.commands.Command.TheVariants.{Elements, Ns, Select, Value, Remove, Replace}
 use Rattle.vtd_lines.specs.declared.commands.Command.TheVariants.{Before, After, First, Last, Attr, Set, Rename}
-use Rattle.vtd_lines.specs.declared.commands.Command.TheVariants.{Discard, Apply, Save, Index, Open, Load}
+use Rattle.vtd_lines.specs.declared.commands.Command.TheVariants.{Discard, Apply, Undo, Redo, Save, Index, Open, Load}
 use Rattle.vtd_script.specs.declared.refusals.Refusal.{Refusal}
 use Rattle.vtd_script.specs.declared.refusals.Refusal.TheVariants as no
 
--- the bytes of a state are a document that is accepted whole
-abbrev pub HasDocument : State → Type 0
-HasDocument s = (nest : Forest) × Accepted 8 s.work.bytes nest
+-- each of these revisions has a document that is accepted whole
+abbrev pub HaveDocuments : List Revision → Type 0
+HaveDocuments revisions = All (λ r. (nest : Forest) × Accepted 8 r.bytes nest) revisions
+
+-- the bytes of a state are a document that is accepted whole, and so are those of each revision to which it can go
+pub record HasDocument (s : State) : Type 0 where
+  pub nest : Forest
+  pub accepted : Accepted 8 s.work.bytes nest
+  pub done : HaveDocuments s.work.done
+  pub undone : HaveDocuments s.work.undone
 
 -- the state with a prefix bound to a URI, in place of an earlier binding
 abbrev pub with_binding : List ℕ → List ℕ → State → State
 with_binding prefix uri s =
-    record {
-      work = record { bytes = s.work.bytes; bound = bound_in s.work.bound prefix uri; staged = s.work.staged };
-      files = s.files;
-    }
+    record { work = work_of (bound_in s.work.bound prefix uri) (timeline_of s.work); files = s.files }
 
--- the state with these splices staged
+-- the state with these splices staged: one change
 abbrev pub with_staged : List Splice → State → State
-with_staged staged s =
-    record { work = record { bytes = s.work.bytes; bound = s.work.bound; staged = staged }; files = s.files }
+with_staged staged s = record { work = changed_work s.work.bytes staged s.work; files = s.files }
 
--- the state with another document, for which nothing is staged; what is bound stays
+-- the state with its new bytes as the document, for which nothing is staged: one change
+abbrev pub with_applied : List ℕ → State → State
+with_applied bytes s = record { work = changed_work bytes [] s.work; files = s.files }
+
+-- the state with another document, for which nothing is staged, and before which nothing was; what is bound stays
 abbrev pub with_document : List ℕ → State → State
-with_document bytes s =
-    record { work = record { bytes = bytes; bound = s.work.bound; staged = [] }; files = s.files }
+with_document bytes s = record { work = opened_work bytes s.work; files = s.files }
 
 -- the state with a file of these bytes
 abbrev pub with_file : List ℕ → List ℕ → State → State
@@ -69,6 +77,13 @@ name_of field = encode_utf8_all field
 -- the line of a command that succeeds and has nothing to tell
 abbrev pub ok_line : List ℕ
 ok_line = codes "ok" ++ line_feed
+
+-- the lines of a change that was undone, and of one that was redone
+abbrev pub undone_line : List ℕ
+undone_line = codes "undone" ++ line_feed
+
+abbrev pub redone_line : List ℕ
+redone_line = codes "redone" ++ line_feed
 
 -- the line of a file that was written, by how many bytes it has
 abbrev pub saved_line : ℕ → List ℕ
@@ -155,14 +170,26 @@ pub record Stages (text : List ℕ) (operation : Operation) (s : State) (a : Ans
 abbrev pub StagesText : List ℕ → (Bor (List ℕ) → Operation) → List ℕ → State → Answer → Type 0
 StagesText expr operation text s a = Stages (encode_utf8_all expr) (operation (borrowed (encode_utf8_all text))) s a
 
--- Bytes are to be the document: they are too many, or refused, or become it.
-pub data Takes (bytes : List ℕ) (s : State) : Answer → Type 0 where
-  too_long : document_limit < length bytes → Takes bytes s (refused no.FileLong)
+-- Bytes are to be the document: they are too many, or refused, or become it, in this way.
+pub data Takes (become : List ℕ → State → State) (bytes : List ℕ) (s : State) : Answer → Type 0 where
+  too_long : document_limit < length bytes → Takes become bytes s (refused no.FileLong)
   unfit : length bytes ≤ document_limit → (fault : DocFault) → IsRefusal bytes fault →
-      Takes bytes s (refused (refusal_of fault))
+      Takes become bytes s (refused (refusal_of fault))
   accepted : length bytes ≤ document_limit → (nest : Forest) → Accepted 8 bytes nest →
-      Takes bytes s (printed (document_line (length bytes) (length (records nest (first_place bytes))))
-      (with_document bytes s))
+      Takes become bytes s (printed (document_line (length bytes) (length (records nest (first_place bytes))))
+      (become bytes s))
+
+-- The last change is undone, or none is kept; files and bindings stay.
+pub data Undoing (s : State) : Answer → Type 0 where
+  none_done : s.work.done ≡ [] → Undoing s (refused no.NoUndo)
+  undone_one : (t : Timeline) → UndoneTo (timeline_of s.work) t →
+      Undoing s (printed undone_line (record { work = work_of s.work.bound t; files = s.files }))
+
+-- The change that was undone last is redone, or none is kept.
+pub data Redoing (s : State) : Answer → Type 0 where
+  none_undone : s.work.undone ≡ [] → Redoing s (refused no.NoRedo)
+  redone_one : (t : Timeline) → RedoneTo (timeline_of s.work) t →
+      Redoing s (printed redone_line (record { work = work_of s.work.bound t; files = s.files }))
 
 -- The document of an index file is to be the document: the file is too long, or has a fault, or its document becomes
 -- it. What has a number above 255 is no file.
@@ -212,10 +239,12 @@ Does (Attr expr text) s a = StagesText expr (λ t. operations.Attr t) text s a
 Does (Set expr text) s a = StagesText expr (λ t. operations.Set t) text s a
 Does (Rename expr name) s a = StagesText expr (λ t. operations.Rename t) name s a
 Does Discard s a = a ≡ printed ok_line (with_staged [] s)
-Does Apply s a = Takes (new_bytes s.work) s a
+Does Apply s a = Takes with_applied (new_bytes s.work) s a
+Does Undo s a = Undoing s a
+Does Redo s a = Redoing s a
 Does (Save file) s a = Saves (name_of file) (new_bytes s.work) s a
 Does (Index file) s a = Indexes (name_of file) s a
-Does (Open file) s a = Opens Takes s.work.staged (s.files (name_of file)) s a
+Does (Open file) s a = Opens (Takes with_document) s.work.staged (s.files (name_of file)) s a
 Does (Load file) s a = Opens TakesIndex s.work.staged (s.files (name_of file)) s a
 
 -- the refusal of a line that asks for no command
@@ -260,6 +289,8 @@ has_file (Set expr text) = false
 has_file (Rename expr name) = false
 has_file Discard = false
 has_file Apply = false
+has_file Undo = false
+has_file Redo = false
 has_file (Save file) = true
 has_file (Index file) = true
 has_file (Open file) = true

@@ -83,7 +83,7 @@ pub fn staged_lines(alloc: Global, count: u64) -> Result<Vec<u8>, NoMemory>
 /// `Refused` exactly where the expression has no nodes, with why; `NoMemory` may come in place of any other answer.
 pub fn selected_lines(
     alloc: Global,
-    document: &Document,
+    document: &Document<'_>,
     bindings: &Bindings,
     expr: &str,
 ) -> Result<Bytes, Stop>
@@ -101,7 +101,7 @@ pub fn selected_lines(
 /// `Refused` exactly where the expression has no value, with why; `NoMemory` may come in place of any other answer.
 pub fn valued_lines(
     alloc: Global,
-    document: &Document,
+    document: &Document<'_>,
     bindings: &Bindings,
     expr: &str,
 ) -> Result<Bytes, Stop>

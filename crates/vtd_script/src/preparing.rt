@@ -8,13 +8,14 @@ ghost use Rattle.xml_model.specs.Accepted.{Accepted};
 ghost use Rattle.vtd_script.specs.Steps.{document_line, document_limit, index_limit, indexed_line, name_of};
 ghost use Rattle.vtd_script.specs.Steps.{saved_line};
 ghost use Rattle.vtd_words.specs.Numbers.{AreBytes};
-ghost use Rattle.vtd_script.specs.Changes.{HasLine, ReadsDocument, ReadsIndex, stops_at_file};
+ghost use Rattle.vtd_script.specs.Changes.{ReadsDocument, ReadsIndex, stops_at_file};
 
-use crate::ready::{Made, Stop};
+use crate::ready::{Built, Made, Stop};
 use crate::refusals::{index_refusal, refusal_of};
 use std::alloc::Global;
 use vtd_builder::{BuildFault, build};
-use vtd_documents::Document;
+use vtd_documents::{Document, load};
+use vtd_held::{Shown, show};
 use vtd_index::LoadFault;
 use vtd_listing::{push_decimal, push_text};
 use xml_model::{Bytes, NoMemory, Text};
@@ -68,7 +69,7 @@ pub fn indexed_lines(alloc: Global, count: u64) -> Result<Vec<u8>, NoMemory>
 }
 
 /// The line of a new document.
-fn document_lines(alloc: Global, document: &Document) -> Result<Vec<u8>, NoMemory>
+fn document_lines(alloc: Global, document: &Document<'_>) -> Result<Vec<u8>, NoMemory>
     ensures { IfOk result (λ lines. (nest : Forest) × Accepted 8 document.now nest ×
         (lines.items ≡ document_line (length document.now) (length (records nest (first_place document.now))))) }
 {
@@ -81,37 +82,27 @@ fn document_lines(alloc: Global, document: &Document) -> Result<Vec<u8>, NoMemor
     Ok(lines)
 }
 
-/// A document and its line.
-///
-/// # Errors
-/// `NoMemory` where the memory for the line was not to be had.
-fn with_line(alloc: Global, document: Document) -> Result<Made, Stop>
-    ensures { HasLine document result }
-{
-    match document_lines(alloc, &document) {
-        Ok(lines) => Ok(Made {
-            document,
-            lines: Bytes { held: lines },
-        }),
-        Err(_) => Err(Stop::NoMemory),
-    }
-}
-
 /// The document of bytes, and its line.
 ///
 /// # Errors
 /// `Refused` only by the refusal of the bytes; `NoMemory` may come in place of a refusal of names.
-pub fn read_document(alloc: Global, bytes: Vec<u8>) -> Result<Made, Stop>
+pub fn read_document(alloc: Global, bytes: Vec<u8>) -> Result<Built, Stop>
     requires { length bytes.items ≤ document_limit }
     ensures reads { ReadsDocument bytes.items result }
     ensures no_file { stops_at_file result ≡ false }
 {
     let document = match build(alloc, bytes) {
-        Ok(doc) => Document::built(doc),
+        Ok(doc) => doc,
         Err((_, BuildFault::Doc(fault))) => return Err(Stop::Refused(refusal_of(fault))),
         Err((_, BuildFault::NoMemory)) => return Err(Stop::NoMemory),
     };
-    with_line(alloc, document)
+    match document_lines(alloc, &Document::of(Shown::Built(&document))) {
+        Ok(lines) => Ok(Built {
+            document,
+            lines: Bytes { held: lines },
+        }),
+        Err(_) => Err(Stop::NoMemory),
+    }
 }
 
 /// The document of an index file, and its line.
@@ -124,9 +115,16 @@ pub fn read_index(alloc: Global, file: Vec<u8>) -> Result<Made, Stop>
     ensures of_bytes { AreBytes file.items }
     ensures no_file { stops_at_file result ≡ false }
 {
-    match Document::load(alloc, file) {
-        Ok(document) => with_line(alloc, document),
-        Err((_, LoadFault::Index(fault))) => Err(Stop::Refused(index_refusal(fault))),
-        Err((_, LoadFault::NoMemory)) => Err(Stop::NoMemory),
+    let document = match load(alloc, file) {
+        Ok(document) => document,
+        Err((_, LoadFault::Index(fault))) => return Err(Stop::Refused(index_refusal(fault))),
+        Err((_, LoadFault::NoMemory)) => return Err(Stop::NoMemory),
+    };
+    match document_lines(alloc, &Document::of(show(&document))) {
+        Ok(lines) => Ok(Made {
+            document,
+            lines: Bytes { held: lines },
+        }),
+        Err(_) => Err(Stop::NoMemory),
     }
 }

@@ -1,7 +1,8 @@
 //! What the first part of a command leaves to the second.
 
 use crate::refusals::Refusal;
-use vtd_documents::Document;
+use vtd_builder::Doc;
+use vtd_index::Opened;
 use xml_model::{Bytes, Text};
 
 /// A change that is still to be made.
@@ -30,11 +31,20 @@ pub struct Ready {
     pub lines: Bytes,
 }
 
+/// A document that was built, and the line that says so.
+#[derive(Drop)]
+pub struct Built {
+    /// The document.
+    pub document: Doc,
+    /// The line.
+    pub lines: Bytes,
+}
+
 /// A document that was read, and the line that says so.
 #[derive(Drop)]
 pub struct Made {
     /// The document.
-    pub document: Document,
+    pub document: Opened,
     /// The line.
     pub lines: Bytes,
 }

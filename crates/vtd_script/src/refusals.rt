@@ -78,6 +78,10 @@ pub enum Refusal {
     FileLong,
     /// The index file of the document would have more than 4,294,967,295 bytes.
     IndexLong,
+    /// `undo`: no change is kept.
+    NoUndo,
+    /// `redo`: no undone change is kept.
+    NoRedo,
     /// They are not UTF-8; `at` is the length of the longest prefix that is.
     Utf8 {
         /// Where.
@@ -239,6 +243,8 @@ fn push_words(line: &mut Vec<u8>, refusal: Refusal) -> Result<(), NoMemory>
         Refusal::TextLong => push_text(line, b"text-long"),
         Refusal::FileLong => push_text(line, b"file-long"),
         Refusal::IndexLong => push_text(line, b"index-long"),
+        Refusal::NoUndo => push_text(line, b"no-undo"),
+        Refusal::NoRedo => push_text(line, b"no-redo"),
         Refusal::Utf8 { at } => push_at(line, b"utf8 ", at),
         Refusal::Syntax { at } => push_at(line, b"syntax ", at),
         Refusal::Entity { at } => push_at(line, b"entity ", at),

@@ -8,8 +8,9 @@ ghost use Rattle.xml_model.specs.Nest.{Forest};
 ghost use Rattle.xml_model.specs.declared.DocFault.{DocFault};
 ghost use Rattle.vtd_outside.specs.Causes.{Rose};
 ghost use Rattle.vtd_outside.specs.Known.{NameMap};
-ghost use Rattle.vtd_script.specs.States.{new_bytes, state_of};
-ghost use Rattle.vtd_script.specs.Steps.{asks_file, asks_for, has_file, Stages, Takes, TakesIndex};
+ghost use Rattle.vtd_script.specs.States.{first_work, new_bytes, opened_work, state_of, work_of};
+ghost use Rattle.vtd_script.specs.Steps.{asks_file, asks_for, has_file, with_applied, with_document, Stages, Takes, TakesIndex};
+ghost use Rattle.vtd_held.specs.Holding.{opened_bytes};
 ghost use Rattle.vtd_words.specs.Numbers.{AreBytes};
 ghost use Rattle.vtd_documents.specs.Loads.{IsFileOf};
 ghost use Rattle.vtd_index.specs.Opening.{IsLoadFault};
@@ -20,24 +21,26 @@ ghost use Rattle.vtd_script.specs.Changes.{PreparesStaging};
 ghost use Rattle.vtd_script.specs.Changes.{RefusesKnown};
 ghost use Rattle.vtd_script.specs.Changes.{FileCounts, SendCounts, StaysUnlessDone, StaysUnlessReady, fails_at_file};
 ghost use Rattle.vtd_script.specs.Changes.{stops_at_file, touches_file, writes};
-ghost use Rattle.vtd_lines.specs.declared.commands.Command.TheVariants.{Apply, Discard, Elements, Index, Load, Ns};
+ghost use Rattle.vtd_lines.specs.declared.commands.Command.TheVariants.{Apply, Discard, Elements, Index, Load, Ns, Undo, Redo};
 ghost use Rattle.vtd_lines.specs.declared.commands.Command.TheVariants.{Open, Save, Select};
 
 use crate::asking::{operation_stop, selected_lines, stage_stop, staged_lines, valued_lines};
 use crate::endings::{Ending, StepFault};
-use crate::listing::ok_lines;
+use crate::listing::{ok_lines, redone_lines, undone_lines};
 use crate::preparing::{
     DOCUMENT_LIMIT, INDEX_LIMIT, indexed_lines, name_of, read_document, read_index, saved_lines,
     utf8_of,
 };
-use crate::ready::{Change, Made, Ready, Stop};
+use crate::ready::{Built, Change, Made, Ready, Stop};
 use crate::refusals::{Refusal, refusal_line};
 use std::alloc::Global;
 use std::marker::Model;
-use vtd_builder::{BuildFault, build};
-use vtd_documents::Document;
-use vtd_edits::{Edits, spliced};
-use vtd_index::LoadFault;
+use vtd_builder::BuildFault;
+use vtd_documents::{Document, load};
+use vtd_edits::spliced;
+use vtd_held::Held;
+use vtd_history::{RedoFault, UndoFault};
+use vtd_index::{LoadFault, Opened};
 use vtd_lines::{Command, LineFault, read_line};
 use vtd_modifier::Operation;
 use vtd_outside::{Failed, Files, GatherFault, Sink, gather_file, send};
@@ -51,20 +54,16 @@ use xpath_grammar::{BindFault, Bindings};
 #[derive(Drop)]
 pub struct Session {
     alloc: Global,
-    document: Document,
+    held: Held,
     bindings: Bindings,
-    edits: Edits,
 }
 
 impl Model for Session {
-    ghost use Rattle.std.specs.Prelude.{◌≡◌, length};
-    ghost use Rattle.vtd_script.specs.States.{Work};
+    ghost use Rattle.vtd_script.specs.States.{Work, work_of};
 
     ghost Value = { Work };
 
-    ghost view = { λ s. record { bytes = s.document; bound = s.bindings; staged = s.edits.splices } };
-
-    ghost invariant = { λ s. s.edits.len ≡ length s.document };
+    ghost view = { λ s. work_of s.bindings s.held };
 }
 
 /// A command whose first part is over.
@@ -95,16 +94,21 @@ fn read_command(alloc: Global, line: &[u8]) -> Result<Option<Command>, Stop>
 
 impl Session {
     /// A session over a document.
-    fn over(alloc: Global, document: Document) -> Session
-        ensures { result ≡ record { bytes = document; bound = []; staged = [] } }
+    fn over(alloc: Global, held: Held) -> Session
+        ensures { result ≡ work_of [] held }
     {
-        let length = document.bytes().len() as u32;
         Session {
             alloc,
-            document,
+            held,
             bindings: Bindings::new(alloc),
-            edits: Edits::new(alloc, length),
         }
+    }
+
+    /// The document, lent.
+    fn document(&self) -> Document<'_>
+        ensures { result ≡ self.now.bytes }
+    {
+        Document::of(self.held.shown())
     }
 
     /// A session over a document, with the prefix `xml` alone bound and nothing staged.
@@ -114,16 +118,16 @@ impl Session {
     /// back with each fault.
     pub fn start(alloc: Global, bytes: Vec<u8>) -> Result<Session, (Vec<u8>, BuildFault)>
         requires { vec_len bytes < 2 ^ 30 }
-        ensures started { IfOk result (λ s. s ≡ record { bytes = bytes.items; bound = []; staged = [] }) }
+        ensures started { IfOk result (λ s. s ≡ first_work bytes.items) }
         ensures accepted { IfOk result (λ s. (nest : Forest) × Accepted 8 bytes.items nest) }
-        ensures given_back { IfErr result (λ e. e.0 ≡ bytes) }
+        ensures given_back { IfErr result (λ e. e.0.items ≡ bytes.items) }
         ensures refused { IfErr result (λ e. (fault : DocFault) → e.1 ≡ BuildFault.Doc fault →
             IsRefusal bytes.items fault) }
         ensures no_memory { IfErr result (λ e. e.1 ≡ BuildFault.NoMemory →
             (nest : Forest) × Accepted 6 bytes.items nest) }
     {
-        match build(alloc, bytes) {
-            Ok(doc) => Ok(Session::over(alloc, Document::built(doc))),
+        match Held::build(alloc, bytes) {
+            Ok(held) => Ok(Session::over(alloc, held)),
             Err(fault) => Err(fault),
         }
     }
@@ -132,18 +136,21 @@ impl Session {
     /// and its words stay where they lie in a file of the second version, for which no memory is taken.
     ///
     /// # Errors
-    /// Those of `Document::load`, exactly. The file comes back.
-    pub fn start_index(alloc: Global, file: Vec<u8>) -> Result<Session, (Vec<u8>, LoadFault)>
+    /// Those of `vtd_documents::load`, exactly.
+    pub fn start_index(alloc: Global, file: Vec<u8>) -> Result<Session, LoadFault>
         requires { vec_len file < 2 ^ 32 }
         ensures of_bytes { AreBytes file.items }
         ensures index { IfOk result (λ s. IsFileOf file.items s.bytes) }
-        ensures started { IfOk result (λ s. s ≡ record { bytes = s.bytes; bound = []; staged = [] }) }
-        ensures given_back { IfErr result (λ e. e.0 ≡ file) }
-        ensures fault { IfErr result (λ e. IsLoadFault file.items e.1) }
+        ensures started { IfOk result (λ s. s ≡ first_work s.bytes) }
+        ensures fault { IfErr result (λ fault. IsLoadFault file.items fault) }
     {
-        match Document::load(alloc, file) {
-            Ok(document) => Ok(Session::over(alloc, document)),
-            Err(fault) => Err(fault),
+        let document = match load(alloc, file) {
+            Ok(document) => document,
+            Err((_, fault)) => return Err(fault),
+        };
+        match Held::of(alloc, document) {
+            Ok(held) => Ok(Session::over(alloc, held)),
+            Err(_) => Err(LoadFault::NoMemory),
         }
     }
 
@@ -153,7 +160,7 @@ impl Session {
             Prepares ⊥ Elements (state_of self.now files) (state_of self.now files) result }
         ensures no_file { stops_at_file result ≡ false }
     {
-        match self.document.element_lines(self.alloc) {
+        match self.document().element_lines(self.alloc) {
             Ok(lines) => Ok(ready(Change::Nothing, lines)),
             Err(_) => Err(Stop::NoMemory),
         }
@@ -181,7 +188,7 @@ impl Session {
             Prepares ⊥ (Select expr.now) (state_of self.now files) (state_of self.now files) result }
         ensures no_file { stops_at_file result ≡ false }
     {
-        match selected_lines(self.alloc, &self.document, &self.bindings, utf8_of(expr)) {
+        match selected_lines(self.alloc, &self.document(), &self.bindings, utf8_of(expr)) {
             Ok(lines) => Ok(Ready {
                 change: Change::Nothing,
                 lines,
@@ -196,7 +203,7 @@ impl Session {
             Prepares ⊥ (Command.Value expr.now) (state_of self.now files) (state_of self.now files) result }
         ensures no_file { stops_at_file result ≡ false }
     {
-        match valued_lines(self.alloc, &self.document, &self.bindings, utf8_of(expr)) {
+        match valued_lines(self.alloc, &self.document(), &self.bindings, utf8_of(expr)) {
             Ok(lines) => Ok(Ready {
                 change: Change::Nothing,
                 lines,
@@ -214,19 +221,18 @@ impl Session {
         ensures no_file { stops_at_file result ≡ false }
     {
         let expr = utf8_of(expr);
-        let made = match self
-            .document
-            .operate(self.alloc, &self.bindings, expr, operation)
-        {
+        let document = Document::of(self.held.shown());
+        let made = match document.operate(self.alloc, &self.bindings, expr, operation) {
             Ok(made) => made,
             Err(fault) => return Err(operation_stop(fault)),
         };
         let Ok(lines) = staged_lines(self.alloc, made.count) else {
             return Err(Stop::NoMemory);
         };
-        if let Err((_, fault)) = self.edits.stage(made.splices) {
+        if let Err((_, fault)) = self.held.stage(made.splices) {
             return Err(stage_stop(fault));
         }
+        let _fits = self.held.edits();
         Ok(ready(Change::Nothing, lines))
     }
 
@@ -239,34 +245,39 @@ impl Session {
         let Ok(lines) = ok_lines(self.alloc) else {
             return Err(Stop::NoMemory);
         };
-        self.edits.clear();
-        Ok(ready(Change::Nothing, lines))
+        match self.held.discard() {
+            Ok(()) => Ok(ready(Change::Nothing, lines)),
+            Err(_) => Err(Stop::NoMemory),
+        }
     }
 
-    /// Makes a document that was read the session's, for which nothing is staged; what is bound stays.
-    fn take(&mut self, made: Made) -> Ready
-        ensures work { self.new ≡ record { bytes = made.document; bound = self.old.bound; staged = [] } }
-        ensures change { result.change ≡ Change.Nothing }
-        ensures lines { result.lines ≡ made.lines }
+    /// Makes a document that was read the session's, for which nothing is staged, and before which nothing was; what is
+    /// bound stays.
+    fn take(&mut self, made: Made) -> Result<Ready, Stop>
+        ensures work { OnOk result (self.new ≡ opened_work (opened_bytes made.document) self.old) }
+        ensures change { IfOk result (λ ready. ready.change ≡ Change.Nothing) }
+        ensures lines { IfOk result (λ ready. ready.lines ≡ made.lines) }
+        ensures stop { IfErr result (λ stop. stop ≡ Stop.NoMemory) }
+        ensures stays { OnErr result (self.new ≡ self.old) }
     {
         let Made { document, lines } = made;
-        let length = document.bytes().len() as u32;
-        self.document = document;
-        self.edits = Edits::new(self.alloc, length);
-        Ready {
-            change: Change::Nothing,
-            lines,
+        match self.held.open(document) {
+            Ok(()) => Ok(Ready {
+                change: Change::Nothing,
+                lines,
+            }),
+            Err(_) => Err(Stop::NoMemory),
         }
     }
 
     /// The document of the new bytes.
-    fn new_document(&self) -> Result<Made, Stop>
-        ensures { MakesDocument (Takes (new_bytes self.now)) result }
+    fn new_document(&self) -> Result<Built, Stop>
+        ensures { MakesDocument (Takes with_applied (new_bytes self.now)) with_applied result }
     {
-        if self.edits.length() > DOCUMENT_LIMIT {
+        if self.held.edits().length() > DOCUMENT_LIMIT {
             return Err(Stop::Refused(Refusal::FileLong));
         }
-        match spliced(self.alloc, self.document.bytes(), &self.edits) {
+        match spliced(self.alloc, self.document().bytes(), self.held.edits()) {
             Ok(bytes) => read_document(self.alloc, bytes),
             Err(_) => Err(Stop::NoMemory),
         }
@@ -278,9 +289,48 @@ impl Session {
             Prepares ⊥ Apply (state_of self.old files) (state_of self.new files) result }
         ensures no_file { stops_at_file result ≡ false }
     {
-        match self.new_document() {
-            Ok(made) => Ok(self.take(made)),
-            Err(stop) => Err(stop),
+        let Built { document, lines } = match self.new_document() {
+            Ok(built) => built,
+            Err(stop) => return Err(stop),
+        };
+        match self.held.apply(document) {
+            Ok(()) => Ok(Ready {
+                change: Change::Nothing,
+                lines,
+            }),
+            Err(_) => Err(Stop::NoMemory),
+        }
+    }
+
+    /// The first part of `undo`: its line, and then document and staging are what they were before the last change.
+    fn undo(&mut self) -> Result<Ready, Stop>
+        ensures known { (files : NameMap) →
+            Prepares ⊥ Undo (state_of self.old files) (state_of self.new files) result }
+        ensures no_file { stops_at_file result ≡ false }
+    {
+        let Ok(lines) = undone_lines(self.alloc) else {
+            return Err(Stop::NoMemory);
+        };
+        match self.held.undo() {
+            Ok(()) => Ok(ready(Change::Nothing, lines)),
+            Err(UndoFault::NoUndo) => Err(Stop::Refused(Refusal::NoUndo)),
+            Err(UndoFault::NoMemory) => Err(Stop::NoMemory),
+        }
+    }
+
+    /// The first part of `redo`: its line, and then document and staging are what they were before the last `undo`.
+    fn redo(&mut self) -> Result<Ready, Stop>
+        ensures known { (files : NameMap) →
+            Prepares ⊥ Redo (state_of self.old files) (state_of self.new files) result }
+        ensures no_file { stops_at_file result ≡ false }
+    {
+        let Ok(lines) = redone_lines(self.alloc) else {
+            return Err(Stop::NoMemory);
+        };
+        match self.held.redo() {
+            Ok(()) => Ok(ready(Change::Nothing, lines)),
+            Err(RedoFault::NoRedo) => Err(Stop::Refused(Refusal::NoRedo)),
+            Err(RedoFault::NoMemory) => Err(Stop::NoMemory),
         }
     }
 
@@ -290,7 +340,7 @@ impl Session {
             Prepares ⊥ (Save file) (state_of self.now files) (state_of self.now files) result }
         ensures no_file { stops_at_file result ≡ false }
     {
-        match saved_lines(self.alloc, self.edits.length()) {
+        match saved_lines(self.alloc, self.held.edits().length()) {
             Ok(lines) => Ok(ready(Change::File { name: file }, lines)),
             Err(_) => Err(Stop::NoMemory),
         }
@@ -302,7 +352,7 @@ impl Session {
             Prepares ⊥ (Index file) (state_of self.now files) (state_of self.now files) result }
         ensures no_file { stops_at_file result ≡ false }
     {
-        let length = self.document.index_length();
+        let length = self.document().index_length();
         if length > u64::from(INDEX_LIMIT) {
             return Err(Stop::Refused(Refusal::IndexLong));
         }
@@ -324,7 +374,7 @@ impl Session {
         ensures counts { FileCounts (stops_at_file result)
             (F.seen files.old).missed (F.seen files.new).missed (F.seen files.old).proper (F.seen files.new).proper }
     {
-        if self.edits.count() > 0 {
+        if self.held.edits().count() > 0 {
             return Err(Stop::Refused(Refusal::Staged));
         }
         match gather_file(self.alloc, files, name_of(file), limit) {
@@ -339,15 +389,22 @@ impl Session {
     fn file_document<F: Files>(&self, file: &Text, files: &mut F) -> Result<Made, Stop>
         requires { (F.seen files.old).is_writing ≡ false }
         ensures known { (map : NameMap) → (F.seen files.old).contents ≡ Some map
-            → OpensDocument Takes (Rose (F.seen files.old).proper (F.seen files.new).proper) (state_of self.now map)
+            → OpensDocument (Takes with_document) (Rose (F.seen files.old).proper (F.seen files.new).proper) (state_of self.now map)
             file.now result }
         ensures files_stay { (F.seen files.new).contents ≡ (F.seen files.old).contents }
         ensures writing_stays { (F.seen files.new).is_writing ≡ false }
         ensures counts { FileCounts (stops_at_file result)
             (F.seen files.old).missed (F.seen files.new).missed (F.seen files.old).proper (F.seen files.new).proper }
     {
-        match self.file_bytes(file, DOCUMENT_LIMIT, files) {
-            Ok(bytes) => read_document(self.alloc, bytes.held),
+        let bytes = match self.file_bytes(file, DOCUMENT_LIMIT, files) {
+            Ok(bytes) => bytes.held,
+            Err(stop) => return Err(stop),
+        };
+        match read_document(self.alloc, bytes) {
+            Ok(Built { document, lines }) => Ok(Made {
+                document: Opened::Built(document),
+                lines,
+            }),
             Err(stop) => Err(stop),
         }
     }
@@ -382,7 +439,7 @@ impl Session {
             (F.seen files.old).missed (F.seen files.new).missed (F.seen files.old).proper (F.seen files.new).proper }
     {
         match self.file_index(file, files) {
-            Ok(made) => Ok(self.take(made)),
+            Ok(made) => self.take(made),
             Err(stop) => Err(stop),
         }
     }
@@ -400,7 +457,7 @@ impl Session {
             (F.seen files.old).missed (F.seen files.new).missed (F.seen files.old).proper (F.seen files.new).proper }
     {
         match self.file_document(file, files) {
-            Ok(made) => Ok(self.take(made)),
+            Ok(made) => self.take(made),
             Err(stop) => Err(stop),
         }
     }
@@ -440,6 +497,8 @@ impl Session {
             }
             Command::Discard => self.discard(),
             Command::Apply => self.apply(),
+            Command::Undo => self.undo(),
+            Command::Redo => self.redo(),
             Command::Save { file } => self.save(file),
             Command::Index { file } => self.index(file),
             Command::Open { file } => self.open(&file, files),
@@ -464,11 +523,11 @@ impl Session {
             Change::Nothing => Ok(()),
             Change::File { name } => write(
                 name_of(&name),
-                self.document.bytes(),
-                &self.edits,
+                self.document().bytes(),
+                self.held.edits(),
                 files,
             ),
-            Change::Index { name } => self.document.write_index(name_of(&name), files),
+            Change::Index { name } => self.document().write_index(name_of(&name), files),
         }
     }
 
