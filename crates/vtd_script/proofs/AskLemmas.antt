@@ -6,7 +6,7 @@ use Rattle.vtd_queries.specs.Meets.{Meets}
 use Rattle.vtd_queries.specs.Questions.{Asks, AsksNodes}
 use Rattle.vtd_queries.specs.declared.faults.QueryFault.{QueryFault}
 use Rattle.vtd_script.specs.Queries.{Selects, Values}
-use Rattle.vtd_script.specs.States.{Work, State, Answer}
+use Rattle.vtd_script.specs.States.{State, Answer}
 use Rattle.vtd_script.specs.Steps.{Does, Tells}
 use Rattle.vtd_script.specs.Changes.{Told, query_stop}
 use Rattle.vtd_lines.specs.declared.commands.Command.TheVariants.{Select, Value}
@@ -50,16 +50,18 @@ values_made bytes bound text line o = record {
 }
 
 -- what the session holds is what the command is told of
-pub to_select : (s : State) (held : Work) (expr text : List ℕ) → held ≡ s.work → text ≡ encode_utf8_all expr → (a : Answer)
-    → Tells (Selects held.bytes held.bound text) s a → Does (Select expr) s a
-to_select s held expr text e t a h =
+pub to_select : (s : State) (bytes : List ℕ) (bound : List (List ℕ × List ℕ)) (expr text : List ℕ) → bytes ≡ s.work.bytes → bound ≡ s.work.bound
+    → text ≡ encode_utf8_all expr → (a : Answer) → Tells (Selects bytes bound text) s a → Does (Select expr) s a
+to_select s bytes bound expr text e b t a h =
     let P : List ℕ → Type 0 = λ x. Tells (Selects s.work.bytes s.work.bound x) s a in
-    let Q : Work → Type 0 = λ w. Tells (Selects w.bytes w.bound text) s a in
-    subst P t (subst Q e h)
+    let Q : List ℕ → Type 0 = λ x. Tells (Selects x s.work.bound text) s a in
+    let R : List (List ℕ × List ℕ) → Type 0 = λ x. Tells (Selects bytes x text) s a in
+    subst P t (subst Q e (subst R b h))
 
-pub to_value : (s : State) (held : Work) (expr text : List ℕ) → held ≡ s.work → text ≡ encode_utf8_all expr → (a : Answer)
-    → Tells (Values held.bytes held.bound text) s a → Does (Value expr) s a
-to_value s held expr text e t a h =
+pub to_value : (s : State) (bytes : List ℕ) (bound : List (List ℕ × List ℕ)) (expr text : List ℕ) → bytes ≡ s.work.bytes → bound ≡ s.work.bound
+    → text ≡ encode_utf8_all expr → (a : Answer) → Tells (Values bytes bound text) s a → Does (Value expr) s a
+to_value s bytes bound expr text e b t a h =
     let P : List ℕ → Type 0 = λ x. Tells (Values s.work.bytes s.work.bound x) s a in
-    let Q : Work → Type 0 = λ w. Tells (Values w.bytes w.bound text) s a in
-    subst P t (subst Q e h)
+    let Q : List ℕ → Type 0 = λ x. Tells (Values x s.work.bound text) s a in
+    let R : List (List ℕ × List ℕ) → Type 0 = λ x. Tells (Values bytes x text) s a in
+    subst P t (subst Q e (subst R b h))

@@ -3,8 +3,9 @@ use Rattle.std.proofs.Common.{◌≡◌, ℕ, true, false, List, [], Result, Ok,
 use Rattle.vtd_outside.specs.Known.{NameMap}
 use Rattle.vtd_edits.specs.declared.splice.Splice.{Splice}
 use Rattle.vtd_revisions.specs.Timelines.{Timeline, changed, opened, UndoneTo, RedoneTo}
+use Rattle.vtd_documents.specs.Loads.{IsFileOf}
 use Rattle.vtd_held.specs.Holding.{opened_bytes}
-use Rattle.vtd_script.specs.States.{Answer, State, Work, changed_work, new_bytes, opened_work, printed, refused, state_of, work_of}
+use Rattle.vtd_script.specs.States.{Answer, State, Work, changed_work, first_work, new_bytes, opened_work, printed, refused, state_of, work_of}
 use Rattle.vtd_script.specs.Steps.{Does, Opens, Redoing, Takes, Undoing, name_of, none_done, none_undone, ok_line, redone_line, redone_one}
 use Rattle.vtd_script.specs.Steps.{undone_line, undone_one, with_applied, with_staged}
 use Rattle.vtd_script.specs.Changes.{FileCounts, MakesDocument, OpensDocument, Prepares, StaysUnlessReady, stops_at_file}
@@ -126,3 +127,17 @@ pub counts_taken : (result : Result Ready Stop) (mb ma pb pa : ℕ) → IfErr re
 counts_taken (Ok ready) mb ma pb pa m h = h
 counts_taken (Err x) mb ma pb pa m h =
     let P : Stop → Type 0 = λ y. FileCounts (stops_at_file {T = Ready} (Err y)) mb ma pb pa in subst P (sym m) h
+
+-- a session that begins over the document of an index file
+first_of : (work : Work) (held : Timeline) (bytes : List ℕ) → work ≡ work_of [] held → held ≡ opened bytes → work ≡ first_work bytes
+first_of work held bytes v h = v ∙ ap (λ (t : Timeline). work_of [] t) h
+
+pub first_as : (work : Work) (held : Timeline) (bytes : List ℕ) → work ≡ work_of [] held → held ≡ opened bytes → work ≡ first_work work.bytes
+first_as work held bytes v h =
+    let e : work ≡ first_work bytes = first_of work held bytes v h in
+    e ∙ ap (λ (b : List ℕ). first_work b) (sym (ap (λ (w : Work). w.bytes) e))
+
+pub begun_index : (file bytes : List ℕ) (work : Work) (held : Timeline) → work ≡ work_of [] held → held ≡ opened bytes → IsFileOf file bytes
+    → IsFileOf file work.bytes
+begun_index file bytes work held v h i =
+    let P : List ℕ → Type 0 = λ b. IsFileOf file b in subst P (sym (ap (λ (w : Work). w.bytes) (first_of work held bytes v h))) i

@@ -35,6 +35,7 @@ use Rattle.xpath_grammar.specs.declared.bindings.BindFault.{BindFault}
 use Rattle.xpath_grammar.specs.declared.bindings.BindFault.TheVariants.{Name}
 use Rattle.vtd_script.specs.declared.refusals.Refusal.{Refusal}
 use Rattle.vtd_script.specs.declared.refusals.Refusal.TheVariants as no
+use Rattle.vtd_script.specs.declared.ready.Made.{Made}
 use Rattle.vtd_script.specs.declared.ready.Ready.{Ready}
 use Rattle.vtd_script.specs.declared.ready.Change.{Change}
 use Rattle.vtd_script.specs.declared.ready.Change.TheVariants as change
@@ -160,8 +161,8 @@ prepares_file rose name s ready lines n l d = (
   λ w. (refl, refl),
 )
 
-pub counts_same : {T U : Type 0} (x : Stop) (mb ma pb pa : ℕ) → FileCounts (stops_at_file {T = T} (Err x)) mb ma pb pa
-    → FileCounts (stops_at_file {T = U} (Err x)) mb ma pb pa
+pub counts_same : (x : Stop) (mb ma pb pa : ℕ) → FileCounts (stops_at_file {T = Made} (Err x)) mb ma pb pa
+    → FileCounts (stops_at_file {T = Ready} (Err x)) mb ma pb pa
 counts_same (stop.Refused refusal) mb ma pb pa h = h
 counts_same stop.File mb ma pb pa h = h
 counts_same stop.NoMemory mb ma pb pa h = h

@@ -9,7 +9,8 @@ ghost use Rattle.xml_model.specs.declared.DocFault.{DocFault};
 ghost use Rattle.vtd_outside.specs.Causes.{Rose};
 ghost use Rattle.vtd_outside.specs.Known.{NameMap};
 ghost use Rattle.vtd_script.specs.States.{first_work, new_bytes, opened_work, state_of, work_of};
-ghost use Rattle.vtd_script.specs.Steps.{asks_file, asks_for, has_file, with_applied, with_document, Stages, Takes, TakesIndex};
+ghost use Rattle.vtd_script.specs.Steps.{asks_file, asks_for, has_file, with_applied, with_document, Stages, Takes};
+ghost use Rattle.vtd_script.specs.Steps.{TakesIndex};
 ghost use Rattle.vtd_held.specs.Holding.{opened_bytes};
 ghost use Rattle.vtd_words.specs.Numbers.{AreBytes};
 ghost use Rattle.vtd_documents.specs.Loads.{IsFileOf};
@@ -21,8 +22,8 @@ ghost use Rattle.vtd_script.specs.Changes.{PreparesStaging};
 ghost use Rattle.vtd_script.specs.Changes.{RefusesKnown};
 ghost use Rattle.vtd_script.specs.Changes.{FileCounts, SendCounts, StaysUnlessDone, StaysUnlessReady, fails_at_file};
 ghost use Rattle.vtd_script.specs.Changes.{stops_at_file, touches_file, writes};
-ghost use Rattle.vtd_lines.specs.declared.commands.Command.TheVariants.{Apply, Discard, Elements, Index, Load, Ns, Undo, Redo};
-ghost use Rattle.vtd_lines.specs.declared.commands.Command.TheVariants.{Open, Save, Select};
+ghost use Rattle.vtd_lines.specs.declared.commands.Command.TheVariants.{Apply, Discard, Elements, Index, Load, Ns, Redo};
+ghost use Rattle.vtd_lines.specs.declared.commands.Command.TheVariants.{Open, Save, Select, Undo};
 
 use crate::asking::{operation_stop, selected_lines, stage_stop, staged_lines, valued_lines};
 use crate::endings::{Ending, StepFault};
@@ -46,7 +47,7 @@ use vtd_modifier::Operation;
 use vtd_outside::{Failed, Files, GatherFault, Sink, gather_file, send};
 use vtd_writing::write;
 use xml_model::texts::as_str;
-use xml_model::{Bytes, Text};
+use xml_model::{Bytes, NoMemory, Text};
 use xpath_grammar::{BindFault, Bindings};
 
 /// A document with the prefixes that are bound for it and the splices that are staged. Contracts see its bytes, the
@@ -109,6 +110,27 @@ impl Session {
         ensures { result ≡ self.now.bytes }
     {
         Document::of(self.held.shown())
+    }
+
+    /// How many splices are staged.
+    fn staged_count(&self) -> u64
+        ensures { result ≡ length self.now.staged }
+    {
+        self.held.edits().count()
+    }
+
+    /// How many bytes the new bytes have.
+    fn new_length(&self) -> u32
+        ensures { result ≡ length (new_bytes self.now) }
+    {
+        self.held.edits().length()
+    }
+
+    /// The new bytes: those that the staged splices make of the document.
+    fn new_bytes(&self) -> Result<Vec<u8>, NoMemory>
+        ensures { IfOk result (λ bytes. bytes.items ≡ new_bytes self.now) }
+    {
+        spliced(self.alloc, self.document().bytes(), self.held.edits())
     }
 
     /// A session over a document, with the prefix `xml` alone bound and nothing staged.
@@ -274,10 +296,10 @@ impl Session {
     fn new_document(&self) -> Result<Built, Stop>
         ensures { MakesDocument (Takes with_applied (new_bytes self.now)) with_applied result }
     {
-        if self.held.edits().length() > DOCUMENT_LIMIT {
+        if self.new_length() > DOCUMENT_LIMIT {
             return Err(Stop::Refused(Refusal::FileLong));
         }
-        match spliced(self.alloc, self.document().bytes(), self.held.edits()) {
+        match self.new_bytes() {
             Ok(bytes) => read_document(self.alloc, bytes),
             Err(_) => Err(Stop::NoMemory),
         }
@@ -340,7 +362,7 @@ impl Session {
             Prepares ⊥ (Save file) (state_of self.now files) (state_of self.now files) result }
         ensures no_file { stops_at_file result ≡ false }
     {
-        match saved_lines(self.alloc, self.held.edits().length()) {
+        match saved_lines(self.alloc, self.new_length()) {
             Ok(lines) => Ok(ready(Change::File { name: file }, lines)),
             Err(_) => Err(Stop::NoMemory),
         }
@@ -374,7 +396,7 @@ impl Session {
         ensures counts { FileCounts (stops_at_file result)
             (F.seen files.old).missed (F.seen files.new).missed (F.seen files.old).proper (F.seen files.new).proper }
     {
-        if self.held.edits().count() > 0 {
+        if self.staged_count() > 0 {
             return Err(Stop::Refused(Refusal::Staged));
         }
         match gather_file(self.alloc, files, name_of(file), limit) {
@@ -389,8 +411,8 @@ impl Session {
     fn file_document<F: Files>(&self, file: &Text, files: &mut F) -> Result<Made, Stop>
         requires { (F.seen files.old).is_writing ≡ false }
         ensures known { (map : NameMap) → (F.seen files.old).contents ≡ Some map
-            → OpensDocument (Takes with_document) (Rose (F.seen files.old).proper (F.seen files.new).proper) (state_of self.now map)
-            file.now result }
+            → OpensDocument (Takes with_document) (Rose (F.seen files.old).proper (F.seen files.new).proper)
+            (state_of self.now map) file.now result }
         ensures files_stay { (F.seen files.new).contents ≡ (F.seen files.old).contents }
         ensures writing_stays { (F.seen files.new).is_writing ≡ false }
         ensures counts { FileCounts (stops_at_file result)

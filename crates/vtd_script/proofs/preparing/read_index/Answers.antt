@@ -2,14 +2,12 @@ use Rattle.std.proofs.Common.{ap, ◌∙◌}
 use Rattle.vtd_index.specs.declared.faults.IndexFault.{IndexFault}
 use Rattle.vtd_documents.proofs.Loading.{fault_of}
 use Rattle.vtd_script.specs.Steps.{index_refusal}
-use Rattle.vtd_script.proofs.FileParts.{index_lined, lined_no_file}
+use Rattle.vtd_script.proofs.FileParts.{index_lined, lined_as}
 use Rattle.vtd_script.proofs.preparing.read_index.Goals as goal
 
-pub returns-in-Ok-clause-reads : goal.returns-in-Ok-clause-reads
-returns-in-Ok-clause-reads c = index_lined c.args.file.items _ c.with_line.result c.in-Ok.ensures.index c.with_line.ensures
-
-pub returns-in-Ok-clause-no_file : goal.returns-in-Ok-clause-no_file
-returns-in-Ok-clause-no_file c = lined_no_file _ c.with_line.result c.with_line.ensures
+pub returns-in-Ok-document_lines-clause-reads : goal.returns-in-Ok-document_lines-clause-reads
+returns-in-Ok-document_lines-clause-reads c =
+    index_lined c.args.file.items _ _ c.in-Ok.ensures.index (lined_as _ _ _ (c.of.ensures ∙ c.show.ensures) c.in-Ok-document_lines.ensures)
 
 pub returns-in-Err-default-Index-clause-reads : goal.returns-in-Err-default-Index-clause-reads
 returns-in-Err-default-Index-clause-reads c = (

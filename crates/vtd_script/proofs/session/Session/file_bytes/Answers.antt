@@ -1,18 +1,15 @@
-use Rattle.std.proofs.Common.{◌≡◌, length, arith, ap, inl, refl, ◌∙◌}
-use Rattle.vtd_script.specs.States.{Work}
+use Rattle.std.proofs.Common.{arith, inl, refl}
 use Rattle.vtd_script.proofs.FileParts.{reads_bytes, reads_failed, reads_long}
 use Rattle.vtd_script.proofs.Parts.{gather_failed, one_rose}
 use Rattle.vtd_script.proofs.session.Session.file_bytes.Goals as goal
 
-pub returns-then-count-gt0-clause-known : goal.returns-then-count-gt0-clause-known
-returns-then-count-gt0-clause-known g c = λ map files.
-    let n : c.count.result ≡ length c.args.self.now.staged = c.count.ensures.value ∙ ap (λ (w : Work). length w.staged) c.self.view_is in
-    inl (omega (arith, n), refl)
+pub returns-then-staged_count-gt0-clause-known : goal.returns-then-staged_count-gt0-clause-known
+returns-then-staged_count-gt0-clause-known g c = λ map files. inl (omega (arith, c.staged_count.ensures), refl)
 
 pub returns-in-Err-Failed-clause-known : goal.returns-in-Err-Failed-clause-known
 returns-in-Err-Failed-clause-known g c = λ map files.
-    let n : c.count.result ≡ length c.args.self.now.staged = c.count.ensures.value ∙ ap (λ (w : Work). length w.staged) c.self.view_is in
-    reads_failed c.args.limit _ _ _ _ c.args.file.now c.name_of.result.now c.args.self.now map _ (omega (arith, n)) files c.name_of.ensures
+    reads_failed c.args.limit _ _ _ _ c.args.file.now c.name_of.result.now c.args.self.now map _ (omega (arith, c.staged_count.ensures)) files
+    c.name_of.ensures
     (gather_failed c.gather_file.result _ _ _ _ _ c.in-Err-Failed.field-0 c.in-Err-Failed.field-0-is c.in-Err-Failed.ensures.cause)
 
 pub returns-in-Err-Failed-clause-counts : goal.returns-in-Err-Failed-clause-counts
@@ -21,12 +18,10 @@ returns-in-Err-Failed-clause-counts g c =
 
 pub returns-in-Err-Long-clause-known : goal.returns-in-Err-Long-clause-known
 returns-in-Err-Long-clause-known g c = λ map files.
-    let n : c.count.result ≡ length c.args.self.now.staged = c.count.ensures.value ∙ ap (λ (w : Work). length w.staged) c.self.view_is in
-    reads_long c.args.limit ⊥ c.args.file.now c.name_of.result.now c.args.self.now map _ _ c.in-Err-Long.field-0 (omega (arith, n)) files c.name_of.ensures
-    c.in-Err-Long.field-0-is c.in-Err-Long.ensures.prefix
+    reads_long c.args.limit ⊥ c.args.file.now c.name_of.result.now c.args.self.now map _ _ c.in-Err-Long.field-0 (omega (arith, c.staged_count.ensures))
+    files c.name_of.ensures c.in-Err-Long.field-0-is c.in-Err-Long.ensures.prefix
 
 pub returns-in-Ok-clause-known : goal.returns-in-Ok-clause-known
 returns-in-Ok-clause-known g c = λ map files.
-    let n : c.count.result ≡ length c.args.self.now.staged = c.count.ensures.value ∙ ap (λ (w : Work). length w.staged) c.self.view_is in
-    reads_bytes c.args.limit ⊥ c.args.file.now c.name_of.result.now c.in-Ok.held.items c.args.self.now map _ _ (omega (arith, n)) files
-    c.name_of.ensures c.in-Ok.ensures.all c.in-Ok.ensures.within
+    reads_bytes c.args.limit ⊥ c.args.file.now c.name_of.result.now c.in-Ok.held.items c.args.self.now map _ _ (omega (arith, c.staged_count.ensures))
+    files c.name_of.ensures c.in-Ok.ensures.all c.in-Ok.ensures.within

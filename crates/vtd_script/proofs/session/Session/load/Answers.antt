@@ -1,17 +1,21 @@
 use Rattle.std.proofs.Common.{refl}
 use Rattle.vtd_script.specs.Steps.{TakesIndex}
 use Rattle.vtd_lines.specs.declared.commands.Command.TheVariants.{Load}
-use Rattle.vtd_script.proofs.FileParts.{prepares_opened, stops_opened}
-use Rattle.vtd_script.proofs.Parts.{stays_taken, counts_same}
+use Rattle.vtd_script.proofs.ChangeParts.{counts_taken, prepares_taken, stays_made}
+use Rattle.vtd_script.proofs.FileParts.{stops_opened}
+use Rattle.vtd_script.proofs.Parts.{counts_same}
 use Rattle.vtd_script.proofs.session.Session.load.Goals as goal
 
 pub returns-in-Ok-clause-known : goal.returns-in-Ok-clause-known
 returns-in-Ok-clause-known g c = λ map files.
-    prepares_opened TakesIndex ⊥ (Load c.args.file.now) c.args.file.now _ _ map c.in-Ok.made c.take.result (λ a h. h) (c.in-Ok.ensures.known map files)
-    c.take.ensures.work c.take.ensures.change c.take.ensures.lines
+    prepares_taken TakesIndex _ (Load c.args.file.now) c.args.file.now _ _ map c.in-Ok.made c.take.result (λ a h. h) (c.in-Ok.ensures.known map files)
+    c.take.ensures.work c.take.ensures.change c.take.ensures.lines c.take.ensures.stop c.take.ensures.stays
 
 pub returns-in-Ok-clause-stays : goal.returns-in-Ok-clause-stays
-returns-in-Ok-clause-stays g c = stays_taken c.take.result _ _ c.take.ensures.change
+returns-in-Ok-clause-stays g c = stays_made c.take.result _ _ c.take.ensures.change c.take.ensures.stays
+
+pub returns-in-Ok-clause-counts : goal.returns-in-Ok-clause-counts
+returns-in-Ok-clause-counts g c = counts_taken c.take.result _ _ _ _ c.take.ensures.stop c.in-Ok.ensures.counts
 
 pub returns-in-Err-clause-known : goal.returns-in-Err-clause-known
 returns-in-Err-clause-known g c = λ map files.

@@ -2,7 +2,8 @@ use Rattle.std.proofs.Common.{None, ap}
 use Rattle.std.specs.Prelude.{encode_utf8_all}
 use Rattle.vtd_modifier.specs.declared.operation.Operation.TheVariants as operations
 use Rattle.vtd_script.specs.Steps.{Stages, has_file}
-use Rattle.vtd_lines.specs.declared.commands.Command.TheVariants.{After, Apply, Attr, Before, Discard, Elements, First, Index, Last, Ns, Remove, Rename, Replace, Save, Select, Set, Value}
+use Rattle.vtd_lines.specs.declared.commands.Command.TheVariants.{After, Apply, Attr, Before, Discard, Elements, First, Index, Last, Ns, Redo}
+use Rattle.vtd_lines.specs.declared.commands.Command.TheVariants.{Remove, Rename, Replace, Save, Select, Set, Undo, Value}
 use Rattle.vtd_script.proofs.Parts.{has_by, prepares_as, staging_as, stages_no_file, stays_ready, stays_staging}
 use Rattle.vtd_script.proofs.StageLemmas.{as_after, as_attr, as_before, as_first, as_last, as_rename, as_replace, as_set}
 use Rattle.vtd_script.proofs.session.Session.prepare.Goals as goal
@@ -18,6 +19,12 @@ returns-in-Ns-clause-known g c = λ map files. prepares_as _ c.args.command (Ns 
 pub returns-in-Discard-clause-known : goal.returns-in-Discard-clause-known
 returns-in-Discard-clause-known g c = λ map files. prepares_as _ c.args.command Discard _ _ c.discard.result c.in-Discard.is (c.discard.ensures.known map)
 
+pub returns-in-Undo-clause-known : goal.returns-in-Undo-clause-known
+returns-in-Undo-clause-known g c = λ map files. prepares_as _ c.args.command Undo _ _ c.undo.result c.in-Undo.is (c.undo.ensures.known map)
+
+pub returns-in-Redo-clause-known : goal.returns-in-Redo-clause-known
+returns-in-Redo-clause-known g c = λ map files. prepares_as _ c.args.command Redo _ _ c.redo.result c.in-Redo.is (c.redo.ensures.known map)
+
 pub returns-in-Apply-clause-known : goal.returns-in-Apply-clause-known
 returns-in-Apply-clause-known g c = λ map files. prepares_as _ c.args.command Apply _ _ c.apply.result c.in-Apply.is (c.apply.ensures.known map)
 
@@ -32,6 +39,12 @@ returns-in-Ns-clause-stays g c = stays_ready ⊥ (Ns c.in-Ns.prefix c.in-Ns.uri)
 
 pub returns-in-Discard-clause-stays : goal.returns-in-Discard-clause-stays
 returns-in-Discard-clause-stays g c = stays_ready ⊥ Discard _ _ c.discard.result c.discard.ensures.known
+
+pub returns-in-Undo-clause-stays : goal.returns-in-Undo-clause-stays
+returns-in-Undo-clause-stays g c = stays_ready ⊥ Undo _ _ c.undo.result c.undo.ensures.known
+
+pub returns-in-Redo-clause-stays : goal.returns-in-Redo-clause-stays
+returns-in-Redo-clause-stays g c = stays_ready ⊥ Redo _ _ c.redo.result c.redo.ensures.known
 
 pub returns-in-Apply-clause-stays : goal.returns-in-Apply-clause-stays
 returns-in-Apply-clause-stays g c = stays_ready ⊥ Apply _ _ c.apply.result c.apply.ensures.known
@@ -155,6 +168,12 @@ returns-in-Value-clause-asks g c = has_by c.args.command (Value c.in-Value.expr)
 
 pub returns-in-Discard-clause-asks : goal.returns-in-Discard-clause-asks
 returns-in-Discard-clause-asks g c = has_by c.args.command Discard _ _ c.discard.result c.in-Discard.is c.discard.ensures.no_file (c.discard.ensures.known (λ name. None))
+
+pub returns-in-Undo-clause-asks : goal.returns-in-Undo-clause-asks
+returns-in-Undo-clause-asks g c = has_by c.args.command Undo _ _ c.undo.result c.in-Undo.is c.undo.ensures.no_file (c.undo.ensures.known (λ name. None))
+
+pub returns-in-Redo-clause-asks : goal.returns-in-Redo-clause-asks
+returns-in-Redo-clause-asks g c = has_by c.args.command Redo _ _ c.redo.result c.in-Redo.is c.redo.ensures.no_file (c.redo.ensures.known (λ name. None))
 
 pub returns-in-Apply-clause-asks : goal.returns-in-Apply-clause-asks
 returns-in-Apply-clause-asks g c = has_by c.args.command Apply _ _ c.apply.result c.in-Apply.is c.apply.ensures.no_file (c.apply.ensures.known (λ name. None))
