@@ -129,7 +129,7 @@ counts_taken (Err x) mb ma pb pa m h =
     let P : Stop → Type 0 = λ y. FileCounts (stops_at_file {T = Ready} (Err y)) mb ma pb pa in subst P (sym m) h
 
 -- a session that begins over the document of an index file
-first_of : (work : Work) (held : Timeline) (bytes : List ℕ) → work ≡ work_of [] held → held ≡ opened bytes → work ≡ first_work bytes
+pub first_of : (work : Work) (held : Timeline) (bytes : List ℕ) → work ≡ work_of [] held → held ≡ opened bytes → work ≡ first_work bytes
 first_of work held bytes v h = v ∙ ap (λ (t : Timeline). work_of [] t) h
 
 pub first_as : (work : Work) (held : Timeline) (bytes : List ℕ) → work ≡ work_of [] held → held ≡ opened bytes → work ≡ first_work work.bytes
