@@ -74,7 +74,7 @@ pub fn load(alloc: Global, file: Vec<u8>) -> Result<Opened, (Vec<u8>, LoadFault)
 impl<'a> Document<'a> {
     /// A document that is lent.
     pub fn of(shown: Shown<'a>) -> Document<'a>
-        ensures { result ≡ shown_bytes shown }
+        ensures { result ≡ shown_bytes shown.entry }
     {
         Document { shown }
     }
