@@ -11,7 +11,6 @@ use Rattle.xml_acceptance.proofs.OneAnswer as documents
 use Rattle.vtd_words.specs.Numbers.{AreBytes}
 use Rattle.vtd_index.specs.Index.{IsFault}
 use Rattle.vtd_held.specs.Holding.{opened_bytes}
-use Rattle.vtd_index.specs.declared.opening.Opened.{Opened}
 use Rattle.vtd_documents.specs.Loads.{IsFileOf}
 use Rattle.vtd_index.specs.declared.faults.IndexFault.{IndexFault}
 use Rattle.vtd_outside.specs.declared.GatherFault.{GatherFault}
@@ -78,13 +77,13 @@ GivesMade Gives (Err stop.File) = ⊥
 GivesMade Gives (Err stop.NoMemory) = Unit {0}
 
 -- the document of bytes that were read
-pub document_made : (bytes given lines : List ℕ) (document : Opened) (made : Made) → given ≡ bytes → length bytes ≤ document_limit
-    → opened_bytes document ≡ given → IsLined given lines → made.document ≡ document → made.lines ≡ lines
+pub document_made : (bytes given : List ℕ) (built : Built) (made : Made) → given ≡ bytes → length bytes ≤ document_limit
+    → opened_bytes made.document ≡ built.document.bytes → made.lines ≡ built.lines → ReadsDocument given (Ok built)
     → GivesMade (Takes with_document bytes) (Ok made)
-document_made bytes given lines document made e l o h d r =
-    let built : opened_bytes made.document ≡ bytes = ap opened_bytes d ∙ o ∙ e in
-    let lined : IsLined bytes made.lines = (let P : List ℕ → Type 0 = λ x. IsLined bytes x in subst P (sym r) (lined_as bytes given lines e h)) in
-    λ s. takes_made with_document bytes (opened_bytes made.document) made.lines s l built lined
+document_made bytes given built made e l d r h =
+    let P : List ℕ → Type 0 = λ x. IsLined given x in
+    λ s. takes_made with_document bytes (opened_bytes made.document) made.lines s l (d ∙ h.0 ∙ e)
+        (lined_as bytes given made.lines e (subst P (sym r) h.1))
 
 pub document_stop : (bytes given : List ℕ) (x : Stop) → given ≡ bytes → length bytes ≤ document_limit → ReadsDocument given (Err x)
     → GivesMade (Takes with_document bytes) (Err x)

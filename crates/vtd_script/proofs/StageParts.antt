@@ -1,5 +1,5 @@
 -- The first part of a command that stages, by the calls that it makes.
-use Rattle.std.proofs.Common.{◌≡◌, ℕ, List, ◌++◌, Ok, Err, refl, sym, ap, subst, ◌∙◌}
+use Rattle.std.proofs.Common.{◌≡◌, ℕ, List, ◌++◌, Result, Ok, Err, refl, sym, ap, subst, ◌∙◌}
 use Rattle.std.specs.Prelude.{encode_utf8_all}
 use Rattle.xml_model.specs.Nest.{Forest}
 use Rattle.vtd_documents.specs.Held.{OfNest}
@@ -97,6 +97,14 @@ refused_staged : (bound : List (List ℕ × List ℕ)) (old : Timeline) (text : 
 refused_staged bound old text operation made fault files o h =
     refused_by (old.staged ++ made.splices) made.count (state_of (work_of bound old) files) text operation fault
     (λ a p. record { nest = o.0; accepted = o.1; found = Ok made; operates = o.2; stages = p }) h
+
+-- what an operation answers on a document that is lent
+pub answers_as : (document bytes : List ℕ) (bound : List (List ℕ × List ℕ)) (text : List ℕ) (operation : Operation)
+    (found : Result Operated OperationFault) → document ≡ bytes
+    → OfNest document (λ nest. Makes (Operates document nest bound text operation) found)
+    → OfNest bytes (λ nest. Makes (Operates bytes nest bound text operation) found)
+answers_as document bytes bound text operation found e h =
+    let P : List ℕ → Type 0 = λ b. OfNest b (λ nest. Makes (Operates b nest bound text operation) found) in subst P e h
 
 -- the same, of the session and the expression as the method has them
 pub stage_fault : (bound : List (List ℕ × List ℕ)) (old : Timeline) (text expr : List ℕ) (operation : Operation) (fault : OperationFault) (work : Work)

@@ -267,10 +267,10 @@ impl Session {
         let Ok(lines) = ok_lines(self.alloc) else {
             return Err(Stop::NoMemory);
         };
-        match self.held.discard() {
-            Ok(()) => Ok(ready(Change::Nothing, lines)),
-            Err(_) => Err(Stop::NoMemory),
-        }
+        let Ok(()) = self.held.discard() else {
+            return Err(Stop::NoMemory);
+        };
+        Ok(ready(Change::Nothing, lines))
     }
 
     /// Makes a document that was read the session's, for which nothing is staged, and before which nothing was; what is
@@ -283,13 +283,13 @@ impl Session {
         ensures stays { OnErr result (self.new ≡ self.old) }
     {
         let Made { document, lines } = made;
-        match self.held.open(document) {
-            Ok(()) => Ok(Ready {
-                change: Change::Nothing,
-                lines,
-            }),
-            Err(_) => Err(Stop::NoMemory),
-        }
+        let Ok(()) = self.held.open(document) else {
+            return Err(Stop::NoMemory);
+        };
+        Ok(Ready {
+            change: Change::Nothing,
+            lines,
+        })
     }
 
     /// The document of the new bytes.
@@ -315,13 +315,13 @@ impl Session {
             Ok(built) => built,
             Err(stop) => return Err(stop),
         };
-        match self.held.apply(document) {
-            Ok(()) => Ok(Ready {
-                change: Change::Nothing,
-                lines,
-            }),
-            Err(_) => Err(Stop::NoMemory),
-        }
+        let Ok(()) = self.held.apply(document) else {
+            return Err(Stop::NoMemory);
+        };
+        Ok(Ready {
+            change: Change::Nothing,
+            lines,
+        })
     }
 
     /// The first part of `undo`: its line, and then document and staging are what they were before the last change.

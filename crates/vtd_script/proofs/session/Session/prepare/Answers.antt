@@ -1,6 +1,7 @@
 use Rattle.std.proofs.Common.{None, ap}
 use Rattle.std.specs.Prelude.{encode_utf8_all}
 use Rattle.vtd_modifier.specs.declared.operation.Operation.TheVariants as operations
+use Rattle.vtd_script.specs.States.{state_of}
 use Rattle.vtd_script.specs.Steps.{Stages, has_file}
 use Rattle.vtd_lines.specs.declared.commands.Command.TheVariants.{After, Apply, Attr, Before, Discard, Elements, First, Index, Last, Ns, Redo}
 use Rattle.vtd_lines.specs.declared.commands.Command.TheVariants.{Remove, Rename, Replace, Save, Select, Set, Undo, Value}
@@ -167,7 +168,8 @@ pub returns-in-Value-clause-asks : goal.returns-in-Value-clause-asks
 returns-in-Value-clause-asks g c = has_by c.args.command (Value c.in-Value.expr) _ _ c.value.result c.in-Value.is c.value.ensures.no_file (c.value.ensures.known (λ name. None))
 
 pub returns-in-Discard-clause-asks : goal.returns-in-Discard-clause-asks
-returns-in-Discard-clause-asks g c = has_by c.args.command Discard _ _ c.discard.result c.in-Discard.is c.discard.ensures.no_file (c.discard.ensures.known (λ name. None))
+returns-in-Discard-clause-asks g c =
+    has_by c.args.command Discard (state_of c.args.self.now (λ name. None)) (state_of c.discard.new.self (λ name. None)) c.discard.result c.in-Discard.is c.discard.ensures.no_file (c.discard.ensures.known (λ name. None))
 
 pub returns-in-Undo-clause-asks : goal.returns-in-Undo-clause-asks
 returns-in-Undo-clause-asks g c = has_by c.args.command Undo _ _ c.undo.result c.in-Undo.is c.undo.ensures.no_file (c.undo.ensures.known (λ name. None))
