@@ -1,11 +1,11 @@
 -- The first parts of commands that change the document or what is staged, by the calls that make the change.
-use Rattle.std.proofs.Common.{◌≡◌, ℕ, true, false, List, [], Result, Ok, Err, OnErr, OnOk, IfErr, IfOk, refl, sym, ap, subst, ◌∙◌, inl}
+use Rattle.std.proofs.Common.{◌≡◌, ℕ, false, List, [], Result, Ok, Err, OnErr, OnOk, IfErr, IfOk, refl, sym, ap, subst, ◌∙◌}
 use Rattle.vtd_outside.specs.Known.{NameMap}
 use Rattle.vtd_edits.specs.declared.splice.Splice.{Splice}
 use Rattle.vtd_revisions.specs.Timelines.{Timeline, changed, opened, UndoneTo, RedoneTo}
 use Rattle.vtd_documents.specs.Loads.{IsFileOf}
 use Rattle.vtd_held.specs.Holding.{opened_bytes}
-use Rattle.vtd_script.specs.States.{Answer, State, Work, changed_work, first_work, new_bytes, opened_work, printed, refused, state_of, work_of}
+use Rattle.vtd_script.specs.States.{Answer, State, Work, changed_work, first_work, new_bytes, opened_work, printed, state_of, work_of}
 use Rattle.vtd_script.specs.Steps.{Does, Opens, Redoing, Takes, Undoing, name_of, none_done, none_undone, ok_line, redone_line, redone_one}
 use Rattle.vtd_script.specs.Steps.{undone_line, undone_one, with_applied, with_staged}
 use Rattle.vtd_script.specs.Changes.{FileCounts, MakesDocument, OpensDocument, Prepares, StaysUnlessReady, stops_at_file}

@@ -1,5 +1,5 @@
 -- Documents that are made of bytes, by the calls that make them, and commands that read a file.
-use Rattle.std.proofs.Common.{◌⊎◌, ◌≡◌, ◌≤◌, ◌<◌, ◌+◌, ℕ, true, false, List, [], ◌∷◌, length, Option, Some, None}
+use Rattle.std.proofs.Common.{◌⊎◌, ◌≡◌, ◌≤◌, ◌<◌, ◌+◌, ℕ, true, List, [], ◌∷◌, length, Option, Some, None}
 use Rattle.std.proofs.Common.{Result, Ok, Err, refl, sym, ap, subst, ◌∙◌, inl, inr, arith}
 use Rattle.std.specs.Prelude.{is_none}
 use Rattle.xml_model.specs.Items.{first_place}
@@ -83,7 +83,7 @@ pub document_made : (bytes given : List ℕ) (built : Built) (made : Made) → g
 document_made bytes given built made e l d r h =
     let P : List ℕ → Type 0 = λ x. IsLined given x in
     λ s. takes_made with_document bytes (opened_bytes made.document) made.lines s l (d ∙ h.0 ∙ e)
-        (lined_as bytes given made.lines e (subst P (sym r) h.1))
+    (lined_as bytes given made.lines e (subst P (sym r) h.1))
 
 pub document_stop : (bytes given : List ℕ) (x : Stop) → given ≡ bytes → length bytes ≤ document_limit → ReadsDocument given (Err x)
     → GivesMade (Takes with_document bytes) (Err x)

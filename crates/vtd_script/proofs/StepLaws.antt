@@ -29,7 +29,7 @@ use Rattle.vtd_script.specs.States.{State, Answer, skipped, printed, refused, mi
 use Rattle.vtd_script.specs.Steps.{HasDocument, asks_for, Lists, Tells, shown, Puts, overlaps, text_long, put, StagesMade, Stages, Binds, Does, Answers, Step, ok_line, with_binding, name_of}
 use Rattle.vtd_script.proofs.IndexLaws.{kept_indexes, kept_takes_index, one_indexes, one_takes_index, some_indexes, some_takes_index}
 use Rattle.vtd_script.specs.Steps.{Takes, TakesIndex, too_long, unfit, accepted, Opens, document_limit, document_line, refusal_of}
-use Rattle.vtd_script.specs.Steps.{with_applied, with_document, with_staged}
+use Rattle.vtd_script.specs.Steps.{with_applied, with_document}
 use Rattle.vtd_script.proofs.UndoLaws.{kept_bound, kept_changed, kept_files, kept_opened, kept_redoing, kept_undoing, one_redoing, one_undoing}
 use Rattle.vtd_script.proofs.UndoLaws.{some_redoing, some_undoing}
 use Rattle.vtd_lines.specs.declared.commands.Command.{Command}

@@ -5,9 +5,9 @@ use Rattle.xml_model.specs.Nest.{Forest}
 use Rattle.xml_model.specs.Accepted.{Accepted}
 use Rattle.vtd_edits.specs.declared.splice.Splice.{Splice}
 use Rattle.vtd_outside.specs.Known.{NameMap}
-use Rattle.vtd_revisions.specs.Timelines.{Revision, Timeline, now_of, UndoneTo, RedoneTo}
+use Rattle.vtd_revisions.specs.Timelines.{Revision, Timeline, now_of}
 use Rattle.vtd_revisions.proofs.Exact.{one_undone, one_redone, some_undone, some_redone}
-use Rattle.vtd_script.specs.States.{Answer, State, Work, changed_work, opened_work, printed, refused, state_after, state_of, timeline_of, work_of}
+use Rattle.vtd_script.specs.States.{Answer, State, changed_work, opened_work, printed, refused, state_after, state_of, timeline_of, work_of}
 use Rattle.vtd_script.specs.Steps.{HasDocument, HaveDocuments, Redoing, Undoing, none_done, none_undone, redone_line, redone_one}
 use Rattle.vtd_script.specs.Steps.{undone_line, undone_one}
 use Rattle.vtd_script.specs.declared.refusals.Refusal.TheVariants as no

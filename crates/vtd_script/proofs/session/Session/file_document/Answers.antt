@@ -14,8 +14,8 @@ returns-in-Ok-read_document-clause-known g c =
     let built = c.in-Ok-read_document.field-0 in
     let made : Made = record { document = opens.Built built.document; lines = built.lines } in
     λ map files.
-        opens_made (Takes with_document) ⊥ _ c.args.file.now c.in-Ok.bytes _ (Ok made) (c.in-Ok.ensures.known map files)
-        (document_made c.in-Ok.bytes _ built made c.bytes.view_is c.in-Ok.ensures.within refl refl c.in-Ok-read_document.ensures.reads)
+    opens_made (Takes with_document) ⊥ _ c.args.file.now c.in-Ok.bytes _ (Ok made) (c.in-Ok.ensures.known map files)
+    (document_made c.in-Ok.bytes _ built made c.bytes.view_is c.in-Ok.ensures.within refl refl c.in-Ok-read_document.ensures.reads)
 
 pub returns-in-Err-read_document-clause-known : goal.returns-in-Err-read_document-clause-known
 returns-in-Err-read_document-clause-known g c = λ map files.
