@@ -2,9 +2,9 @@ pub mod AttributeLemmas
 pub mod CutLemmas
 pub mod HiddenLemmas
 pub mod HoldLemmas
+pub mod NamedLemmas
 pub mod NeedLemmas
 pub mod PassLemmas
 pub mod PrefixLemmas
 pub mod PushLemmas
 pub mod SearchLemmas
-pub mod UsedLemmas

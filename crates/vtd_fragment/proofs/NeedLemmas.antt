@@ -36,7 +36,7 @@ use Rattle.xml_fragments.proofs.CutNode.{clean_in}
 use Rattle.xml_fragments.proofs.CutOnce.{declared_name, sound_name}
 use Rattle.vtd_fragment.specs.Round.{AtLevel, is_hit}
 use Rattle.vtd_fragment.proofs.AttributeLemmas.{AttributeAt, attribute_of_holder}
-use Rattle.vtd_fragment.proofs.UsedLemmas.{nil_encoded}
+use Rattle.vtd_fragment.proofs.NamedLemmas.{nil_encoded}
 
 -- ---- the holders of a node
 

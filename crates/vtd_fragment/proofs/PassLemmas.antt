@@ -13,7 +13,7 @@ use Rattle.vtd_words.specs.Table.{nodes_of}
 use Rattle.vtd_namespaces.specs.NameRecords.{AreAttributeRecords, HasNameRecord, IsRecordOfThing, IsTagRecord}
 use Rattle.vtd_namespaces.specs.NodeNames.{node_prefix}
 use Rattle.vtd_namespaces.proofs.NameRecordLemmas.{document_holds}
-use Rattle.vtd_fragment.proofs.UsedLemmas.{nil_encoded}
+use Rattle.vtd_fragment.proofs.NamedLemmas.{nil_encoded}
 use Rattle.xml_model.specs.Nest.{Forest, is_nest}
 use Rattle.xml_model.specs.Tree.{Thing, Entry, Holder, all, kind_of}
 use Rattle.xml_model.proofs.Filters.{any_in, any_same}
@@ -71,9 +71,6 @@ noted_next old new hs x level l h k p = subst (NotedOf (x ∷ hs) p) (sym (k p))
 -- ---- before the first name
 
 module _ (nest : Forest) (first : ℕ) (n : is_nest nest ≡ true) (e : Entry) (own : Contains (all nest first) e) where
-  es : List Entry
-  es = all nest first
-
   abbrev PassedOf : ℕ → ℕ → List ℕ → Option Declared → Type 0
   PassedOf tags names p o = MatchOption o (list_any (has_declaration p) (tags_in e.holders) ≡ false) (Passed (all nest first) e tags names p)
 
@@ -132,9 +129,6 @@ module _ (nest : Forest) (first : ℕ) (n : is_nest nest ≡ true) (e : Entry) (
           more_names (at + 1) at p d t (λ x c inside i hit. none x c (no_hit x p t.nearest.holder hit) i)
 
   -- ---- a tag
-
-  raised_by : (b : Bool) (past : ℕ) (o : Option Declared) → Option Declared
-  raised_by b past o = cond b (option_map (raised past) o) o
 
   max_is : (h m : ℕ) → m ≤ h → max h m ≡ h
   max_is h m l = omega arith
@@ -204,9 +198,6 @@ module _ (nest : Forest) (first : ℕ) (n : is_nest nest ≡ true) (e : Entry) (
 
   le_true : (a b : ℕ) → a ≤ b → nat_le a b ≡ true
   le_true a b l = le-leb a b l
-
-  or_more : (a b : Bool) → b ≡ true → (a || b) ≡ true
-  or_more a b h = or_right a b h
 
   -- the name at the record is written with the prefix
   name_marks : (t : Tag) (inner : Forest) → e.what ≡ Thing.element t inner → (x : Entry) → Contains (all nest first) x → is_inside e x ≡ true → is_named x.what ≡ true → (p : List ℕ) → is_written p x.what ≡ true → (d : Declared) →

@@ -69,13 +69,6 @@ Map = BTreeMap (Bor (List ℕ)) Declared
 abbrev pub ChangesName : (Option Declared → Option Declared) → Map → Map → List ℕ → Type 0
 ChangesName f old new cs = (p : List ℕ) → known new (encode_utf8_all p) ≡ cond (bytes_eq cs (declaring p)) (f (known old (encode_utf8_all p))) (known old (encode_utf8_all p))
 
-pub unchanged : (f : Option Declared → Option Declared) (old : Map) (cs : List ℕ) → ((p : List ℕ) → bytes_eq cs (declaring p) ≡ false) → ChangesName f old old cs
-unchanged f old cs h p = sym (ap (λ (b : Bool). cond b (f (known old (encode_utf8_all p))) (known old (encode_utf8_all p))) (h p))
-
-pub changed : (f : Option Declared → Option Declared) (old new : Map) (cs prefix : List ℕ) → ((p : List ℕ) → bytes_eq prefix (encode_utf8_all p) ≡ bytes_eq cs (declaring p)) →
-    ((bs : List ℕ) → known new bs ≡ cond (bytes_eq prefix bs) (f (known old bs)) (known old bs)) → ChangesName f old new cs
-changed f old new cs prefix h k p = k (encode_utf8_all p) ∙ ap (λ (b : Bool). cond b (f (known old (encode_utf8_all p))) (known old (encode_utf8_all p))) (h p)
-
 -- ---- and of those of a tag
 
 abbrev named : List ℕ → Attribute → Bool

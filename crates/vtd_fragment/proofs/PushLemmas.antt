@@ -97,10 +97,6 @@ all_pushed bytes rs es x first number old out f s none = by s.left s.split s.hol
 abbrev pub PushedTo : List Entry → List Holder → ℕ → List ℕ → List ℕ → Type 0
 PushedTo es hs level old out = (near far : List Holder) → hs ≡ near ++ far → length far ≡ level → out ≡ old ++ inserted (needed_of es far)
 
-pub none_to : (es : List Entry) (hs : List Holder) (out : List ℕ) → PushedTo es hs 0 out out
-none_to es hs out near [] e n = sym (append-nil out)
-none_to es hs out near (x ∷ far) e n = absurd (omega (arith, n))
-
 pub next_to : (es : List Entry) (hs : List Holder) (level : ℕ) (old out new : List ℕ) → PushedTo es hs level old out →
     ((near far : List Holder) (x : Holder) → hs ≡ near ++ x ∷ far → length far ≡ level → new ≡ out ++ inserted (filter (needs es x) x.tag.attributes)) → PushedTo es hs (level + 1) old new
 next_to es hs level old out new before more near [] e n = absurd (omega (arith, n))

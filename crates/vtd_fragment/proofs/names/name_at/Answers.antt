@@ -1,7 +1,7 @@
 use Rattle.std.proofs.Common.{◌∙◌, sym}
 use Rattle.vtd_words.proofs.Found.{none_at, wanted_at, unwanted_at}
 use Rattle.vtd_fragment.specs.Named.{is_named}
-use Rattle.vtd_fragment.proofs.UsedLemmas.{kind_named, kind_unnamed}
+use Rattle.vtd_fragment.proofs.NamedLemmas.{kind_named, kind_unnamed}
 use Rattle.vtd_fragment.proofs.names.name_at.Goals as goal
 
 pub returns-in_default-clause-at : goal.returns-in_default-clause-at

@@ -1,7 +1,7 @@
 use Rattle.std.proofs.Common.{◌∙◌, sym, refl}
 use Rattle.xml_model.specs.Items.{first_place}
 use Rattle.xml_model.proofs.Things.{element_of}
-use Rattle.vtd_fragment.proofs.UsedLemmas.{kind_named}
+use Rattle.vtd_fragment.proofs.NamedLemmas.{kind_named}
 use Rattle.vtd_fragment.proofs.PassLemmas.{passed_no_tag, passed_name, passed_unwritten, attribute_written, attribute_unwritten, no_element}
 use Rattle.xml_model.specs.declared.Kind.TheVariants as kinds
 use Rattle.vtd_fragment.proofs.passing.pass_attribute.Goals as goal

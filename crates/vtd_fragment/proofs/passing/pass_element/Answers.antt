@@ -2,7 +2,7 @@ use Rattle.std.proofs.Common.{◌∙◌, sym, refl}
 use Rattle.xml_model.specs.Items.{first_place}
 use Rattle.xml_model.specs.declared.Kind.TheVariants as kinds
 use Rattle.xml_model.proofs.Things.{element_of}
-use Rattle.vtd_fragment.proofs.UsedLemmas.{kind_named}
+use Rattle.vtd_fragment.proofs.NamedLemmas.{kind_named}
 use Rattle.vtd_fragment.proofs.PassLemmas.{passed_tag, passed_name, element_written}
 use Rattle.vtd_fragment.proofs.passing.pass_element.Goals as goal
 
